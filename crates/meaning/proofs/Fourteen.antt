@@ -1,0 +1,9 @@
+-- Document 01's fourteen steps, proved of the definitions by computing them.
+use mathlib.Core.Path.{_≡_, refl}
+use mathlib.Core.List.{map}
+use Rattle.meaning.specs.Fourteen.{table, expected, ran, freshWords}
+use Rattle.meaning.proofs.Computing.{computing}
+
+pub fourteen : ran table freshWords ≡ map expected table
+unfolding ran table freshWords computing
+fourteen = refl

@@ -1,0 +1,21 @@
+-- The coordinates of a key, and how many leading ones two keys share: document 01, "Numbers".
+use mathlib.Core.Bool.{cond}
+use mathlib.Core.List.{List, [], _∷_, _++_}
+use Prim.Native.Nat.{ℕ, zero, suc, _/_, _%_}
+use lib.Dec.{eqb}
+use lib.ListN.{getD}
+
+-- "Coordinates of a key: its D digits in base b, most significant first, numbered 0 to D-1."
+unfoldable pub coordinates : ℕ → ℕ → ℕ → List ℕ
+coordinates b zero key = []
+coordinates b (suc D) key = coordinates b D (key / b) ++ (key % b ∷ [])
+
+-- coordinate d of a key
+abbrev pub coordinate : ℕ → ℕ → ℕ → ℕ → ℕ
+coordinate b D key d = getD (coordinates b D key) d 0
+
+-- The number of leading coordinates that two keys share: all of them if the keys are equal, else as many as the keys share without
+-- their last coordinate.
+unfoldable pub shared : ℕ → ℕ → ℕ → ℕ → ℕ
+shared b zero x y = zero
+shared b (suc D) x y = cond (eqb x y) (suc D) (shared b D (x / b) (y / b))

@@ -1,0 +1,56 @@
+-- What a call answers and leaves, and the table of refusals: document 01, "The six operations" and "Turned away".
+use mathlib.Core.List.{List}
+use Prim.Native.Nat.{ℕ}
+use Rattle.meaning.specs.declared.Answer.{Answer}
+
+-- "Each answers four numbers: refusal, key, value, count."
+abbrev pub answer : ℕ → ℕ → ℕ → ℕ → Answer
+answer refusal key value count = record { refusal = refusal; key = key; value = value; count = count }
+
+-- a call's outcome: the four numbers and every word afterwards
+pub record Outcome : Type 0 where
+  pub answered : Answer
+  pub words : List ℕ
+
+-- an accepted call
+abbrev pub accepted : ℕ → ℕ → ℕ → List ℕ → Outcome
+accepted key value count ws = record { answered = answer 0 key value count; words = ws }
+
+pub data Refusal : Type 0 where
+  -- set up: D, K or C out of range
+  outOfRange : Refusal
+  -- set up: length not the exact one
+  wrongLength : Refusal
+  -- the buffer is not a list (all but set up)
+  notAList : Refusal
+  -- key 0 or above K
+  badKey : Refusal
+  -- insert: key is live
+  keyLive : (key looked : ℕ) → Refusal
+  -- insert: key not standing and no free cell
+  noFreeCell : (key looked : ℕ) → Refusal
+  -- take: nothing live
+  nothingLive : (above : ℕ) → Refusal
+  -- find: key not live
+  keyNotLive : (key looked : ℕ) → Refusal
+  -- finish: key not standing
+  keyNotStanding : (key : ℕ) → Refusal
+  -- insert, finish, sweep: a cell owed from is not standing
+  owedNotStanding : Refusal
+
+-- the table's numbers, and the answers after the number
+abbrev pub answerOf : Refusal → Answer
+answerOf outOfRange = answer 1 0 0 0
+answerOf wrongLength = answer 2 0 0 0
+answerOf notAList = answer 3 0 0 0
+answerOf badKey = answer 4 0 0 0
+answerOf (keyLive key looked) = answer 5 key 0 looked
+answerOf (noFreeCell key looked) = answer 6 key 0 looked
+answerOf (nothingLive above) = answer 7 0 0 above
+answerOf (keyNotLive key looked) = answer 8 key 0 looked
+answerOf (keyNotStanding key) = answer 8 key 0 0
+answerOf owedNotStanding = answer 9 0 0 0
+
+-- "No refusal is given otherwise and none changes a word."
+abbrev pub refused : Refusal → List ℕ → Outcome
+refused r ws = record { answered = answerOf r; words = ws }

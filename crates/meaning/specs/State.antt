@@ -1,0 +1,85 @@
+-- What a list holds, apart from what follows from it, and when that is in order.
+use mathlib.Core.Bool.{Bool, true, cond, _&&_, _||_, not}
+use mathlib.Core.List.{List, [], _∷_, _++_, map}
+use Prim.Native.Nat.{ℕ, suc, _-_}
+use lib.Dec.{eqb, leb, ltb}
+use lib.ListN.{length}
+use Rattle.settings.specs.Numbers.{inRange, baseOf}
+use Rattle.settings.specs.declared.Settings.{Settings}
+use Rattle.meaning.specs.Keys.{shared}
+use Rattle.meaning.specs.Row.{Entry, headEntry, firstOf, Place, places, every}
+
+-- The settings; the standing cells other than the head, ascending by key; the free cells in the order of their chain; the cell that
+-- is the position. Links, dimensions, debts' words, coordinates and path follow from these.
+pub record State : Type 0 where
+  pub settings : Settings
+  pub row : List Entry
+  pub free : List ℕ
+  pub position : ℕ
+
+-- the key of the standing cell with number c
+unfoldable pub keyOf : ℕ → List Entry → ℕ
+keyOf c [] = 0
+keyOf c (x ∷ row) = cond (eqb (x .cell) c) (x .key) (keyOf c row)
+
+-- the position's key
+abbrev pub positionKey : State → ℕ
+positionKey s = keyOf (s .position) (headEntry ∷ s .row)
+
+-- keys above a key, each above the one before: "no two standing cells have the same key"
+unfoldable pub ascending : ℕ → List Entry → Bool
+ascending key [] = true
+ascending key (x ∷ row) = ltb key (x .key) && ascending (x .key) row
+
+-- how often a number occurs
+unfoldable pub occurrences : ℕ → List ℕ → ℕ
+occurrences c [] = 0
+occurrences c (x ∷ xs) = cond (eqb x c) (suc (occurrences c xs)) (occurrences c xs)
+
+-- "Dimensions D: 2 to 16. Largest key K: 1 to 4,294,967,295. Cells C: 3 to 4,096 .. Base b: the least whole number with b to the
+-- power D above K."
+abbrev pub settingsHold : State → Bool
+settingsHold s =
+    inRange (s .settings .dimensions) (s .settings .largest) (s .settings .cells)
+    && eqb (s .settings .base) (baseOf (s .settings .dimensions) (s .settings .largest))
+
+-- "Keys: 1 to K; key 0 is the head's."
+abbrev pub keysHold : State → Bool
+keysHold s = ascending 0 (s .row) && every (λ x. leb (x .key) (s .settings .largest)) (s .row)
+
+-- Each cell but the head is standing or met once by the free chain: "The chain from word 4 meets every free cell once, no other
+-- cell, and ends in 0."
+abbrev pub cellsHold : State → Bool
+cellsHold s =
+    let cells : List ℕ = map (λ x. x .cell) (s .row) ++ s .free in
+    eqb (length cells) (s .settings .cells - 1)
+    && every (λ c. ltb 0 c && ltb c (s .settings .cells)) cells
+    && every (λ c. eqb (occurrences c cells) 1) cells
+
+-- "A dead cell's value is 0."
+abbrev pub valuesHold : State → Bool
+valuesHold s = every (λ x. x .live || eqb (x .value) 0) (s .row)
+
+-- "its owed cell c is the standing cell of next larger key, c owes nothing, .. and low < high."
+unfoldable pub debtHolds : ℕ → ℕ → Place → Bool
+debtHolds b D n =
+    not (n .entry .owes)
+    || (ltb 0 (length (n .later))
+    && not (firstOf (n .later) .owes)
+    && ltb (n .dimension) (shared b D (n .entry .key) (firstOf (n .later) .key)))
+
+abbrev pub debtsHold : State → Bool
+debtsHold s = every (debtHolds (s .settings .base) (s .settings .dimensions)) (places (s .settings .base) (s .settings .dimensions) (s .row))
+
+-- The position is the head or another standing cell. "All standing cells with keys up to the position's are dead."
+abbrev pub positionHolds : State → Bool
+positionHolds s =
+    ltb 0 (occurrences (s .position) (0 ∷ map (λ x. x .cell) (s .row)))
+    && every (λ x. not (x .live) || ltb (positionKey s) (x .key)) (s .row)
+
+unfoldable pub tests : State → List Bool
+tests s = settingsHold s ∷ keysHold s ∷ cellsHold s ∷ valuesHold s ∷ debtsHold s ∷ positionHolds s ∷ []
+
+-- the state is in order: each of the tests above holds
+unfoldable pub valid : State → Bool
+valid s = every (λ t. t) (tests s)

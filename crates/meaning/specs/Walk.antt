@@ -1,0 +1,74 @@
+-- The walk on the words, link by link: document 01, "The walk".
+use mathlib.Core.Bool.{cond, _&&_, not}
+use mathlib.Core.List.{List, [], _∷_}
+use Prim.Native.Nat.{ℕ, zero, suc, _+_, _*_}
+use lib.Dec.{eqb, ltb}
+use lib.ListN.{getD}
+use Rattle.settings.specs.Numbers.{headerWords, fieldsBeforeCoordinates, cellWords}
+use Rattle.meaning.specs.Keys.{coordinate}
+use Rattle.meaning.specs.Row.{between}
+use Rattle.meaning.specs.declared.Step.{Step}
+use Rattle.meaning.specs.declared.Step.the-variants.{Go, Up, End}
+
+-- where word j of cell x stands
+abbrev pub place : ℕ → ℕ → ℕ → ℕ
+place D x j = headerWords + D + x * cellWords D + j
+
+-- word j of cell x
+abbrev pub wordAt : List ℕ → ℕ → ℕ → ℕ
+wordAt ws x j = getD ws (place (getD ws 0 0) x j) 0
+
+-- "key, value, mark, owed cell, low, high, D coordinates, D links"
+abbrev pub keyAt : List ℕ → ℕ → ℕ
+keyAt ws x = wordAt ws x 0
+
+abbrev pub markAt : List ℕ → ℕ → ℕ
+markAt ws x = wordAt ws x 2
+
+abbrev pub owedAt : List ℕ → ℕ → ℕ
+owedAt ws x = wordAt ws x 3
+
+abbrev pub lowAt : List ℕ → ℕ → ℕ
+lowAt ws x = wordAt ws x 4
+
+abbrev pub highAt : List ℕ → ℕ → ℕ
+highAt ws x = wordAt ws x 5
+
+abbrev pub coordinateAt : List ℕ → ℕ → ℕ → ℕ
+coordinateAt ws x d = wordAt ws x (fieldsBeforeCoordinates + d)
+
+abbrev pub linkAt : List ℕ → ℕ → ℕ → ℕ
+linkAt ws x d = wordAt ws x (fieldsBeforeCoordinates + getD ws 0 0 + d)
+
+-- "Where the cell owes and the link's number is at least low and below high, the link is read from the owed cell"
+unfoldable pub linkRead : List ℕ → ℕ → ℕ → ℕ
+linkRead ws x d = linkAt ws (cond (not (eqb (owedAt ws x) 0) && between (lowAt ws x) (highAt ws x) d) (owedAt ws x) x) d
+
+-- where a link leads: "and ends if there is none"
+abbrev pub along : ℕ → Step
+along y = cond (eqb y 0) End (Go y)
+
+-- One step for k from cell x and coordinate d. "If the cell at hand is below k at that coordinate, the walk goes along the cell's
+-- link of that number, and ends if there is none. If it is equal, the coordinate goes up by one, and the walk ends at D. If it is
+-- above, the walk ends."
+unfoldable pub stepAt : List ℕ → ℕ → ℕ → ℕ → Step
+stepAt ws k x d =
+    let own = coordinateAt ws x d in
+    let sought = coordinate (getD ws 3 0) (getD ws 0 0) k d in
+    cond (ltb own sought) (along (linkRead ws x d)) (cond (eqb own sought) (cond (eqb (suc d) (getD ws 0 0)) End Up) End)
+
+-- what is gone to after a step from cell x and coordinate d, if the rest of the walk is `onward`
+abbrev pub after : (ℕ → ℕ → List ℕ) → ℕ → ℕ → Step → List ℕ
+after onward x d (Go y) = y ∷ onward y d
+after onward x d Up = onward x (suc d)
+after onward x d End = []
+
+-- the cells gone to for k from cell x and coordinate d, in at most `fuel` steps
+unfoldable pub walkFrom : ℕ → List ℕ → ℕ → ℕ → ℕ → List ℕ
+walkFrom zero ws k x d = []
+walkFrom (suc fuel) ws k x d = after (walkFrom fuel ws k) x d (stepAt ws k x d)
+
+-- "The walk for k starts at the head with coordinate 0." Each step but the last raises the coordinate, or at the same coordinate the
+-- cell's digit there, so D times b steps are enough on a list.
+unfoldable pub walk : List ℕ → ℕ → List ℕ
+walk ws k = walkFrom (getD ws 0 0 * getD ws 3 0) ws k 0 0

@@ -1,0 +1,163 @@
+-- What holds of the base, the ranges and the length. The base rests on one fact: a number whose power is above K is above every
+-- number whose power is not.
+use mathlib.Core.Path.{_≡_, refl, sym, _∙_}
+use mathlib.Core.Bool.{Bool, true, false, _&&_}
+use Prim.Native.Nat.{ℕ, zero, suc, _+_, _*_, _-_, _^_, _≤_, _<_}
+use native.Mathlib.Nat.{add-zero, add-suc, suc-add, mul-zero, mul-le-mul, le-antisymm, lt-of-not-le, not-le-of-lt, lt-of-le-of-lt, pow-zero, pow-suc, pow-le-pow-left, pow-le-pow-right}
+use native.Mathlib.Numerals.{add-one}
+use native.Mathlib.Omega.{arith}
+use lib.Dec.{leb, ltb}
+use borrow.Author.Tests.{ltb-true, ltb-false, leb-true, le-leb}
+use Rattle.settings.specs.Numbers.{leastDimensions, mostDimensions, leastLargest, mostLargest, leastCells, mostCells, within, inRange, firstAbove, baseOf, cellWords}
+use Rattle.settings.specs.Base.{IsBase}
+
+-- Powers
+
+pub power-order : (D : ℕ) {K b m : ℕ} → b ^ D ≤ K → K < m ^ D → b < m
+power-order D low high = lt-of-not-le (λ h. not-le-of-lt (lt-of-le-of-lt low high) (pow-le-pow-left h D))
+
+pub power-more : {p : ℕ} (b i : ℕ) → p ≡ b ^ i → p * b ≡ b ^ (i + 1)
+power-more b i e = rw (e, add-one i, pow-suc b i) refl
+
+pub zero-power : (D : ℕ) → 1 ≤ D → 0 ^ D ≡ 0
+zero-power zero h = omega arith
+zero-power (suc n) h = pow-suc 0 n ∙ mul-zero (0 ^ n)
+
+pub one-power : (D : ℕ) → 1 ^ D ≡ 1
+one-power zero = pow-zero 1
+one-power (suc n) = rw (pow-suc, one-power n) refl
+
+pub at-most-power : (m D : ℕ) → 1 ≤ D → m ≤ m ^ D
+at-most-power zero D one = omega arith
+at-most-power (suc n) D one =
+    let z : 0 < suc n = omega arith in
+    let p = pow-le-pow-right z one in
+    omega (arith, power-more (suc n) 0 (sym (pow-zero (suc n))))
+
+-- Once above K, the powers of b stay above it. (From i = 0 they do not: 0 to the power 0 is 1.)
+pub stays-above : {K : ℕ} (b i D : ℕ) → 1 ≤ i → i ≤ D → K < b ^ i → K < b ^ D
+stays-above {K} b i D one h high =
+    let z = zero-power i one in
+    let low : 0 ^ i ≤ K = omega arith in
+    let p = pow-le-pow-right (power-order i low high) h in
+    omega arith
+
+-- One factor more fits 64 bits where the product so far is at most K, or 1.
+pub product-fits : {p b K : ℕ} → p ≤ K + 1 → K < 2 ^ 32 → b < 2 ^ 32 → p * b < 2 ^ 64
+product-fits {p} {b} {K} hp hk hb =
+    let hp' : p ≤ 4294967296 = omega arith in
+    let hb' : b ≤ 4294967295 = omega arith in
+    let m : p * b ≤ 4294967296 * 4294967295 = mul-le-mul hp' hb' in
+    omega arith
+
+-- The base
+
+pub is-base : {K b : ℕ} (D : ℕ) → K < b ^ D → (b - 1) ^ D ≤ K → IsBase D K b
+is-base D high low = record { above = high; least = λ m h. let p = power-order D low h in omega arith }
+
+pub base-unique : {D K b c : ℕ} → IsBase D K b → IsBase D K c → b ≡ c
+base-unique {b = b} {c = c} p q = le-antisymm (p .least c (q .above)) (q .least b (p .above))
+
+pub base-at-least-two : {D K b : ℕ} → 1 ≤ K → IsBase D K b → 2 ≤ b
+base-at-least-two {D} h p = power-order D (rw (one-power D) h) (p .above)
+
+-- 65,536 to the power 2 is above every K.
+pub base-at-most : {D K b : ℕ} → 2 ≤ D → K ≤ mostLargest → IsBase D K b → b ≤ 65536
+base-at-most {D} {K} hd hk p =
+    let square : K < 65536 ^ 2 = omega arith in
+    p .least 65536 (stays-above 65536 2 D (omega arith) hd square)
+
+-- The search of the definition, from a b that is at most every number whose power is above K.
+pub first-is-base :
+    (fuel D K b : ℕ) → K < (b + fuel) ^ D → ((m : ℕ) → K < m ^ D → b ≤ m) → IsBase D K (firstAbove fuel D K b)
+unfolding firstAbove
+first-is-base zero D K b high least = record { above = rw add-zero at high; least = least }
+first-is-base (suc fuel) D K b high least =
+    at-test (ltb K (b ^ D)) refl (first-is-base fuel D K (suc b) (rw (add-suc b fuel, ← suc-add b fuel) at high))
+  where
+    at-test :
+        (t : Bool) → ltb K (b ^ D) ≡ t → (((m : ℕ) → K < m ^ D → suc b ≤ m) → IsBase D K (firstAbove fuel D K (suc b))) →
+        IsBase D K (elim t [ true ↦ b | false ↦ firstAbove fuel D K (suc b) ])
+    at-test true e more = record { above = ltb-true K (b ^ D) e; least = least }
+    at-test false e more = more (λ m h. power-order D (ltb-false K (b ^ D) e) h)
+
+pub base-is : (D K : ℕ) → 1 ≤ D → IsBase D K (baseOf D K)
+unfolding baseOf
+base-is D K one =
+    let high = at-most-power (0 + (K + 1)) D one in
+    first-is-base (K + 1) D K 0 (omega arith) (λ m h. omega arith)
+
+-- The ranges
+
+pub and-left : (a b : Bool) → a && b ≡ true → a ≡ true
+and-left true b e = refl
+and-left false b e = e
+
+pub and-right : (a b : Bool) → a && b ≡ true → b ≡ true
+and-right true b e = e
+and-right false b e = cc
+
+pub record Ranges (D K C : ℕ) : Type 0 where
+  pub least-dimensions : leastDimensions ≤ D
+  pub most-dimensions : D ≤ mostDimensions
+  pub least-largest : leastLargest ≤ K
+  pub most-largest : K ≤ mostLargest
+  pub least-cells : leastCells ≤ C
+  pub most-cells : C ≤ mostCells
+
+pub in-range : (D K C : ℕ) → Ranges D K C → inRange D K C ≡ true
+unfolding inRange
+in-range D K C r =
+    simp (
+      le-leb leastDimensions D (r .least-dimensions),
+      le-leb D mostDimensions (r .most-dimensions),
+      le-leb leastLargest K (r .least-largest),
+      le-leb K mostLargest (r .most-largest),
+      le-leb leastCells C (r .least-cells),
+      le-leb C mostCells (r .most-cells),
+    )
+
+pub ranges : (D K C : ℕ) → inRange D K C ≡ true → Ranges D K C
+unfolding inRange
+ranges D K C e =
+    let dk = and-left (dimensions && largest) cells e in
+    let d = bounds leastDimensions mostDimensions D (and-left dimensions largest dk) in
+    let k = bounds leastLargest mostLargest K (and-right dimensions largest dk) in
+    let c = bounds leastCells mostCells C (and-right (dimensions && largest) cells e) in
+    record {
+      least-dimensions = d .0;
+      most-dimensions = d .1;
+      least-largest = k .0;
+      most-largest = k .1;
+      least-cells = c .0;
+      most-cells = c .1;
+    }
+  where
+    dimensions : Bool
+    dimensions = within leastDimensions mostDimensions D
+
+    largest : Bool
+    largest = within leastLargest mostLargest K
+
+    cells : Bool
+    cells = within leastCells mostCells C
+
+    bounds : (least most n : ℕ) → within least most n ≡ true → (least ≤ n) × (n ≤ most)
+    bounds least most n h =
+        (leb-true least n (and-left (leb least n) (leb n most) h), leb-true n most (and-right (leb least n) (leb n most) h))
+
+pub out-of-range : (D K C : ℕ) → (Ranges D K C → ⊥) → inRange D K C ≡ false
+out-of-range D K C never = at-test (inRange D K C) refl
+  where
+    at-test : (t : Bool) → inRange D K C ≡ t → t ≡ false
+    at-test true e = absurd (never (ranges D K C e))
+    at-test false e = refl
+
+-- The length
+
+-- The cells of a list are at most 4,096 of at most 38 words.
+pub cells-fit : {D C : ℕ} → D ≤ mostDimensions → C ≤ mostCells → C * cellWords D ≤ 155648
+cells-fit {D} {C} hd hc =
+    let w : cellWords D ≤ 38 = omega arith in
+    let m : C * cellWords D ≤ 4096 * 38 = mul-le-mul hc w in
+    omega arith

@@ -1,0 +1,121 @@
+// The settings of a list: dimensions D, largest key K, cells C and the base b that follows from D and K, with the length of the
+// list's words. Document 01, "Numbers" and "The words".
+ghost use mathlib.Core.Path.{_≡_};
+ghost use mathlib.Core.Bool.{true};
+ghost use Prim.Native.Nat.{ℕ, _^_, _≤_, _<_};
+ghost use lib.Dec.{ltb};
+ghost use Rattle.settings.specs.Numbers.{leastDimensions, mostDimensions, leastLargest, mostLargest, mostCells, baseOf, lengthOf};
+ghost use Rattle.settings.specs.Checked.{checkedOf};
+ghost use Rattle.settings.specs.Base.{IsBase};
+
+pub const LEAST_DIMENSIONS: u32 = 2;
+
+pub const MOST_DIMENSIONS: u32 = 16;
+
+pub const LEAST_LARGEST: u32 = 1;
+
+pub const MOST_LARGEST: u32 = 4294967295;
+
+pub const LEAST_CELLS: u32 = 3;
+
+pub const MOST_CELLS: u32 = 4096;
+
+// The bases for K = 4,294,967,295 and D = 2 to 16.
+const FULL_BASES: [u32; 15] = [65536, 1626, 256, 85, 41, 24, 16, 12, 10, 8, 7, 6, 5, 5, 4];
+
+pub struct Settings {
+    pub dimensions: u32,
+    pub largest: u32,
+    pub cells: u32,
+    pub base: u32,
+}
+
+// What the checked constructor answers: settings in range, or the case that document 01 gives number 1.
+pub enum Checked {
+    Accepted(Settings),
+    OutOfRange,
+}
+
+// The base for the largest K of all: the entry of the table.
+fn full_base(d: u32) -> u32
+    requires { ⌜ (leastDimensions ≤ d) × (d ≤ mostDimensions) ⌝ }
+    ensures { λ r. ⌜ IsBase d mostLargest r ⌝ }
+{
+    let i = (d - LEAST_DIMENSIONS) as usize;
+    FULL_BASES[i]
+}
+
+// Whether b to the power D is above K. The product stops as soon as it is above, so it fits: the one before was at most K, or 1.
+pub fn above(b: u32, d: u32, k: u32) -> bool
+    ensures { λ r. ⌜ r ≡ ltb k (b ^ d) ⌝ }
+{
+    let top = k as u64;
+    let by = b as u64;
+    let mut power: u64 = 1;
+    let mut i: u32 = 0;
+    while i < d {
+        power = power * by;
+        i += 1;
+        if top < power {
+            return true;
+        }
+    }
+    top < power
+}
+
+// The base, by bisection: low to the power D is at most K, and high to the power D above it.
+pub fn base(d: u32, k: u32) -> u32
+    requires { ⌜ (leastDimensions ≤ d) × ((d ≤ mostDimensions) × (leastLargest ≤ k)) ⌝ }
+    ensures { λ r. ⌜ r ≡ baseOf d k ⌝ }
+{
+    let mut low: u32 = 1;
+    let mut high = full_base(d);
+    while low + 1 < high {
+        let middle = low + (high - low) / 2;
+        if above(middle, d, k) {
+            high = middle;
+        } else {
+            low = middle;
+        }
+    }
+    high
+}
+
+impl Settings {
+    // The checked constructor.
+    pub fn new(d: u32, k: u32, c: u32) -> Checked
+        ensures { λ r. ⌜ r ≡ checkedOf d k c ⌝ }
+    {
+        if d < LEAST_DIMENSIONS {
+            return Checked::OutOfRange;
+        }
+        if MOST_DIMENSIONS < d {
+            return Checked::OutOfRange;
+        }
+        if k < LEAST_LARGEST {
+            return Checked::OutOfRange;
+        }
+        if c < LEAST_CELLS {
+            return Checked::OutOfRange;
+        }
+        if MOST_CELLS < c {
+            return Checked::OutOfRange;
+        }
+        Checked::Accepted(Settings {
+            dimensions: d,
+            largest: k,
+            cells: c,
+            base: base(d, k),
+        })
+    }
+
+    // How many words a list with these settings has.
+    pub fn length(self) -> usize
+        requires { ⌜ (self .dimensions ≤ mostDimensions) × (self .cells ≤ mostCells) ⌝ }
+        ensures { λ r. ⌜ r ≡ lengthOf (self .dimensions) (self .cells) ⌝ }
+    {
+        let d = self.dimensions as usize;
+        let c = self.cells as usize;
+        5 + d + c * (6 + 2 * d)
+    }
+}
