@@ -11,3 +11,6 @@ pub mod Walk
 pub mod Calls
 pub mod Fourteen
 pub mod Sentences
+pub mod Stores
+pub mod Book
+pub mod Promises

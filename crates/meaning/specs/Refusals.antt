@@ -1,4 +1,5 @@
 -- What a call answers and leaves, and the table of refusals: document 01, "The six operations" and "Turned away".
+use mathlib.Core.Path.{_≡_}
 use mathlib.Core.List.{List}
 use Prim.Native.Nat.{ℕ}
 use Rattle.meaning.specs.declared.Answer.{Answer}
@@ -11,6 +12,11 @@ answer refusal key value count = record { refusal = refusal; key = key; value = 
 pub record Outcome : Type 0 where
   pub answered : Answer
   pub words : List ℕ
+
+-- A call's contract: the numbers r that it answers and the words ws that it leaves are those of the outcome.
+pub record Meets (o : Outcome) (r : Answer) (ws : List ℕ) : Type 0 where
+  pub answered : r ≡ o .answered
+  pub words : ws ≡ o .words
 
 -- an accepted call
 abbrev pub accepted : ℕ → ℕ → ℕ → List ℕ → Outcome

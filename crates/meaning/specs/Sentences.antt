@@ -1,8 +1,17 @@
--- Notions that document 01's sentences speak of and the other definitions do not need: the theorems tie the two together.
+-- Document 01's own sentences, each as a condition on the words of a buffer. The theorems tie the other definitions to them: a buffer
+-- is a list, by specs/Reading.antt, if and only if every one of these holds.
+use mathlib.Core.Path.{_≡_}
 use mathlib.Core.Bool.{Bool, false, cond, _&&_, _||_}
 use mathlib.Core.List.{List, [], _∷_}
-use Prim.Native.Nat.{ℕ, suc}
+use mathlib.Core.Logic.{_⊎_}
+use Prim.Native.Nat.{ℕ, suc, _+_, _-_, _≤_, _<_}
 use lib.Dec.{eqb, ltb}
+use lib.ListN.{length, getD}
+use Rattle.settings.specs.Numbers.{leastDimensions, mostDimensions, leastLargest, mostLargest, leastCells, mostCells, headerWords, cellWords, lengthOf}
+use Rattle.settings.specs.Base.{IsBase}
+use Rattle.meaning.specs.Keys.{coordinates, coordinate}
+use Rattle.meaning.specs.State.{occurrences}
+use Rattle.meaning.specs.Walk.{wordAt, keyAt, valueAt, markAt, owedAt, lowAt, highAt, coordinateAt, linkAt}
 
 -- how many leading members of two lists are equal
 unfoldable pub agreed : List ℕ → List ℕ → ℕ
@@ -15,3 +24,149 @@ unfoldable pub precedes : List ℕ → List ℕ → Bool
 precedes [] ys = false
 precedes (x ∷ xs) [] = false
 precedes (x ∷ xs) (y ∷ ys) = ltb x y || (eqb x y && precedes xs ys)
+
+-- D, K, C and b as the words have them
+abbrev pub dimensionsAt : List ℕ → ℕ
+dimensionsAt ws = getD ws 0 0
+
+abbrev pub largestAt : List ℕ → ℕ
+largestAt ws = getD ws 1 0
+
+abbrev pub countAt : List ℕ → ℕ
+countAt ws = getD ws 2 0
+
+abbrev pub baseAt : List ℕ → ℕ
+baseAt ws = getD ws 3 0
+
+-- coordinate d of a cell, and the leading coordinates that two cells share
+abbrev pub digitAt : List ℕ → ℕ → ℕ → ℕ
+digitAt ws x d = coordinate (baseAt ws) (dimensionsAt ws) (keyAt ws x) d
+
+abbrev pub sharedAt : List ℕ → ℕ → ℕ → ℕ
+sharedAt ws x y =
+    agreed (coordinates (baseAt ws) (dimensionsAt ws) (keyAt ws x)) (coordinates (baseAt ws) (dimensionsAt ws) (keyAt ws y))
+
+-- "Mark: 0 free, 1 live, 2 dead."
+pub record Free (ws : List ℕ) (x : ℕ) : Type 0 where
+  pub cell : x < countAt ws
+  pub mark : markAt ws x ≡ 0
+
+-- "A cell is standing if live or dead."
+pub record Standing (ws : List ℕ) (x : ℕ) : Type 0 where
+  pub cell : x < countAt ws
+  pub mark : (markAt ws x ≡ 1) ⊎ (markAt ws x ≡ 2)
+
+-- the standing cell of next smaller key than x
+pub record NextSmaller (ws : List ℕ) (x a : ℕ) : Type 0 where
+  pub standing : Standing ws a
+  pub smaller : keyAt ws a < keyAt ws x
+  pub next : (y : ℕ) → Standing ws y → keyAt ws y < keyAt ws x → keyAt ws y ≤ keyAt ws a
+
+-- the standing cell of next larger key than x
+pub record NextLarger (ws : List ℕ) (x c : ℕ) : Type 0 where
+  pub standing : Standing ws c
+  pub larger : keyAt ws x < keyAt ws c
+  pub next : (y : ℕ) → Standing ws y → keyAt ws x < keyAt ws y → keyAt ws c ≤ keyAt ws y
+
+-- "A standing cell's dimension is the number of leading coordinates it shares with the standing cell of next smaller key; the head's
+-- is 0."
+pub data Dimension (ws : List ℕ) : ℕ → ℕ → Type 0 where
+  of-head : Dimension ws 0 0
+  of-other : {x a : ℕ} → NextSmaller ws x a → Dimension ws x (sharedAt ws a x)
+
+-- a standing cell that shares exactly the first d coordinates with x and is larger at d
+pub record LargerAt (ws : List ℕ) (x d y : ℕ) : Type 0 where
+  pub standing : Standing ws y
+  pub shares : sharedAt ws x y ≡ d
+  pub larger : digitAt ws x d < digitAt ws y d
+
+-- "For x of dimension e and d at least e, link d of x leads to the least-key standing cell that shares exactly the first d coordinates
+-- with x and is larger at d. Every other link is 0. That is the settled shape": y is what link d of x is in it.
+pub data Settled (ws : List ℕ) (x d : ℕ) : ℕ → Type 0 where
+  leads : {e y : ℕ} → Dimension ws x e → e ≤ d → LargerAt ws x d y → ((z : ℕ) → LargerAt ws x d z → keyAt ws y ≤ keyAt ws z) → Settled ws x d y
+  leads-nowhere : {e : ℕ} → Dimension ws x e → e ≤ d → ((z : ℕ) → LargerAt ws x d z → ⊥) → Settled ws x d 0
+  below-dimension : {e : ℕ} → Dimension ws x e → d < e → Settled ws x d 0
+
+-- "the chain from word 4": cells cs one after the other from c on, each named by the first word of the one before; "and ends in 0"
+pub data Chained (ws : List ℕ) : ℕ → List ℕ → Type 0 where
+  ended : Chained ws 0 []
+  onward : {c : ℕ} {cs : List ℕ} → 0 < c → Chained ws (wordAt ws c 0) cs → Chained ws c (c ∷ cs)
+
+-- "The chain from word 4 meets every free cell once, no other cell, and ends in 0."
+pub record FreeChain (ws : List ℕ) : Type 0 where
+  pub chain : List ℕ
+  pub chained : Chained ws (getD ws 4 0) chain
+  pub once : (x : ℕ) → Free ws x → occurrences x chain ≡ 1
+  pub no-other : (x : ℕ) → 0 < occurrences x chain → Free ws x
+
+-- link d of x is one that some cell owes, or is owed by x itself
+pub record Owing (ws : List ℕ) (n d : ℕ) : Type 0 where
+  pub standing : Standing ws n
+  pub owes : 0 < owedAt ws n
+  pub low : lowAt ws n ≤ d
+  pub high : d < highAt ws n
+
+-- "So in a list a cell n other than the head may owe, and only so: its owed cell c is the standing cell of next larger key, c owes
+-- nothing, low is n's dimension, high is the number of coordinates n and c share, and low < high. Links low to high-1 of n are then 0
+-- and those of c are n's settled ones."
+pub record MayOwe (ws : List ℕ) (n : ℕ) : Type 0 where
+  pub not-head : 0 < n
+  pub owed : NextLarger ws n (owedAt ws n)
+  pub owes-nothing : owedAt ws (owedAt ws n) ≡ 0
+  pub low : Dimension ws n (lowAt ws n)
+  pub high : highAt ws n ≡ sharedAt ws n (owedAt ws n)
+  pub low-below-high : lowAt ws n < highAt ws n
+  pub own-links : (d : ℕ) → lowAt ws n ≤ d → d < highAt ws n → linkAt ws n d ≡ 0
+  pub owed-links : (d : ℕ) → lowAt ws n ≤ d → d < highAt ws n → Settled ws n d (linkAt ws (owedAt ws n) d)
+
+-- "The position is the last cell of the path."
+abbrev pub positionAt : List ℕ → ℕ
+positionAt ws = getD ws (headerWords + dimensionsAt ws - 1) 0
+
+-- a standing cell sharing the first n coordinates with x
+pub record Sharing (ws : List ℕ) (x n y : ℕ) : Type 0 where
+  pub standing : Standing ws y
+  pub shares : n ≤ sharedAt ws x y
+
+-- "Path word d is the least-key standing cell sharing the first d+1 coordinates with the position."
+pub record OnPath (ws : List ℕ) (d : ℕ) : Type 0 where
+  pub sharing : Sharing ws (positionAt ws) (suc d) (getD ws (headerWords + d) 0)
+  pub least : (y : ℕ) → Sharing ws (positionAt ws) (suc d) y → keyAt ws (getD ws (headerWords + d) 0) ≤ keyAt ws y
+
+-- All that "Numbers", "The words" and "How cells hang together" say of a buffer between calls, a field a sentence.
+pub record AList (ws : List ℕ) : Type 0 where
+  -- "Dimensions D: 2 to 16. Largest key K: 1 to 4,294,967,295. Cells C: 3 to 4,096, the head included."
+  pub dimensions : (leastDimensions ≤ dimensionsAt ws) × (dimensionsAt ws ≤ mostDimensions)
+  pub largest : (leastLargest ≤ largestAt ws) × (largestAt ws ≤ mostLargest)
+  pub count : (leastCells ≤ countAt ws) × (countAt ws ≤ mostCells)
+  -- "Keys: 1 to K; key 0 is the head's."
+  pub keys : (x : ℕ) → Standing ws x → 0 < x → (0 < keyAt ws x) × (keyAt ws x ≤ largestAt ws)
+  -- "Base b: the least whole number with b to the power D above K."
+  pub base : IsBase (dimensionsAt ws) (largestAt ws) (baseAt ws)
+  -- "Length is exactly 5 + D + C(6+2D)."
+  pub long : length ws ≡ lengthOf (dimensionsAt ws) (countAt ws)
+  -- "Mark: 0 free, 1 live, 2 dead."
+  pub marks : (x : ℕ) → x < countAt ws → markAt ws x ≤ 2
+  -- "Cell 0 is the head: key 0, value 0, dead."
+  pub head : (keyAt ws 0 ≡ 0) × ((valueAt ws 0 ≡ 0) × (markAt ws 0 ≡ 2))
+  -- "A dead cell's value is 0."
+  pub dead-value : (x : ℕ) → x < countAt ws → markAt ws x ≡ 2 → valueAt ws x ≡ 0
+  -- "A free cell's first word holds the next free cell, its other words are 0."
+  pub free-words : (x j : ℕ) → Free ws x → 0 < j → j < cellWords (dimensionsAt ws) → wordAt ws x j ≡ 0
+  -- "The chain from word 4 meets every free cell once, no other cell, and ends in 0."
+  pub free-chain : FreeChain ws
+  -- "A cell that owes nothing has owed, low and high 0."
+  pub owes-nothing : (x : ℕ) → Standing ws x → owedAt ws x ≡ 0 → (lowAt ws x ≡ 0) × (highAt ws x ≡ 0)
+  -- "no two standing cells have the same key"
+  pub distinct : (x y : ℕ) → Standing ws x → Standing ws y → keyAt ws x ≡ keyAt ws y → x ≡ y
+  -- "each standing cell's coordinate words are its key's coordinates"
+  pub coordinate-words : (x d : ℕ) → Standing ws x → d < dimensionsAt ws → coordinateAt ws x d ≡ digitAt ws x d
+  -- "in a list a cell n other than the head may owe, and only so"
+  pub debts : (n : ℕ) → Standing ws n → 0 < owedAt ws n → MayOwe ws n
+  -- "Every other link is settled."
+  pub links : (x d : ℕ) → Standing ws x → d < dimensionsAt ws → (Owing ws x d → ⊥) → ((n : ℕ) → Owing ws n d → owedAt ws n ≡ x → ⊥) → Settled ws x d (linkAt ws x d)
+  -- "The position is the last cell of the path. Path word d is the least-key standing cell sharing .."
+  pub position : Standing ws (positionAt ws)
+  pub path : (d : ℕ) → d < dimensionsAt ws → OnPath ws d
+  -- "All standing cells with keys up to the position's are dead."
+  pub passed-dead : (x : ℕ) → Standing ws x → keyAt ws x ≤ keyAt ws (positionAt ws) → markAt ws x ≡ 2

@@ -1,5 +1,5 @@
 -- The walk on the words, link by link: document 01, "The walk".
-use mathlib.Core.Bool.{cond, _&&_, not}
+use mathlib.Core.Bool.{Bool, true, false, cond, _&&_, not}
 use mathlib.Core.List.{List, [], _∷_}
 use Prim.Native.Nat.{ℕ, zero, suc, _+_, _*_}
 use lib.Dec.{eqb, ltb}
@@ -21,6 +21,9 @@ wordAt ws x j = getD ws (place (getD ws 0 0) x j) 0
 -- "key, value, mark, owed cell, low, high, D coordinates, D links"
 abbrev pub keyAt : List ℕ → ℕ → ℕ
 keyAt ws x = wordAt ws x 0
+
+abbrev pub valueAt : List ℕ → ℕ → ℕ
+valueAt ws x = wordAt ws x 1
 
 abbrev pub markAt : List ℕ → ℕ → ℕ
 markAt ws x = wordAt ws x 2
@@ -67,6 +70,16 @@ after onward x d End = []
 unfoldable pub walkFrom : ℕ → List ℕ → ℕ → ℕ → ℕ → List ℕ
 walkFrom zero ws k x d = []
 walkFrom (suc fuel) ws k x d = after (walkFrom fuel ws k) x d (stepAt ws k x d)
+
+-- the walk from cell x and coordinate d says its end within `fuel` steps
+abbrev pub endsAfter : (ℕ → ℕ → Bool) → ℕ → ℕ → Step → Bool
+endsAfter onward x d (Go y) = onward y d
+endsAfter onward x d Up = onward x (suc d)
+endsAfter onward x d End = true
+
+unfoldable pub ends : ℕ → List ℕ → ℕ → ℕ → ℕ → Bool
+ends zero ws k x d = false
+ends (suc fuel) ws k x d = endsAfter (ends fuel ws k) x d (stepAt ws k x d)
 
 -- "The walk for k starts at the head with coordinate 0." Each step but the last raises the coordinate, or at the same coordinate the
 -- cell's digit there, so D times b steps are enough on a list.

@@ -1,4 +1,8 @@
 // The types that the definitions of document 01 and the code share: what a call answers, and one step of the walk.
+ghost use mathlib.Core.Path.{_≡_};
+ghost use Rattle.meaning.specs.Refusals.{answer};
+
+// "Each answers four numbers: refusal, key, value, count."
 #[repr(C)]
 pub struct Answer {
     pub refusal: u32,
@@ -12,4 +16,28 @@ pub enum Step {
     Go(u32),
     Up,
     End,
+}
+
+// A refusal that answers its number alone.
+pub fn refused(refusal: u32) -> Answer
+    ensures { λ r. ⌜ r ≡ answer refusal 0 0 0 ⌝ }
+{
+    Answer {
+        refusal,
+        key: 0,
+        value: 0,
+        count: 0,
+    }
+}
+
+// What an accepted call answers.
+pub fn accepted(key: u32, value: u32, count: u32) -> Answer
+    ensures { λ r. ⌜ r ≡ answer 0 key value count ⌝ }
+{
+    Answer {
+        refusal: 0,
+        key,
+        value,
+        count,
+    }
 }

@@ -1,0 +1,78 @@
+-- What an ordered map would do: the live key-value pairs and the standing keys, without cells, links or debts.
+use mathlib.Core.Bool.{Bool, false, cond, _&&_, _||_}
+use mathlib.Core.List.{List, [], _∷_, map}
+use Prim.Native.Nat.{ℕ, suc}
+use lib.Dec.{eqb, leb, ltb}
+use lib.ListN.{length, getD, drop}
+use Rattle.settings.specs.Numbers.{inRange, lengthOf}
+use Rattle.meaning.specs.Row.{Entry, those}
+use Rattle.meaning.specs.Reading.{read}
+use Rattle.meaning.specs.Calls.{Call, set-up, insert-key, find-key, finish-key, take-least, sweep-dead}
+
+pub record Pair : Type 0 where
+  pub key : ℕ
+  pub value : ℕ
+
+abbrev pub pair : Entry → Pair
+pair x = record { key = x .key; value = x .value }
+
+-- the live key-value pairs of a buffer, and its standing keys, ascending
+abbrev pub livePairs : List ℕ → List Pair
+livePairs ws = map pair (those (λ x. x .live) (read ws .row))
+
+abbrev pub standingKeys : List ℕ → List ℕ
+standingKeys ws = map (λ x. x .key) (read ws .row)
+
+-- The largest key, how many keys may stand at once and one more (the head), the live pairs, the standing keys.
+pub record Book : Type 0 where
+  pub largest : ℕ
+  pub cells : ℕ
+  pub pairs : List Pair
+  pub standing : List ℕ
+
+abbrev pub bookOf : List ℕ → Book
+bookOf ws = record { largest = getD ws 1 0; cells = getD ws 2 0; pairs = livePairs ws; standing = standingKeys ws }
+
+unfoldable pub hasKey : ℕ → List ℕ → Bool
+hasKey key [] = false
+hasKey key (x ∷ keys) = eqb x key || hasKey key keys
+
+-- a pair, and a key, put in their places in the order of keys
+unfoldable pub putPair : Pair → List Pair → List Pair
+putPair p [] = p ∷ []
+putPair p (q ∷ pairs) = cond (ltb (p .key) (q .key)) (p ∷ q ∷ pairs) (q ∷ putPair p pairs)
+
+unfoldable pub putKey : ℕ → List ℕ → List ℕ
+putKey key [] = key ∷ []
+putKey key (x ∷ keys) = cond (ltb key x) (key ∷ x ∷ keys) (x ∷ putKey key keys)
+
+-- a key is inserted: not if it is live already, nor if it does not stand and there is no room for one more
+unfoldable pub inserted : ℕ → ℕ → Book → Book
+inserted key value k =
+    let pairs = putPair (record { key = key; value = value }) (k .pairs) in
+    cond (hasKey key (map (λ p. p .key) (k .pairs))) k
+    (cond (hasKey key (k .standing)) (record { largest = k .largest; cells = k .cells; pairs = pairs; standing = k .standing })
+    (cond (ltb (suc (length (k .standing))) (k .cells)) (record { largest = k .largest; cells = k .cells; pairs = pairs; standing = putKey key (k .standing) })
+    k))
+
+-- of keys in ascending order, the last that is below every live key, and those after it; all of them if there is no such key
+unfoldable pub keptFrom : List Pair → List ℕ → List ℕ
+keptFrom pairs [] = []
+keptFrom pairs (x ∷ []) = x ∷ []
+keptFrom [] (x ∷ y ∷ keys) = keptFrom [] (y ∷ keys)
+keptFrom (p ∷ pairs) (x ∷ y ∷ keys) = cond (ltb y (p .key)) (keptFrom (p ∷ pairs) (y ∷ keys)) (x ∷ y ∷ keys)
+
+-- what a call on a buffer of `long` words does
+unfoldable pub booked : Call → ℕ → Book → Book
+booked (set-up D K C) long k =
+    cond (inRange D K C && eqb long (lengthOf D C)) (record { largest = K; cells = C; pairs = []; standing = [] }) k
+booked (insert-key key value) long k = cond (leb 1 key && leb key (k .largest)) (inserted key value k) k
+booked (find-key key) long k = k
+booked (finish-key key) long k = k
+booked take-least long k = record { largest = k .largest; cells = k .cells; pairs = drop 1 (k .pairs); standing = k .standing }
+booked sweep-dead long k = record { largest = k .largest; cells = k .cells; pairs = k .pairs; standing = keptFrom (k .pairs) (k .standing) }
+
+-- what a sequence of calls does
+unfoldable pub bookedAll : List Call → ℕ → Book → Book
+bookedAll [] long k = k
+bookedAll (call ∷ calls) long k = bookedAll calls long (booked call long k)

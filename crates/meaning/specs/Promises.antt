@@ -1,0 +1,143 @@
+-- What is promised, in one place: each statement with its sentence. proofs/Promises.antt proves every one of them, for every D, K and C
+-- in range at once.
+use mathlib.Core.Path.{_≡_}
+use mathlib.Core.Bool.{Bool, true, false, _||_}
+use mathlib.Core.List.{List, [], _∷_, map}
+use mathlib.Core.Logic.{_↔_}
+use Prim.Native.Nat.{ℕ, zero, suc, _*_, _-_, _≤_, _<_}
+use lib.Dec.{eqb}
+use lib.ListN.{length}
+use Rattle.meaning.specs.declared.Answer.{Answer}
+use Rattle.meaning.specs.Keys.{coordinates, shared}
+use Rattle.meaning.specs.State.{occurrences}
+use Rattle.meaning.specs.Reading.{isList}
+use Rattle.meaning.specs.Refusals.{Meets}
+use Rattle.meaning.specs.Rule.{rule}
+use Rattle.meaning.specs.Walk.{keyAt, markAt, walk, walkFrom, ends}
+use Rattle.meaning.specs.Operations.{takeOut}
+use Rattle.meaning.specs.Calls.{Call, set-up, insert-key, find-key, outcome, afterCalls}
+use Rattle.meaning.specs.Sentences.{agreed, precedes, dimensionsAt, largestAt, countAt, baseAt, AList}
+use Rattle.meaning.specs.Book.{Pair, livePairs, standingKeys, bookOf, bookedAll}
+
+-- a buffer after an accepted set up and any calls since
+pub record FromFresh (ws : List ℕ) : Type 0 where
+  pub D : ℕ
+  pub K : ℕ
+  pub C : ℕ
+  pub lent : List ℕ
+  pub calls : List Call
+  pub accepted : outcome (set-up D K C) lent .answered .refusal ≡ 0
+  pub words : ws ≡ afterCalls calls (outcome (set-up D K C) lent .words)
+
+-- key is live, on the words
+pub record Live (ws : List ℕ) (key : ℕ) : Type 0 where
+  pub cell : ℕ
+  pub within : cell < countAt ws
+  pub mark : markAt ws cell ≡ 1
+  pub same : keyAt ws cell ≡ key
+
+-- 1. Lists stay lists: after any sequence of calls from a fresh list, set up and refused calls among them, the buffer is a list.
+abbrev pub ListsStayLists : Type 0
+ListsStayLists = (ws : List ℕ) → FromFresh ws → isList ws ≡ true
+
+-- .. and each call takes a list to a list, however it came about.
+abbrev pub CallsKeepLists : Type 0
+CallsKeepLists = (call : Call) (ws : List ℕ) → isList ws ≡ true → isList (outcome call ws .words) ≡ true
+
+-- 2. A refused call alters no word: every operation, every list of words, all numbers.
+abbrev pub RefusedAltersNothing : Type 0
+RefusedAltersNothing = (call : Call) (ws : List ℕ) → (outcome call ws .answered .refusal ≡ 0 → ⊥) → outcome call ws .words ≡ ws
+
+-- 3. Shared coordinates are the leading coordinates that are equal.
+abbrev pub SharedMeansLeading : Type 0
+SharedMeansLeading =
+    (ws : List ℕ) → isList ws ≡ true → (x y : ℕ) → x ≤ largestAt ws → y ≤ largestAt ws
+    → shared (baseAt ws) (dimensionsAt ws) x y ≡ agreed (coordinates (baseAt ws) (dimensionsAt ws) x) (coordinates (baseAt ws) (dimensionsAt ws) y)
+
+-- .. and a buffer is a list if and only if every sentence of document 01's three sections holds of its words.
+abbrev pub ListMeansSentences : Type 0
+ListMeansSentences = (ws : List ℕ) → (isList ws ≡ true) ↔ AList ws
+
+-- 4. Walk and rule agree on every list and key: the keys of the cells gone to are the rule's, each once, in one order; they are at most
+-- D(b-1).
+abbrev pub WalkIsRule : Type 0
+WalkIsRule =
+    (ws : List ℕ) → isList ws ≡ true → (k : ℕ) → 1 ≤ k → k ≤ largestAt ws
+    → map (keyAt ws) (walk ws k) ≡ rule (baseAt ws) (dimensionsAt ws) (standingKeys ws) k
+
+abbrev pub WalkBounded : Type 0
+WalkBounded =
+    (ws : List ℕ) → isList ws ≡ true → (k : ℕ) → 1 ≤ k → k ≤ largestAt ws
+    → length (walk ws k) ≤ dimensionsAt ws * (baseAt ws - 1)
+
+-- .. the walk's own step says its end before the fuel is out, and more fuel gives the same cells;
+abbrev pub WalkEnds : Type 0
+WalkEnds =
+    (ws : List ℕ) → isList ws ≡ true → (k : ℕ) → 1 ≤ k → k ≤ largestAt ws
+    → (ends (dimensionsAt ws * baseAt ws) ws k 0 0 ≡ true) × ((fuel : ℕ) → dimensionsAt ws * baseAt ws ≤ fuel → walkFrom fuel ws k 0 0 ≡ walk ws k)
+
+-- .. and the keys depend on the settings, the standing keys and the key sought alone.
+abbrev pub WalkByKeysAlone : Type 0
+WalkByKeysAlone =
+    (ws vs : List ℕ) → isList ws ≡ true → isList vs ≡ true
+    → dimensionsAt ws ≡ dimensionsAt vs → largestAt ws ≡ largestAt vs
+    → ((key : ℕ) → (0 < occurrences key (standingKeys ws)) ↔ (0 < occurrences key (standingKeys vs)))
+    → (k : ℕ) → 1 ≤ k → k ≤ largestAt ws → map (keyAt ws) (walk ws k) ≡ map (keyAt vs) (walk vs k)
+
+-- 5. Demand 3: after any sequence of calls from a fresh list, the count of a next insert or find that answers looked is the number of
+-- cells that the walk meets on the words as they stand, and their keys are the rule's.
+pub record Looks (ws : List ℕ) (k count : ℕ) : Type 0 where
+  pub walked : count ≡ length (walk ws k)
+  pub ruled : map (keyAt ws) (walk ws k) ≡ rule (baseAt ws) (dimensionsAt ws) (standingKeys ws) k
+  pub bounded : count ≤ dimensionsAt ws * (baseAt ws - 1)
+
+-- refusals 0, 5, 6 and 8
+abbrev pub answersLooked : ℕ → Bool
+answersLooked refusal = eqb refusal 0 || (eqb refusal 5 || (eqb refusal 6 || eqb refusal 8))
+
+abbrev pub LookedIsWalk : Type 0
+LookedIsWalk =
+    (ws : List ℕ) → FromFresh ws → (key value : ℕ)
+    → (answersLooked (outcome (insert-key key value) ws .answered .refusal) ≡ true → Looks ws key (outcome (insert-key key value) ws .answered .count))
+    × (answersLooked (outcome (find-key key) ws .answered .refusal) ≡ true → Looks ws key (outcome (find-key key) ws .answered .count))
+
+-- 6. Present means that same key: insert answers 5, and find 0, exactly if that key itself is live.
+abbrev pub PresentMeansThatKey : Type 0
+PresentMeansThatKey =
+    (ws : List ℕ) → isList ws ≡ true → (key value : ℕ) → 1 ≤ key → key ≤ largestAt ws
+    → ((outcome (insert-key key value) ws .answered .refusal ≡ 5) ↔ Live ws key)
+    × ((outcome (find-key key) ws .answered .refusal ≡ 0) ↔ Live ws key)
+
+-- 7. Each entry once, in its turn: taking until 7 hands out exactly the live pairs, ascending.
+unfoldable pub takes : ℕ → List ℕ → List Pair
+takes zero ws = []
+takes (suc n) ws =
+    elim (eqb (takeOut ws .answered .refusal) 0) [
+      | true ↦ record { key = takeOut ws .answered .key; value = takeOut ws .answered .value } ∷ takes n (takeOut ws .words)
+      | false ↦ []
+    ]
+
+abbrev pub TakesInTurn : Type 0
+TakesInTurn = (ws : List ℕ) → isList ws ≡ true → (n : ℕ) → length (livePairs ws) ≤ n → takes n ws ≡ livePairs ws
+
+-- .. the next take after them answers 7.
+abbrev pub TakesEnd : Type 0
+TakesEnd = (ws : List ℕ) → isList ws ≡ true → (takeOut ws .answered .refusal ≡ 7) ↔ (livePairs ws ≡ [])
+
+-- 8. The pairs: what a sequence of calls does to the live pairs and the standing keys is what an ordered map would do.
+abbrev pub CallsAreBooked : Type 0
+CallsAreBooked =
+    (calls : List Call) (ws : List ℕ) → isList ws ≡ true → bookOf (afterCalls calls ws) ≡ bookedAll calls (length ws) (bookOf ws)
+
+-- 11. Key order is the lexicographic order of the coordinates; a key's coordinates determine it.
+abbrev pub OrderIsLexicographic : Type 0
+OrderIsLexicographic =
+    (ws : List ℕ) → isList ws ≡ true → (x y : ℕ) → x ≤ largestAt ws → y ≤ largestAt ws
+    → ((x < y) ↔ (precedes (coordinates (baseAt ws) (dimensionsAt ws) x) (coordinates (baseAt ws) (dimensionsAt ws) y) ≡ true))
+    × (coordinates (baseAt ws) (dimensionsAt ws) x ≡ coordinates (baseAt ws) (dimensionsAt ws) y → x ≡ y)
+
+-- Any two outcomes that a contract allows are equal.
+abbrev pub OneOutcome : Type 0
+OneOutcome =
+    (call : Call) (before : List ℕ) (r s : Answer) (ws vs : List ℕ)
+    → Meets (outcome call before) r ws → Meets (outcome call before) s vs → (r ≡ s) × (ws ≡ vs)
