@@ -1,0 +1,98 @@
+//! The edges that document 01 lists, and those of the trace's own format.
+
+use super::Trace;
+use crate::replay::MOST_WORDS;
+use crate::settings::{exact_length, Settings};
+
+/// "D = 2, K = 15, C = 8 ... Steps in order from fresh"
+pub const FOURTEEN_STEPS: &str = "N 6 60|N 5 50|N 9 90|F 6|T|T|N 2 20|T|T|N 6 61|T|T|S|N 5 51";
+
+/// "full buffer with a dead key inserted again": three cells beside the head.
+const FULL_BUFFER: &str = "U 2 15 4 47|N 6 60|N 5 50|N 9 90|N 7 70|N 5 51|T|N 7 70|N 4 40|N 5 52|\
+    N 5 53|N 7 70|T|T|T|T|N 9 91|N 1 10|S|N 1 10|N 9 92|T|T|S|N 15 1|N 1 2";
+
+const UNREADABLE: &[u8] = b"| |T | T|T\r|T\t|T\0|\0|t|s|TT|T 1|S 0|X|F|F |F  1|F 1 |F 1 2|f 1|\
+    F 01|F 00|F +1|F -1|F 1.0|F 0x1|F 4294967296|F 18446744073709551617|A|A 1 1|N|N 1|N 1 2 3|\
+    N 1  2|N 1\t2|N 1 4294967296|P 1|P 4294967296 1|L|L 155671|U 2 15 8|U 2 15 8 155671|\
+    U 2 15 8 87 0|F \xC3\xA9 \xFF";
+
+pub fn edges(trace: &mut Trace) {
+    few_words(trace);
+    set_ups(trace);
+    keys_at_the_ends(trace);
+    say_all(trace, FULL_BUFFER);
+    trace.say("U 2 15 8 87");
+    say_all(trace, FOURTEEN_STEPS);
+    unreadable_lines(trace);
+    changed_lengths(trace);
+    trace.write(b"T", b""); // A last line without line feed.
+}
+
+fn say_all(trace: &mut Trace, lines: &str) {
+    lines.split('|').for_each(|line| trace.say(line));
+}
+
+fn every_operation(trace: &mut Trace, key: u32) {
+    say_all(trace, &format!("F {key}|N {key} 7|N {key} 8|F {key}|A {key}|T|A {key}|S"));
+}
+
+/// No buffer yet, and buffers that have no whole header or nothing after it.
+fn few_words(trace: &mut Trace) {
+    every_operation(trace, 1);
+    trace.say("P 0 1");
+    for length in [1, 4, 5, 6, 0] {
+        trace.say(format!("L {length}"));
+        every_operation(trace, length);
+    }
+}
+
+fn set_ups(trace: &mut Trace) {
+    for d in [1, 2, 15, 16, 17] {
+        for c in [2, 3, 4096, 4097] {
+            let exact = exact_length(d, c) as u32;
+            for length in [0, exact - 1, exact, exact + 1].map(|length| length.min(MOST_WORDS)) {
+                say_all(trace, &format!("U {d} 0 {c} {length}|U {d} 1 {c} {length}"));
+                trace.say(format!("U {d} 4294967295 {c} {length}"));
+            }
+        }
+    }
+    say_all(trace, "U 0 15 8 45|U 2 15 0 7|U 2147483648 15 8 87|U 2 15 2147483648 87");
+    trace.say("U 4294967295 4294967295 4294967295 0");
+    every_operation(trace, 1);
+}
+
+fn keys_at_the_ends(trace: &mut Trace) {
+    for (d, c) in [(2, 3), (2, 8), (15, 8), (16, 8), (16, 4096)] {
+        for k in [1, 2, 15, u32::MAX] {
+            trace.make(&Settings::new(d, k, c).expect("settings in range"));
+            for key in [0, 1, k, k.saturating_add(1)] {
+                every_operation(trace, key);
+            }
+            for key in [k, 1, k / 2, 0, u32::MAX] {
+                trace.say(format!("N {key} 4294967295"));
+            }
+            every_operation(trace, k);
+        }
+    }
+}
+
+fn unreadable_lines(trace: &mut Trace) {
+    for line in UNREADABLE.split(|&byte| byte == b'|') {
+        trace.write(line, b"\n");
+    }
+    for length in [60, 62, 63, 64, 1000, 100_000] {
+        trace.write(format!("F {}", "1".repeat(length)).as_bytes(), b"\n");
+        trace.write(format!("T{}", " ".repeat(length)).as_bytes(), b"\n");
+    }
+    trace.say("P 4294967295 4294967295");
+    every_operation(trace, 5);
+}
+
+/// One word short or long, none at all, and back again.
+fn changed_lengths(trace: &mut Trace) {
+    let exact = trace.words.len() as u32;
+    for length in [exact - 1, exact, exact + 1, exact, 0, 4, 5, exact, MOST_WORDS] {
+        trace.say(format!("L {length}"));
+        every_operation(trace, 3);
+    }
+}

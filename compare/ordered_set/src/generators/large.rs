@@ -1,0 +1,74 @@
+//! Calls on large lists: filled, taken from, swept and filled again. A list is filled whole
+//! where the lines left allow it.
+
+use super::keys::{clustered_keys, neighbour};
+use super::Trace;
+use crate::settings::Settings;
+
+pub fn large(trace: &mut Trace) {
+    let mut cells = 4096;
+    while trace.goes_on() {
+        season(trace, cells);
+        let most = (trace.left / 4).clamp(64, 4096) as u32;
+        cells = trace.dice.between(most / 2, most);
+    }
+}
+
+fn season(trace: &mut Trace, cells: u32) {
+    let dimensions = trace.dice.pick(&[2, 3, 4, 8, 15, 16]);
+    let largest_key = trace.dice.pick(&[u32::MAX, 1_048_575, 9_999]);
+    let settings = Settings::new(dimensions, largest_key, cells).expect("settings in range");
+    trace.make(&settings);
+    let keys = many_keys(trace, &settings);
+    let part = (trace.left / 4).clamp(20, 5000);
+    insert_all(trace, &keys[..part.min(keys.len())]);
+    take_and_ask(trace, &settings, &keys, part / 3);
+    trace.say("S");
+    let from = trace.dice.below(keys.len());
+    insert_all(trace, &keys[from..keys.len().min(from + part / 2)]);
+    take_and_ask(trace, &settings, &keys, part / 4);
+    trace.say("S");
+    trace.say("S");
+}
+
+/// More keys than cells: clusters, or numbers in a row, or any; in some order.
+fn many_keys(trace: &mut Trace, settings: &Settings) -> Vec<u32> {
+    let dice = &mut trace.dice;
+    let many = settings.cells + settings.cells / 8;
+    let mut keys: Vec<u32> = match dice.below(3) {
+        0 => clustered_keys(dice, settings, many),
+        1 => (1..=settings.largest_key.min(many as u32)).collect(),
+        _ => (0..many).map(|_| dice.between(1, settings.largest_key)).collect(),
+    };
+    keys.sort_unstable();
+    keys.dedup();
+    match dice.below(3) {
+        0 => (),
+        1 => keys.reverse(),
+        _ => dice.shuffle(&mut keys),
+    }
+    keys
+}
+
+fn insert_all(trace: &mut Trace, keys: &[u32]) {
+    for key in keys {
+        let value = trace.dice.any_size();
+        trace.say(format!("N {key} {value}"));
+    }
+}
+
+fn take_and_ask(trace: &mut Trace, settings: &Settings, keys: &[u32], many: usize) {
+    for _ in 0..many {
+        let dice = &mut trace.dice;
+        let key = dice.pick(keys);
+        let near = neighbour(dice, settings, key);
+        let line = match dice.below(10) {
+            0..=4 => "T".to_string(),
+            5 => format!("F {key}"),
+            6 => format!("F {near}"),
+            7 => format!("A {key}"),
+            _ => format!("N {} {}", dice.pick(&[key, near]), dice.word()),
+        };
+        trace.say(line);
+    }
+}

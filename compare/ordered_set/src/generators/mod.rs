@@ -1,0 +1,88 @@
+//! Traces to compare two programs with, the same for the same seed. Each is made by running
+//! it, so that the next line can be chosen for the buffer at hand.
+
+mod calls;
+mod damage;
+mod dice;
+pub mod edges;
+mod keys;
+mod large;
+mod order_lines;
+mod retell;
+
+use crate::model::Model;
+use crate::reading::list;
+use crate::replay::{parse, run};
+use crate::settings::Settings;
+use dice::Dice;
+use std::io::{Error, Result, Write};
+
+type Generator = fn(&mut Trace);
+
+pub fn named(name: &str) -> Option<Generator> {
+    Some(match name {
+        "gen-calls" => calls::calls,
+        "gen-damage" => damage::damage,
+        "gen-large" => large::large,
+        "gen-order" => order_lines::order_lines,
+        _ => return None,
+    })
+}
+
+pub fn write(generator: Generator, seed: u64, count: usize, mut output: impl Write) -> Result<()> {
+    let mut trace = Trace {
+        dice: Dice::new(seed),
+        words: Vec::new(),
+        left: count,
+        output: &mut output,
+        failed: None,
+    };
+    generator(&mut trace);
+    trace.failed.map_or(Ok(()), Err)?;
+    output.flush()
+}
+
+pub struct Trace<'a> {
+    dice: Dice,
+    words: Vec<u32>,
+    /// Lines still to be written; those said after the last one are dropped.
+    left: usize,
+    output: &'a mut dyn Write,
+    failed: Option<Error>,
+}
+
+impl Trace<'_> {
+    fn goes_on(&self) -> bool {
+        self.left > 0
+    }
+
+    /// Writes a line of a replay and does what it says.
+    fn say(&mut self, line: impl AsRef<str>) {
+        if self.goes_on() {
+            let fields: Vec<&str> = line.as_ref().split(' ').collect();
+            let said = parse(&fields).expect("a readable line");
+            run(&mut self.words, &said);
+            self.write(line.as_ref().as_bytes(), b"\n");
+        }
+    }
+
+    fn make(&mut self, settings: &Settings) {
+        let Settings { dimensions, largest_key, cells, .. } = settings;
+        self.say(format!("U {dimensions} {largest_key} {cells} {}", settings.length()));
+    }
+
+    /// A line that the buffer is not told of: an unreadable one, or one of the order program.
+    fn write(&mut self, line: &[u8], end: &[u8]) {
+        if self.goes_on() {
+            self.left -= 1;
+            if let Err(error) = self.output.write_all(&[line, end].concat()) {
+                self.failed = Some(error);
+                self.left = 0;
+            }
+        }
+    }
+
+    fn list(&self) -> Option<Model> {
+        list(&self.words)
+    }
+}

@@ -1,0 +1,55 @@
+//! An ordered-set reading of document 01, to compare the proved list with.
+
+mod generators;
+mod lines;
+mod model;
+mod operations;
+mod order;
+mod picture;
+mod reading;
+mod replay;
+mod rule;
+mod settings;
+#[cfg(test)]
+mod tests;
+mod walk;
+
+use std::io::{stdin, stdout, BufWriter};
+use std::process::ExitCode;
+
+const USAGE: &str = "\
+ordered_set replay              calls on standard input, answers and checksums
+ordered_set order               the order program
+ordered_set gen-calls SEED COUNT
+ordered_set gen-damage SEED COUNT
+ordered_set gen-large SEED COUNT
+ordered_set gen-order SEED COUNT
+ordered_set gen-edges";
+
+fn main() -> ExitCode {
+    let words: Vec<String> = std::env::args().skip(1).collect();
+    let words: Vec<&str> = words.iter().map(String::as_str).collect();
+    let output = BufWriter::new(stdout().lock());
+    let done = match words[..] {
+        ["replay"] => replay::replay(stdin().lock(), output),
+        ["order"] => order::order(stdin().lock(), output),
+        ["gen-edges"] => generators::write(generators::edges::edges, 0, usize::MAX, output),
+        [name, seed, count] => match (generators::named(name), seed.parse(), count.parse()) {
+            (Some(made), Ok(seed), Ok(count)) => generators::write(made, seed, count, output),
+            _ => return usage(),
+        },
+        _ => return usage(),
+    };
+    match done {
+        Ok(()) => ExitCode::SUCCESS,
+        Err(error) => {
+            eprintln!("{error}");
+            ExitCode::FAILURE
+        }
+    }
+}
+
+fn usage() -> ExitCode {
+    eprintln!("{USAGE}");
+    ExitCode::from(2)
+}

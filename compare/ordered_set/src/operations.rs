@@ -1,0 +1,236 @@
+//! The six operations: each reads the model out of the words, does its work on the model and
+//! draws the words again. What is refused leaves the words as they are.
+
+use crate::model::{Debt, Mark, Model, Standing};
+use crate::picture::picture;
+use crate::reading::list;
+use crate::rule::rule;
+use crate::settings::Settings;
+use crate::walk::walk;
+
+#[derive(Clone, Debug, PartialEq)]
+pub enum Call {
+    SetUp { d: u32, k: u32, c: u32 },
+    Insert { key: u32, value: u32 },
+    Find { key: u32 },
+    Finish { key: u32 },
+    Take,
+    Sweep,
+}
+
+/// "Each answers four numbers: refusal, key, value, count."
+#[derive(Clone, Copy, Debug, PartialEq)]
+pub struct Answer {
+    pub refusal: u32,
+    pub key: u32,
+    pub value: u32,
+    pub count: u32,
+}
+
+/// The table "Turned away". Number 9 is never given: a cell owed from that is not standing
+/// makes the buffer no list, which is 3, "checked in this order".
+pub const OUT_OF_RANGE: u32 = 1;
+pub const LENGTH_NOT_EXACT: u32 = 2;
+pub const NOT_A_LIST: u32 = 3;
+pub const KEY_OUT_OF_RANGE: u32 = 4;
+pub const KEY_IS_LIVE: u32 = 5;
+pub const NO_FREE_CELL: u32 = 6;
+pub const NOTHING_LIVE: u32 = 7;
+pub const KEY_NOT_THERE: u32 = 8;
+pub const LINE_NOT_READABLE: u32 = 10;
+
+impl Answer {
+    pub fn refused(refusal: u32) -> Answer {
+        Answer::refused_with(refusal, 0, 0)
+    }
+
+    fn refused_with(refusal: u32, key: u32, count: usize) -> Answer {
+        Answer { refusal, ..Answer::done(key, 0, count) }
+    }
+
+    fn done(key: u32, value: u32, count: usize) -> Answer {
+        Answer { refusal: 0, key, value, count: count as u32 }
+    }
+}
+
+impl std::fmt::Display for Answer {
+    fn fmt(&self, to: &mut std::fmt::Formatter) -> std::fmt::Result {
+        let Answer { refusal, key, value, count } = self;
+        write!(to, "{refusal} {key} {value} {count}")
+    }
+}
+
+pub fn perform(words: &mut [u32], call: &Call) -> Answer {
+    if let Call::SetUp { d, k, c } = *call {
+        return set_up(words, d, k, c);
+    }
+    let Some(mut model) = list(words) else {
+        return Answer::refused(NOT_A_LIST);
+    };
+    let answer = answer(&mut model, words, call);
+    if answer.refusal == 0 {
+        draw_again(&model, words, call);
+    }
+    answer
+}
+
+/// The old words are never looked at.
+fn set_up(words: &mut [u32], d: u32, k: u32, c: u32) -> Answer {
+    let Some(settings) = Settings::new(d, k, c) else {
+        return Answer::refused(OUT_OF_RANGE);
+    };
+    if words.len() != settings.length() {
+        return Answer::refused(LENGTH_NOT_EXACT);
+    }
+    draw_again(&Model::fresh(settings), words, &Call::SetUp { d, k, c });
+    Answer::done(0, 0, 0)
+}
+
+/// What a call leaves has to be a list again, and the one that was meant.
+fn draw_again(model: &Model, words: &mut [u32], call: &Call) {
+    let drawn = picture(model);
+    if matches!(call, Call::Find { .. }) {
+        assert!(drawn == words, "a find writes: {call:?}");
+    }
+    words.copy_from_slice(&drawn);
+    assert!(list(words).as_ref() == Some(model), "no list, or another one, after {call:?}");
+}
+
+fn answer(model: &mut Model, words: &[u32], call: &Call) -> Answer {
+    let in_range = 1..=model.settings.largest_key;
+    match *call {
+        Call::Insert { key, .. } | Call::Find { key } | Call::Finish { key }
+            if !in_range.contains(&key) =>
+        {
+            Answer::refused(KEY_OUT_OF_RANGE)
+        }
+        Call::Insert { key, value } => insert(model, key, value, looked(model, words, key)),
+        Call::Find { key } => find(model, key, looked(model, words, key)),
+        Call::Finish { key } => finish(model, key),
+        Call::Take => take(model),
+        Call::Sweep => sweep(model),
+        Call::SetUp { .. } => unreachable!("set up reads no list"),
+    }
+}
+
+/// "The cells gone to, each counted once, are exactly those that looked counts", and "the
+/// figure is at most D(b-1)".
+fn looked(model: &Model, words: &[u32], key: u32) -> usize {
+    let settings = &model.settings;
+    let mut gone_to = walk(settings, words, key);
+    gone_to.sort_unstable();
+    let counted: Vec<u32> = rule(model, key).into_iter().collect();
+    assert!(
+        gone_to == counted,
+        "walk and rule disagree on {key}: gone to {gone_to:?}, counted {counted:?}"
+    );
+    let most = settings.dimensions * (settings.base as usize - 1);
+    assert!(counted.len() <= most, "looked for {key} is above D(b-1): {counted:?}");
+    counted.len()
+}
+
+/// "If the key is at or below the position's, the position becomes the parent of that cell in
+/// the settled shape": of a new cell and of one that was dead alike.
+fn insert(model: &mut Model, key: u32, value: u32, looked: usize) -> Answer {
+    match model.standing.get_mut(&key) {
+        Some(at) if at.mark == Mark::Live => {
+            return Answer::refused_with(KEY_IS_LIVE, key, looked);
+        }
+        Some(dead) => {
+            dead.mark = Mark::Live;
+            dead.value = value;
+        }
+        None => match model.free.pop() {
+            None => return Answer::refused_with(NO_FREE_CELL, key, looked),
+            Some(cell) => put_new(model, cell, key, value),
+        },
+    }
+    if key <= model.position {
+        model.position = model.parent(key).0;
+    }
+    Answer::done(key, 0, looked)
+}
+
+/// "Insert of a key not standing puts a new cell n in the first free cell, as link p of its
+/// parent in the new settled shape. If a cell c had that slot in the settled shape before, c
+/// becomes link q of n, where n and c share exactly q coordinates. If p < q, then n owes:
+/// owed c, low p, high q." "an insert finishes what the parent owes, then what c owes, and
+/// nothing else"
+fn put_new(model: &mut Model, cell: u32, n: u32, value: u32) {
+    let before = model.clone();
+    let new = Standing { cell, value, mark: Mark::Live, owes: false };
+    model.standing.insert(n, new);
+    let (parent, p) = model.parent(n);
+    model.finish(parent);
+    if let Some(c) = before.link(parent, p) {
+        model.finish(c);
+        let q = model.settings.shared(n, c);
+        if p < q {
+            owe(model, n, c, p, q);
+        }
+    }
+}
+
+fn owe(model: &mut Model, n: u32, c: u32, p: usize, q: usize) {
+    if let Some(at) = model.standing.get_mut(&n) {
+        at.owes = true;
+    }
+    let stated = Debt { owed: c, low: p, high: q };
+    assert!(
+        model.debt(n) == Some(stated),
+        "the debt of the new key {n} is not owed {c}, low {p}, high {q}"
+    );
+}
+
+fn find(model: &Model, key: u32, looked: usize) -> Answer {
+    match model.standing.get(&key) {
+        Some(at) if at.mark == Mark::Live => Answer::done(key, at.value, looked),
+        _ => Answer::refused_with(KEY_NOT_THERE, key, looked),
+    }
+}
+
+/// "number of links moved (high minus low, or 0 if nothing was owed). The key may be dead."
+fn finish(model: &mut Model, key: u32) -> Answer {
+    if !model.standing.contains_key(&key) {
+        return Answer::refused_with(KEY_NOT_THERE, key, 0);
+    }
+    let moved = model.debt(key).map_or(0, |debt| debt.high - debt.low);
+    model.finish(key);
+    Answer::done(key, 0, moved)
+}
+
+/// "passed: how many standing keys lie above the old position and up to the taken one. It
+/// becomes dead and the position. Links are untouched": a debt of the taken cell stays.
+fn take(model: &mut Model) -> Answer {
+    let Some(key) = model.least_live() else {
+        return Answer::refused_with(NOTHING_LIVE, 0, standing_above_position(model, u32::MAX));
+    };
+    let passed = standing_above_position(model, key);
+    let taken = model.standing.get_mut(&key).expect("a live key stands");
+    taken.mark = Mark::Dead;
+    let value = std::mem::take(&mut taken.value);
+    model.position = key;
+    Answer::done(key, value, passed)
+}
+
+fn standing_above_position(model: &Model, up_to: u32) -> usize {
+    let above = |key: &&u32| model.position < **key && **key <= up_to;
+    model.standing.keys().filter(above).count()
+}
+
+/// "It finishes all that is owed, moves the position to the greatest dead cell below every
+/// live key (of all, if none is live; the head, if there is no other), frees every cell
+/// strictly between head and position in key order, each put at the front of the free chain"
+fn sweep(model: &mut Model) -> Answer {
+    model.standing.values_mut().for_each(|at| at.owes = false);
+    let below_live = model.least_live().map_or(u32::MAX, |live| live - 1);
+    let mut dead = model.standing.range(..=below_live);
+    model.position = dead.next_back().map_or(0, |(&key, _)| key);
+    let between = |key: &u32| 0 < *key && *key < model.position;
+    let freed: Vec<u32> = model.standing.keys().copied().filter(between).collect();
+    for key in &freed {
+        let at = model.standing.remove(key).expect("a freed key stood");
+        model.free.push(at.cell);
+    }
+    Answer::done(0, 0, freed.len())
+}

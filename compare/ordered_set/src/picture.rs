@@ -1,0 +1,75 @@
+//! Every word of the buffer, from the model alone.
+
+use crate::model::{Mark, Model, Standing};
+use crate::settings::*;
+
+pub fn picture(model: &Model) -> Vec<u32> {
+    let mut words = vec![0; model.settings.length()];
+    draw_header(model, &mut words);
+    for d in 0..model.settings.dimensions {
+        words[model.settings.path_word(d)] = model.path(d);
+    }
+    for (&key, at) in &model.standing {
+        draw_cell(model, key, at, &mut words);
+        draw_debt(model, key, at, &mut words);
+        draw_links(model, key, at, &mut words);
+    }
+    draw_free_chain(model, &mut words);
+    words
+}
+
+fn draw_header(model: &Model, words: &mut [u32]) {
+    let settings = &model.settings;
+    words[0] = settings.dimensions as u32;
+    words[1] = settings.largest_key;
+    words[2] = settings.cells as u32;
+    words[3] = settings.base;
+}
+
+/// "Mark: 0 free, 1 live, 2 dead." "A dead cell's value is 0."
+fn draw_cell(model: &Model, key: u32, at: &Standing, words: &mut [u32]) {
+    let settings = &model.settings;
+    let (mark, value) = match at.mark {
+        Mark::Live => (1, at.value),
+        Mark::Dead => (2, 0),
+    };
+    words[settings.word(at.cell, KEY)] = key;
+    words[settings.word(at.cell, VALUE)] = value;
+    words[settings.word(at.cell, MARK)] = mark;
+    for d in 0..settings.dimensions {
+        words[settings.coordinate_word(at.cell, d)] = settings.coordinate(key, d);
+    }
+}
+
+/// "A cell that owes nothing has owed, low and high 0."
+fn draw_debt(model: &Model, key: u32, at: &Standing, words: &mut [u32]) {
+    if let Some(debt) = model.debt(key) {
+        words[model.settings.word(at.cell, OWED)] = model.standing[&debt.owed].cell;
+        words[model.settings.word(at.cell, LOW)] = debt.low as u32;
+        words[model.settings.word(at.cell, HIGH)] = debt.high as u32;
+    }
+}
+
+/// "Links low to high-1 of n are then 0 and those of c are n's settled ones. Every other link
+/// is settled." So a cell's settled links go to the owed cell where it owes, else to itself;
+/// no two are written to one place, as c's own links begin at high.
+fn draw_links(model: &Model, key: u32, at: &Standing, words: &mut [u32]) {
+    let debt = model.debt(key);
+    for d in model.dimension(key)..model.settings.dimensions {
+        let owed = debt.as_ref().filter(|debt| debt.covers(d));
+        let holder = owed.map_or(at.cell, |debt| model.standing[&debt.owed].cell);
+        if let Some(y) = model.least_larger_at(key, d) {
+            words[model.settings.link_word(holder, d)] = model.standing[&y].cell;
+        }
+    }
+}
+
+/// "A free cell's first word holds the next free cell, its other words are 0."
+fn draw_free_chain(model: &Model, words: &mut [u32]) {
+    let mut place = FIRST_FREE;
+    for &cell in model.free.iter().rev() {
+        words[place] = cell;
+        place = model.settings.word(cell, KEY);
+    }
+    words[place] = 0;
+}

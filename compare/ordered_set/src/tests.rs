@@ -1,0 +1,191 @@
+//! What document 01 prints, and second statements of what the program does, by the words.
+
+use crate::generators::edges::FOURTEEN_STEPS;
+use crate::generators::{named, write};
+use crate::model::Model;
+use crate::operations::Call;
+use crate::order::order;
+use crate::reading::list;
+use crate::replay::{parse, run, Line};
+use crate::settings::*;
+
+fn line(text: &str) -> Line {
+    let fields: Vec<&str> = text.split(' ').collect();
+    parse(&fields).expect("a readable line")
+}
+
+fn owing(model: &Model) -> Vec<u32> {
+    let owes = model.standing.iter().filter(|(_, at)| at.owes);
+    owes.map(|(&key, _)| key).collect()
+}
+
+#[test]
+fn bases_are_the_table() {
+    let table = [65536, 1626, 256, 85, 41, 24, 16, 12, 10, 8, 7, 6, 5, 5, 4];
+    let bases: Vec<u32> = (2..=16).map(|d| base(d, u32::MAX)).collect();
+    assert_eq!(bases, table);
+    assert_eq!([base(2, 15), base(8, 1_048_575), base(2, 16), base(16, 1)], [4, 6, 5, 2]);
+    assert_eq!((exact_length(8, 512), exact_length(16, 4096)), (11_277, 155_669));
+}
+
+#[test]
+fn fourteen_steps() {
+    // Each answer, then the key of the position and who owes.
+    let expected: [([u32; 4], u32, &[u32]); 14] = [
+        ([0, 6, 0, 0], 0, &[]),
+        ([0, 5, 0, 1], 0, &[5]),
+        ([0, 9, 0, 1], 0, &[]),
+        ([0, 6, 60, 2], 0, &[]),
+        ([0, 5, 50, 1], 5, &[]),
+        ([0, 6, 60, 1], 6, &[]),
+        ([0, 2, 0, 0], 0, &[]),
+        ([0, 2, 20, 1], 2, &[]),
+        ([0, 9, 90, 3], 9, &[]),
+        ([0, 6, 0, 2], 5, &[]),
+        ([0, 6, 61, 1], 6, &[]),
+        ([7, 0, 0, 1], 6, &[]),
+        ([0, 0, 0, 3], 9, &[]),
+        ([0, 5, 0, 1], 0, &[]),
+    ];
+    let mut words = Vec::new();
+    run(&mut words, &line("U 2 15 8 87"));
+    for (step, (answer, position, owes)) in FOURTEEN_STEPS.split('|').zip(expected) {
+        let given = run(&mut words, &line(step)).expect("a call");
+        assert_eq!([given.refusal, given.key, given.value, given.count], answer, "{step}");
+        let model = list(&words).expect("a list");
+        assert_eq!((model.position, &owing(&model)[..]), (position, owes), "{step}");
+        if step == "S" {
+            assert_eq!(model.free, [7, 6, 5, 4, 2, 1], "the chain 1, 2, 4, 5, 6, 7");
+        }
+    }
+    let model = list(&words).expect("a list");
+    assert_eq!(model.standing[&5].cell, 1);
+}
+
+#[test]
+fn printed_order() {
+    let input = "N 1 117 41\nN 1 1117 42\nN 0 117 43\nN 1 117 44\nT\nT\nT\nT\n";
+    let output = "0 65653 0 0\n0 66653 0 1\n0 117 0 0\n5 65653 0 1\n\
+                  0 117 43 1\n0 65653 41 1\n0 66653 42 1\n7 0 0 0\n";
+    assert_eq!(ordered(input.as_bytes()), output);
+}
+
+#[test]
+fn order_lines_at_the_ends() {
+    assert_eq!(ordered(b""), "");
+    assert_eq!(ordered(b"\n"), "10 0 0 0\n");
+    assert_eq!(ordered(b"T\n\nT"), "7 0 0 0\n10 0 0 0\n7 0 0 0\n");
+    assert_eq!(ordered(&[b'1'; 100_000]), "10 0 0 0\n");
+    assert_eq!(
+        ordered(b"N 15 65535 4294967295\nN 16 1 0\nF 0 0"),
+        "0 1048575 0 0\n10 0 0 0\n10 0 0 0\n"
+    );
+}
+
+fn ordered(input: &[u8]) -> String {
+    let mut output = Vec::new();
+    order(input, &mut output).expect("no input or output fails");
+    String::from_utf8(output).expect("numbers")
+}
+
+/// The calls of a generated trace, each with the words before and after it.
+fn for_each_call(name: &str, lines: usize, mut see: impl FnMut(&Model, &Line, &[u32], &[u32])) {
+    let mut trace = Vec::new();
+    write(named(name).expect("a generator"), 1, lines, &mut trace).expect("memory is written");
+    let mut words = Vec::new();
+    for text in std::str::from_utf8(&trace).expect("readable lines").lines() {
+        let line = line(text);
+        let (before, model) = (words.clone(), list(&words));
+        let answer = run(&mut words, &line);
+        if answer.is_some_and(|answer| answer.refusal != 0) {
+            assert!(before == words, "a refusal changes a word");
+        } else if let Some(model) = model {
+            see(&model, &line, &before, &words);
+        }
+    }
+}
+
+/// Links and path once more, by going over all standing keys.
+#[test]
+fn settled_shape_by_all_keys() {
+    for_each_call("gen-calls", 2000, |model, _, _, _| {
+        let settings = &model.settings;
+        let keys: Vec<u32> = model.standing.keys().copied().collect();
+        for (x, d) in keys.iter().flat_map(|&x| (0..settings.dimensions).map(move |d| (x, d))) {
+            let larger = |y: u32| settings.coordinate(y, d) > settings.coordinate(x, d);
+            let mut led_to = keys.iter().filter(|&&y| settings.shared(x, y) == d && larger(y));
+            let expected = led_to.next().filter(|_| d >= model.dimension(x));
+            assert_eq!(model.link(x, d).as_ref(), expected);
+        }
+        for d in 0..settings.dimensions {
+            let sharing = |y: &&u32| settings.shared(model.position, **y) > d;
+            let least = keys.iter().find(sharing).expect("the position shares all");
+            assert_eq!(model.path(d), model.standing[least].cell);
+        }
+    });
+}
+
+/// Insert and finish once more, as changes of single words.
+#[test]
+fn insert_and_finish_by_words() {
+    let mut seen = [0, 0];
+    let mut see = |model: &Model, line: &Line, before: &[u32], after: &[u32]| {
+        let mut words = before.to_vec();
+        match *line {
+            Line::Call(Call::Insert { key, value }) if !model.standing.contains_key(&key) => {
+                let new = list(after).expect("a list");
+                insert_by_words(model, &new, &mut words, key, value);
+                seen[0] += 1;
+            }
+            Line::Call(Call::Finish { key }) => {
+                finish_by_words(&model.settings, &mut words, model.standing[&key].cell);
+                seen[1] += 1;
+            }
+            _ => return,
+        }
+        assert!(words == after, "{line:?} by words is another buffer");
+    };
+    for_each_call("gen-calls", 20_000, &mut see);
+    for_each_call("gen-damage", 20_000, &mut see);
+    assert!(seen[0] > 1000 && seen[1] > 1000, "too few calls: {seen:?}");
+}
+
+/// "Finishing moves those links from c to n, puts 0 in c and clears the three words."
+fn finish_by_words(settings: &Settings, words: &mut [u32], n: u32) {
+    let [c, low, high] = [OWED, LOW, HIGH].map(|field| words[settings.word(n, field)]);
+    for d in low as usize..high as usize {
+        words[settings.link_word(n, d)] = std::mem::take(&mut words[settings.link_word(c, d)]);
+    }
+    write_fields(settings, words, n, [(OWED, 0), (LOW, 0), (HIGH, 0)]);
+}
+
+fn write_fields(settings: &Settings, words: &mut [u32], cell: u32, fields: [(usize, u32); 3]) {
+    for (field, word) in fields {
+        words[settings.word(cell, field)] = word;
+    }
+}
+
+fn insert_by_words(before: &Model, new: &Model, words: &mut [u32], key: u32, value: u32) {
+    let settings = &before.settings;
+    let (parent, p) = new.parent(key);
+    let (parent_cell, n) = (new.standing[&parent].cell, words[FIRST_FREE]);
+    words[FIRST_FREE] = words[settings.word(n, KEY)];
+    finish_by_words(settings, words, parent_cell);
+    words[settings.link_word(parent_cell, p)] = n;
+    if let Some(c) = before.link(parent, p) {
+        let (q, c) = (settings.shared(key, c), before.standing[&c].cell);
+        finish_by_words(settings, words, c);
+        words[settings.link_word(n, q)] = c;
+        if p < q {
+            write_fields(settings, words, n, [(OWED, c), (LOW, p as u32), (HIGH, q as u32)]);
+        }
+    }
+    write_fields(settings, words, n, [(KEY, key), (VALUE, value), (MARK, 1)]);
+    for d in 0..settings.dimensions {
+        words[settings.coordinate_word(n, d)] = settings.coordinate(key, d);
+        if key <= before.position {
+            let mut sharing = new.standing.iter().filter(|(&y, _)| settings.shared(parent, y) > d);
+            words[settings.path_word(d)] = sharing.next().expect("the parent").1.cell;
+        }
+    }
+}
