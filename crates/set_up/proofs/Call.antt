@@ -1,0 +1,66 @@
+-- Each way out of set up has the outcome of the definition: what the checked constructor answers says whether the ranges hold.
+use mathlib.Core.Path.{_≡_, refl, sym, _∙_}
+use mathlib.Core.Bool.{Bool, true, false, cond}
+use mathlib.Core.List.{List}
+use Prim.Native.Nat.{ℕ, _≤_}
+use native.Mathlib.Omega.{arith}
+use lib.ListN.{length}
+use borrow.Author.Tests.{eq-eqb, ne-eqb}
+use Rattle.settings.specs.Numbers.{inRange, lengthOf, mostDimensions, mostCells}
+use Rattle.settings.specs.Checked.{settingsOf, checkedOf}
+use Rattle.settings.specs.declared.Settings.{Settings}
+use Rattle.settings.specs.declared.Checked.{Checked}
+use Rattle.settings.specs.declared.Checked.the-variants.{Accepted, OutOfRange}
+use Rattle.settings.proofs.Laws.{ranges}
+use Rattle.meaning.specs.declared.Answer.{Answer}
+use Rattle.meaning.specs.Refusals.{answer, Meets}
+use Rattle.meaning.specs.Operations.{setUpOut}
+use Rattle.set_up.specs.Fresh.{freshList}
+use Rattle.set_up.proofs.Fresh.{fresh-picture}
+
+module _ (D K C : ℕ) (checked : Checked) (is : checked ≡ checkedOf D K C) where
+  not-in-range : checked ≡ OutOfRange → inRange D K C ≡ false
+  unfolding checkedOf
+  not-in-range e = at-test (inRange D K C) (sym is ∙ e)
+    where
+      at-test : (t : Bool) → cond t (Accepted (settingsOf D K C)) OutOfRange ≡ OutOfRange → t ≡ false
+      at-test true e = absurd (let z : _≡_ {A = ℕ} 0 1 = cc in omega arith)
+      at-test false e = refl
+
+  in-range : {s : Settings} → checked ≡ Accepted s → (inRange D K C ≡ true) × (s ≡ settingsOf D K C)
+  unfolding checkedOf
+  in-range {s} e = at-test (inRange D K C) (sym is ∙ e)
+    where
+      at-test : (t : Bool) → cond t (Accepted (settingsOf D K C)) OutOfRange ≡ Accepted s → (t ≡ true) × (s ≡ settingsOf D K C)
+      at-test true e = (refl, (cc))
+      at-test false e = absurd (let z : _≡_ {A = ℕ} 0 1 = cc in omega arith)
+
+  -- accepted settings keep the limits
+  pub limits : {s : Settings} → checked ≡ Accepted s → (s .dimensions ≤ mostDimensions) × (s .cells ≤ mostCells)
+  limits e =
+      let r = in-range e in
+      let b = ranges D K C (r .0) in
+      rw (r .1) (b .most-dimensions, b .most-cells)
+
+  module _ (ws : List ℕ) (r : Answer) where
+    pub out-of-range-meets : checked ≡ OutOfRange → r ≡ answer 1 0 0 0 → Meets (setUpOut D K C ws) r ws
+    unfolding setUpOut
+    out-of-range-meets e a = rw (not-in-range e, setUpOut) (record { answered = a; words = refl })
+
+    pub wrong-length-meets :
+        {s : Settings} → checked ≡ Accepted s → (length ws ≡ lengthOf (s .dimensions) (s .cells) → ⊥) → r ≡ answer 2 0 0 0 →
+        Meets (setUpOut D K C ws) r ws
+    unfolding setUpOut
+    wrong-length-meets e differ a =
+        let i = in-range e in
+        rw (i .0, ne-eqb (length ws) (lengthOf D C) (rw (i .1) at differ), setUpOut) (record { answered = a; words = refl })
+
+    pub fresh-meets :
+        {s : Settings} (left : List ℕ) → checked ≡ Accepted s → length ws ≡ lengthOf (s .dimensions) (s .cells) → r ≡ answer 0 0 0 0 →
+        left ≡ freshList s → Meets (setUpOut D K C ws) r left
+    unfolding setUpOut
+    fresh-meets left e long a written =
+        let i = in-range e in
+        let b = ranges D K C (i .0) in
+        rw (i .0, eq-eqb (length ws) (lengthOf D C) (rw (i .1) at long), setUpOut)
+        (record { answered = a; words = written ∙ rw (i .1) (sym (fresh-picture D K C (omega arith))) })

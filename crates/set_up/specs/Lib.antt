@@ -1,0 +1,2 @@
+-- What the code of set up writes, word by word.
+pub mod Fresh
