@@ -1,0 +1,135 @@
+-- The feed hands on the lines of its input, however the input is cut into parts: what is known of the line begun is `handed` of its
+-- bytes, and each byte keeps that so.
+use mathlib.Core.Path.{_≡_, refl, sym, _∙_, ap}
+use mathlib.Core.Bool.{Bool, true, false, cond}
+use mathlib.Core.List.{List, [], _∷_, _++_, map, flatten, append-assoc}
+use Prim.Native.Nat.{ℕ}
+use native.Mathlib.Omega.{arith}
+use lib.Dec.{eqb, leb}
+use lib.ListN.{length, length-append}
+use borrow.Author.Tests.{lt-leb, leb-false}
+use Rattle.text.specs.Lines.{lineFeed, mostBytes, linesAfter, linesOf, Handed, line, tooLong, handed, handedOf}
+use Rattle.text.specs.Feeding.{longer, begunAfter, handedBy, handedAtEnd, begunAfterPart, handedByPart, handedByParts, started, begunIn, toldIn, Ready, Stepped, Finished}
+use Rattle.text.specs.declared.feed.Feed.{Feed}
+use Rattle.text.specs.declared.feed.Fed.{Fed}
+use Rattle.text.specs.declared.feed.Told.{Told}
+
+-- An input
+
+-- a byte more keeps it so, for a line that is too long as well
+longer-handed : (begun : List ℕ) (byte : ℕ) → longer (handed begun) byte ≡ handed (begun ++ (byte ∷ []))
+longer-handed begun byte = at-test (leb (length begun) mostBytes) refl
+  where
+    at-test :
+        (t : Bool) → leb (length begun) mostBytes ≡ t → longer (cond t (line begun) tooLong) byte ≡ handed (begun ++ (byte ∷ []))
+    at-test true e = refl
+    at-test false e =
+        let over = leb-false (length begun) mostBytes e in
+        let long = length-append begun (byte ∷ []) in
+        rw (lt-leb (length (begun ++ (byte ∷ []))) mostBytes (omega arith)) refl
+
+end-handed : (begun : List ℕ) → handedAtEnd (handed begun) ≡ map handed (linesAfter begun [])
+unfolding handedAtEnd linesAfter
+end-handed [] = refl
+end-handed (byte ∷ begun) = at-test (leb (length (byte ∷ begun)) mostBytes)
+  where
+    at-test :
+        (t : Bool) →
+        handedAtEnd (cond t (line (byte ∷ begun)) tooLong) ≡ cond t (line (byte ∷ begun)) tooLong ∷ []
+    at-test true = refl
+    at-test false = refl
+
+lines-more :
+    (begun : List ℕ) (byte : ℕ) (input : List ℕ) →
+    linesAfter begun (byte ∷ input) ≡
+    cond (eqb byte lineFeed) (begun ∷ linesAfter [] input) (linesAfter (begun ++ (byte ∷ [])) input)
+unfolding linesAfter
+lines-more [] byte input = refl
+lines-more (b ∷ begun) byte input = refl
+
+hands-after :
+    (begun input : List ℕ) →
+    handedByPart (handed begun) input ++ handedAtEnd (begunAfterPart (handed begun) input) ≡ map handed (linesAfter begun input)
+unfolding handedByPart begunAfterPart handedBy begunAfter
+hands-after begun [] = end-handed begun
+hands-after begun (byte ∷ input) =
+    rw (lines-more begun byte input, longer-handed begun byte) (at-test (eqb byte lineFeed) (λ b. hands-after b input))
+  where
+    more : List ℕ
+    more = begun ++ (byte ∷ [])
+
+    at-test :
+        (t : Bool) →
+        ((b : List ℕ) →
+        handedByPart (handed b) input ++ handedAtEnd (begunAfterPart (handed b) input) ≡ map handed (linesAfter b input)) →
+        (cond t (handed begun ∷ []) [] ++ handedByPart (cond t (line []) (handed more)) input) ++
+        handedAtEnd (begunAfterPart (cond t (line []) (handed more)) input) ≡
+        map handed (cond t (begun ∷ linesAfter [] input) (linesAfter more input))
+    at-test true again = ap (λ (hs : List Handed). handed begun ∷ hs) (again [])
+    at-test false again = again more
+
+-- The bytes of an input and then its end hand on its lines.
+pub input-hands : (input : List ℕ) → handedByPart (line []) input ++ handedAtEnd (begunAfterPart (line []) input) ≡ handedOf input
+unfolding handedOf linesOf
+input-hands input = hands-after [] input
+
+-- Parts
+
+pub begun-append :
+    (begun : Handed) (part rest : List ℕ) → begunAfterPart begun (part ++ rest) ≡ begunAfterPart (begunAfterPart begun part) rest
+unfolding begunAfterPart
+begun-append begun [] rest = refl
+begun-append begun (byte ∷ part) rest = begun-append (begunAfter begun byte) part rest
+
+pub handed-append :
+    (begun : Handed) (part rest : List ℕ) →
+    handedByPart begun (part ++ rest) ≡ handedByPart begun part ++ handedByPart (begunAfterPart begun part) rest
+unfolding begunAfterPart handedByPart
+handed-append begun [] rest = refl
+handed-append begun (byte ∷ part) rest =
+    rw (handed-append (begunAfter begun byte) part rest)
+    (sym (append-assoc (handedBy begun byte) (handedByPart (begunAfter begun byte) part) _))
+
+parts-join :
+    (begun : Handed) (parts : List (List ℕ)) →
+    handedByParts begun parts ≡ handedByPart begun (flatten parts) ++ handedAtEnd (begunAfterPart begun (flatten parts))
+unfolding flatten handedByParts handedByPart begunAfterPart
+parts-join begun [] = refl
+parts-join begun (part ∷ parts) =
+    rw (
+      handed-append begun part (flatten parts),
+      begun-append begun part (flatten parts),
+      parts-join (begunAfterPart begun part) parts,
+    )
+    (sym (append-assoc (handedByPart begun part) (handedByPart (begunAfterPart begun part) (flatten parts)) _))
+
+-- However an input is cut into parts, they hand on its lines.
+pub parts-hand : (parts : List (List ℕ)) → handedByParts (line []) parts ≡ handedOf (flatten parts)
+parts-hand parts = parts-join (line []) parts ∙ input-hands (flatten parts)
+
+-- A run of the code
+
+pub begun-started : (buffer : List ℕ) → begunIn buffer started ≡ line []
+unfolding begunIn
+begun-started buffer = refl
+
+-- `feed_byte` was called with each byte of an input, one after the other, and then `finish`; `told` is what they told of, in order.
+pub data Run : List ℕ → Feed → List ℕ → List Handed → Type 0 where
+  ends : {buffer : List ℕ} {feed : Feed} {r : Told} {told : List Handed} → Finished feed r → told ≡ toldIn buffer r → Run buffer feed [] told
+  goes :
+      {before after : List ℕ} {feed : Feed} {byte : ℕ} {r : Fed} {input : List ℕ} {told more : List Handed} →
+      Stepped before after feed byte r → Run after (r .feed) input more → told ≡ toldIn after (r .told) ++ more →
+      Run before feed (byte ∷ input) told
+
+run-on :
+    {buffer : List ℕ} {feed : Feed} {input : List ℕ} {told : List Handed} → Ready buffer feed → Run buffer feed input told →
+    told ≡ handedByPart (begunIn buffer feed) input ++ handedAtEnd (begunAfterPart (begunIn buffer feed) input)
+unfolding handedByPart begunAfterPart
+run-on {buffer} ready (ends finished e) = e ∙ finished .told buffer (ready .long)
+run-on ready (goes step run e) = rw (e, run-on (step .ready) run, step .begun, step .told) (simp append-assoc)
+
+-- A run from the start hands on exactly the lines of its input.
+pub run-hands :
+    {buffer input : List ℕ} {told : List Handed} → length buffer ≡ mostBytes → Run buffer started input told → told ≡ handedOf input
+unfolding begunIn
+run-hands {buffer} {input} long run = run-on (record { long = long; fits = omega arith }) run ∙ input-hands input
