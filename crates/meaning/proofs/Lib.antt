@@ -10,6 +10,11 @@ pub mod Picture
 pub mod Places
 pub mod Put
 pub mod Reading
+pub mod Rule
+pub mod RowWalk
+pub mod WalkRead
+pub mod Walk
+pub mod WalkStop
 pub mod Keeps
 pub mod KeepsSetUp
 pub mod KeepsFinish

@@ -1,0 +1,254 @@
+-- What the words of a picture say of each standing cell: each word is that of its place, and a link read through what is owed is the
+-- settled one. A cell that owes reads the links in question from the next standing cell, which holds them for it.
+use mathlib.Core.Path.{_≡_, refl, _∙_, sym, ap}
+use mathlib.Core.Bool.{Bool, true, false, cond, _&&_, not}
+use mathlib.Core.List.{List, [], _∷_, map}
+use mathlib.Core.Option.{some}
+use Prim.Native.Nat.{ℕ, suc, _+_, _≤_, _<_}
+use native.Mathlib.Decide.{decLe}
+use native.Mathlib.Omega.{arith}
+use lib.Dec.{eqb, leb}
+use lib.ListN.{length, getD, List·getD-append}
+use lib.Seq.{getD-append-add}
+use borrow.Author.Tests.{lt-ltb, le-ltb, le-leb, eq-eqb, ne-eqb}
+use Rattle.settings.specs.Numbers.{fieldsBeforeCoordinates, cellWords}
+use Rattle.meaning.specs.Keys.{coordinates, coordinate, shared}
+use Rattle.meaning.specs.Row.{Entry, headEntry, firstOf, firstSharing, Place, headPlace, placesAfter, places, settledLink, owed, low, high, between, link, placeOf}
+use Rattle.meaning.specs.State.{State}
+use Rattle.meaning.specs.Picture.{numbersFrom, standingWords, wordsOf, picture}
+use Rattle.meaning.specs.Walk.{wordAt, keyAt, owedAt, lowAt, highAt, coordinateAt, linkAt, linkRead}
+use Rattle.meaning.proofs.Order.{All, all-map, all-left}
+use Rattle.meaning.proofs.Keys.{coordinates-length}
+use Rattle.meaning.proofs.State.{Debt, Sound}
+use Rattle.meaning.proofs.Blocks.{made-at}
+use Rattle.meaning.proofs.Cells.{all-zip, all-of-map}
+use Rattle.meaning.proofs.Picture.{picture-word, place-found}
+use Rattle.meaning.proofs.Places.{places-entries}
+
+-- Words by place.
+
+standing-coordinate : (b D : ℕ) (p : Place) (d : ℕ) → d < D → getD (standingWords b D p) (fieldsBeforeCoordinates + d) 0 ≡ coordinate b D (p .entry .key) d
+unfolding standingWords
+standing-coordinate b D p d h =
+    ap (λ i. getD (standingWords b D p) i 0) (let i : 6 + d ≡ suc (suc (suc (suc (suc (suc d))))) = omega arith in i)
+    ∙ List·getD-append (coordinates b D (p .entry .key)) (map (link b D p) (numbersFrom 0 D)) 0 d (let n = coordinates-length b D (p .entry .key) in omega arith)
+
+standing-link : (b D : ℕ) (p : Place) (d : ℕ) → d < D → getD (standingWords b D p) (fieldsBeforeCoordinates + D + d) 0 ≡ link b D p d
+unfolding standingWords
+standing-link b D p d h =
+    ap (λ i. getD (standingWords b D p) i 0)
+    (let n = coordinates-length b D (p .entry .key) in
+    let i : 6 + D + d ≡ suc (suc (suc (suc (suc (suc (length (coordinates b D (p .entry .key)) + d)))))) = omega arith in i)
+    ∙ getD-append-add (coordinates b D (p .entry .key)) (map (link b D p) (numbersFrom 0 D)) d 0
+    ∙ made-at (link b D p) 0 D d 0 h ∙ ap (link b D p) (omega arith)
+
+-- the words of a standing cell that the walk reads
+pub record Held (ws : List ℕ) (b D : ℕ) (p : Place) : Type 0 where
+  pub key : keyAt ws (p .entry .cell) ≡ p .entry .key
+  pub owed : owedAt ws (p .entry .cell) ≡ owed p
+  pub low : lowAt ws (p .entry .cell) ≡ low p
+  pub high : highAt ws (p .entry .cell) ≡ high b D p
+  pub coordinate : (d : ℕ) → d < D → coordinateAt ws (p .entry .cell) d ≡ coordinate b D (p .entry .key) d
+  pub link : (d : ℕ) → d < D → linkAt ws (p .entry .cell) d ≡ link b D p d
+
+-- what holds of the head and of each entry of the row holds of the entry of each place
+pub all-places : (P : Entry → Type 0) (b D : ℕ) (row : List Entry) → P headEntry → All P row → All (λ p. P (p .entry)) (places b D row)
+unfolding places
+all-places P b D row h r = (h, places-entries P b D headEntry 0 row r)
+
+entries-of-places : (P : Entry → Type 0) (b D : ℕ) (a : Entry) (e : ℕ) (row : List Entry) → All (λ p. P (p .entry)) (placesAfter b D a e row) → All P row
+unfolding placesAfter
+entries-of-places P b D a e [] h = tt
+entries-of-places P b D a e (x ∷ row) h = (h .0, entries-of-places P b D x (shared b D (a .key) (x .key)) row (h .1))
+
+module _ (s : State) where
+  -- word j of a standing cell
+  standing-word : (p : Place) → p .entry .cell < s .settings .cells →
+      placeOf (p .entry .cell) (places (s .settings .base) (s .settings .dimensions) (s .row)) ≡ some p → (j : ℕ) → j < cellWords (s .settings .dimensions) →
+      wordAt (picture s) (p .entry .cell) j ≡ getD (standingWords (s .settings .base) (s .settings .dimensions) p) j 0
+  unfolding wordsOf
+  standing-word p h found j l =
+      picture-word s (p .entry .cell) j h l ∙ ap (λ o. getD (wordsOf (s .settings .base) (s .settings .dimensions) (s .free) (p .entry .cell) o) j 0) found
+
+  pub dimensions-read : getD (picture s) 0 0 ≡ s .settings .dimensions
+  unfolding picture
+  dimensions-read = refl
+
+  pub base-read : getD (picture s) 3 0 ≡ s .settings .base
+  unfolding picture
+  base-read = refl
+
+  held : (p : Place) → p .entry .cell < s .settings .cells →
+      placeOf (p .entry .cell) (places (s .settings .base) (s .settings .dimensions) (s .row)) ≡ some p → Held (picture s) (s .settings .base) (s .settings .dimensions) p
+  unfolding standingWords
+  held p h found =
+      let b = s .settings .base in
+      let D = s .settings .dimensions in
+      let word = standing-word p h found in
+      record {
+        key = word 0 (omega arith);
+        owed = word 3 (omega arith);
+        low = word 4 (omega arith);
+        high = word 5 (omega arith);
+        coordinate = λ d l. word (fieldsBeforeCoordinates + d) (omega arith) ∙ standing-coordinate b D p d l;
+        link = λ d l.
+            ap (λ n. wordAt (picture s) (p .entry .cell) (fieldsBeforeCoordinates + n + d)) dimensions-read
+            ∙ word (fieldsBeforeCoordinates + D + d) (omega arith) ∙ standing-link b D p d l;
+      }
+
+  -- the cells of the row: none is the head, each is below C
+  pub row-cells : Sound s → All (λ x. (0 < x .cell) × (x .cell < s .settings .cells)) (s .row)
+  row-cells v =
+      all-of-map (λ c. (0 < c) × (c < s .settings .cells)) (λ x. x .cell) (s .row)
+      (all-left (λ c. (0 < c) × (c < s .settings .cells)) (map (λ x. x .cell) (s .row)) (s .free) (v .range))
+
+  pub places-held : Sound s → All (Held (picture s) (s .settings .base) (s .settings .dimensions)) (places (s .settings .base) (s .settings .dimensions) (s .row))
+  places-held v =
+      let C = s .settings .cells in
+      let standing = places (s .settings .base) (s .settings .dimensions) (s .row) in
+      all-zip held standing
+      (all-places (λ x. x .cell < C) (s .settings .base) (s .settings .dimensions) (s .row) (let h = v .cells-least in omega arith) (all-map (λ x h. h .1) (s .row) (row-cells v)))
+      (place-found s v)
+
+-- Links as they stand.
+
+and-false : (t : Bool) → (t && false) ≡ false
+and-false true = refl
+and-false false = refl
+
+pub between-not : (least above d : ℕ) → above ≤ d → between least above d ≡ false
+between-not least above d h = rw (le-ltb d above h) (and-false (leb least d))
+
+pub between-is : (least above d : ℕ) → least ≤ d → d < above → between least above d ≡ true
+between-is least above d h l = rw (le-leb least d h, lt-ltb d above l) refl
+
+-- link d from the dimension up is settled, if it is not one that the cell owes
+link-settled : (b D : ℕ) (p : Place) (d : ℕ) → p .dimension ≤ d → (p .entry .owes && between (low p) (high b D p) d) ≡ false → link b D p d ≡ settledLink b D p d
+unfolding link
+link-settled b D p d h e =
+    ap (λ t. cond t (firstSharing b D (p .before .key) d (p .entry ∷ p .later)) (cond (p .entry .owes && between (low p) (high b D p) d) 0 (settledLink b D p d)))
+    (ap (λ t. p .before .owes && t) (between-not (p .beforeDimension) (p .dimension) d h) ∙ and-false (p .before .owes))
+    ∙ ap (λ t. cond t 0 (settledLink b D p d)) e
+
+-- below the dimension, where the cell before owes, link d is what that one is due
+link-due : (b D : ℕ) (p : Place) (d : ℕ) → p .before .owes ≡ true → p .beforeDimension ≤ d → d < p .dimension →
+    link b D p d ≡ firstSharing b D (p .before .key) d (p .entry ∷ p .later)
+unfolding link
+link-due b D p d e h l =
+    ap (λ t. cond t (firstSharing b D (p .before .key) d (p .entry ∷ p .later)) (cond (p .entry .owes && between (low p) (high b D p) d) 0 (settledLink b D p d)))
+    (ap (λ t. t && between (p .beforeDimension) (p .dimension) d) e ∙ between-is (p .beforeDimension) (p .dimension) d h l)
+
+-- from the dimension up, the settled link is not cut off
+pub settled-above : (b D : ℕ) (p : Place) (d : ℕ) → p .dimension ≤ d → settledLink b D p d ≡ firstSharing b D (p .entry .key) d (p .later)
+settled-above b D p d h = rw (le-leb (p .dimension) d h) refl
+
+-- Links as they are read.
+
+read-own : (ws : List ℕ) (x d : ℕ) → owedAt ws x ≡ 0 → linkRead ws x d ≡ linkAt ws x d
+unfolding linkRead
+read-own ws x d e = rw (eq-eqb (owedAt ws x) 0 e) refl
+
+read-outside : (ws : List ℕ) (x d : ℕ) → highAt ws x ≤ d → linkRead ws x d ≡ linkAt ws x d
+unfolding linkRead
+read-outside ws x d h =
+    ap (λ t. linkAt ws (cond t (owedAt ws x) x) d)
+    (ap (λ t. not (eqb (owedAt ws x) 0) && t) (between-not (lowAt ws x) (highAt ws x) d h) ∙ and-false (not (eqb (owedAt ws x) 0)))
+
+read-through : (ws : List ℕ) (x d : ℕ) → 0 < owedAt ws x → lowAt ws x ≤ d → d < highAt ws x → linkRead ws x d ≡ linkAt ws (owedAt ws x) d
+unfolding linkRead
+read-through ws x d o h l =
+    ap (λ t. linkAt ws (cond (not t && between (lowAt ws x) (highAt ws x) d) (owedAt ws x) x) d) (ne-eqb (owedAt ws x) 0 (λ e. omega arith))
+    ∙ ap (λ t. linkAt ws (cond t (owedAt ws x) x) d) (between-is (lowAt ws x) (highAt ws x) d h l)
+
+-- a cell that owes nothing
+link-read-free : (ws : List ℕ) (b D : ℕ) (p : Place) → Held ws b D p → p .entry .owes ≡ false → (d : ℕ) → p .dimension ≤ d → d < D →
+    linkRead ws (p .entry .cell) d ≡ settledLink b D p d
+link-read-free ws b D p held e d h l =
+    read-own ws (p .entry .cell) d (held .owed ∙ ap (λ t. cond t (firstOf (p .later) .cell) 0) e)
+    ∙ held .link d l
+    ∙ link-settled b D p d h (ap (λ t. t && between (low p) (high b D p) d) e)
+
+-- a cell that owes, with the next standing cell c
+link-read-owing : (ws : List ℕ) (b D : ℕ) (p : Place) (c : Entry) (later : List Entry) → p .later ≡ c ∷ later → Held ws b D p →
+    Held ws b D (record { entry = c; dimension = shared b D (p .entry .key) (c .key); before = p .entry; beforeDimension = p .dimension; later = later }) →
+    p .entry .owes ≡ true → 0 < c .cell → (d : ℕ) → p .dimension ≤ d → d < D → linkRead ws (p .entry .cell) d ≡ settledLink b D p d
+link-read-owing ws b D p c later is held next o pos d h l =
+    go (decLe (shared b D (p .entry .key) (c .key)) d)
+    (held .owed ∙ ap (λ t. cond t (firstOf (p .later) .cell) 0) o ∙ ap (λ r. firstOf r .cell) is)
+    (held .low ∙ ap (λ t. cond t (p .dimension) 0) o)
+    (ap (λ t. cond t (shared b D (p .entry .key) (firstOf (p .later) .key)) 0) o ∙ ap (λ r. shared b D (p .entry .key) (firstOf r .key)) is)
+  where
+    go : Dec (shared b D (p .entry .key) (c .key) ≤ d) → owedAt ws (p .entry .cell) ≡ c .cell → lowAt ws (p .entry .cell) ≡ p .dimension →
+        high b D p ≡ shared b D (p .entry .key) (c .key) → linkRead ws (p .entry .cell) d ≡ settledLink b D p d
+    go (yes m) is-owed is-low is-high =
+        let is-read = held .high in
+        read-outside ws (p .entry .cell) d (omega arith)
+        ∙ held .link d l
+        ∙ link-settled b D p d h (ap (λ t. p .entry .owes && t) (between-not (low p) (high b D p) d (omega arith)) ∙ and-false (p .entry .owes))
+    go (no m) is-owed is-low is-high =
+        let is-read = held .high in
+        read-through ws (p .entry .cell) d (omega arith) (omega arith) (omega arith)
+        ∙ ap (λ y. linkAt ws y d) is-owed
+        ∙ next .link d l
+        ∙ link-due b D (record { entry = c; dimension = shared b D (p .entry .key) (c .key); before = p .entry; beforeDimension = p .dimension; later = later })
+        d o h (omega arith)
+        ∙ ap (λ r. firstSharing b D (p .entry .key) d r) (sym is)
+        ∙ sym (settled-above b D p d h)
+
+-- "Where the cell owes and the link's number is at least low and below high, the link is read from the owed cell": it is the settled one.
+link-read-at : (ws : List ℕ) (b D : ℕ) (p : Place) → Held ws b D p → All (Held ws b D) (placesAfter b D (p .entry) (p .dimension) (p .later)) →
+    (p .entry .owes ≡ true → Debt b D p) → All (λ x. 0 < x .cell) (p .later) → (d : ℕ) → p .dimension ≤ d → d < D →
+    linkRead ws (p .entry .cell) d ≡ settledLink b D p d
+unfolding placesAfter
+link-read-at ws b D p held after debt pos d h l = go (p .entry .owes) refl (p .later) refl after pos
+  where
+    go : (t : Bool) → p .entry .owes ≡ t → (later : List Entry) → p .later ≡ later → All (Held ws b D) (placesAfter b D (p .entry) (p .dimension) later) →
+        All (λ x. 0 < x .cell) later → linkRead ws (p .entry .cell) d ≡ settledLink b D p d
+    go false o later is next pos = link-read-free ws b D p held o d h l
+    go true o [] is next pos = absurd (let m = debt o .later in let n = ap length is in omega arith)
+    go true o (c ∷ later) is next pos = link-read-owing ws b D p c later is held (next .0) o (pos .0) d h l
+
+-- what the walk reads of a standing cell
+pub record Read (ws : List ℕ) (b D : ℕ) (p : Place) : Type 0 where
+  pub coordinate : (d : ℕ) → d < D → coordinateAt ws (p .entry .cell) d ≡ coordinate b D (p .entry .key) d
+  pub link : (d : ℕ) → p .dimension ≤ d → d < D → linkRead ws (p .entry .cell) d ≡ settledLink b D p d
+
+module _ (ws : List ℕ) (b D : ℕ) where
+  reads-after : (a : Entry) (e : ℕ) (row : List Entry) → All (Held ws b D) (placesAfter b D a e row) →
+      All (λ n. n .entry .owes ≡ true → Debt b D n) (placesAfter b D a e row) → All (λ x. 0 < x .cell) row → All (Read ws b D) (placesAfter b D a e row)
+  unfolding placesAfter
+  reads-after a e [] held debts pos = tt
+  reads-after a e (x ∷ row) held debts pos = (
+    record { coordinate = held .0 .coordinate; link = link-read-at ws b D _ (held .0) (held .1) (debts .0) (pos .1) },
+    reads-after x (shared b D (a .key) (x .key)) row (held .1) (debts .1) (pos .1),
+  )
+
+  reads : (row : List Entry) → All (Held ws b D) (places b D row) → All (λ n. n .entry .owes ≡ true → Debt b D n) (places b D row) →
+      All (λ x. 0 < x .cell) row → All (Read ws b D) (places b D row)
+  unfolding places
+  reads row held debts pos = (
+    record { coordinate = held .0 .coordinate; link = link-read-at ws b D (headPlace row) (held .0) (held .1) (debts .0) pos },
+    reads-after headEntry 0 row (held .1) (debts .1) pos,
+  )
+
+module _ (s : State) (v : Sound s) where
+  pub places-read : All (Read (picture s) (s .settings .base) (s .settings .dimensions)) (places (s .settings .base) (s .settings .dimensions) (s .row))
+  places-read = reads (picture s) (s .settings .base) (s .settings .dimensions) (s .row) (places-held s v) (v .debts) (all-map (λ x h. h .0) (s .row) (row-cells s v))
+
+  pub key-read : All (λ p. keyAt (picture s) (p .entry .cell) ≡ p .entry .key) (places (s .settings .base) (s .settings .dimensions) (s .row))
+  key-read = all-map (λ p h. h .key) (places (s .settings .base) (s .settings .dimensions) (s .row)) (places-held s v)
+
+  pub coordinate-read : (d : ℕ) → d < s .settings .dimensions →
+      All (λ p. coordinateAt (picture s) (p .entry .cell) d ≡ coordinate (s .settings .base) (s .settings .dimensions) (p .entry .key) d)
+      (places (s .settings .base) (s .settings .dimensions) (s .row))
+  coordinate-read d l = all-map (λ p h. h .coordinate d l) (places (s .settings .base) (s .settings .dimensions) (s .row)) places-read
+
+  -- from a cell's dimension up (below it, a cell to which the one before owes still holds that one's links)
+  pub link-read : (d : ℕ) → d < s .settings .dimensions →
+      All (λ p. p .dimension ≤ d → linkRead (picture s) (p .entry .cell) d ≡ settledLink (s .settings .base) (s .settings .dimensions) p d)
+      (places (s .settings .base) (s .settings .dimensions) (s .row))
+  link-read d l = all-map (λ p r h. r .link d h l) (places (s .settings .base) (s .settings .dimensions) (s .row)) places-read
+
+  pub row-key-read : All (λ x. keyAt (picture s) (x .cell) ≡ x .key) (s .row)
+  unfolding places
+  row-key-read = entries-of-places (λ x. keyAt (picture s) (x .cell) ≡ x .key) (s .settings .base) (s .settings .dimensions) headEntry 0 (s .row) (key-read .1)
