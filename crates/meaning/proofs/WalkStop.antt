@@ -15,7 +15,8 @@ use Rattle.meaning.specs.Keys.{shared}
 use Rattle.meaning.specs.Row.{Entry, headEntry, firstSharing, Place, placesAfter, headPlace, places, placeOf, entryAt}
 use Rattle.meaning.specs.State.{State}
 use Rattle.meaning.specs.Picture.{picture}
-use Rattle.meaning.specs.Walk.{along, stepAt, after, walkFrom, walk, endsAfter, ends}
+use Rattle.meaning.specs.Walk.{along, stepAt, after, walkFrom, walk, endsAfter, ends, restAfter, restFrom, rest}
+use Rattle.meaning.specs.declared.Rest.{Rest}
 use Rattle.meaning.specs.declared.Step.{Step}
 use Rattle.meaning.specs.declared.Step.the-variants.{Go, Up, End}
 use Rattle.meaning.proofs.Order.{All, Asc, all-map, asc-above}
@@ -27,30 +28,6 @@ use Rattle.meaning.proofs.Places.{places-entries}
 use Rattle.meaning.proofs.RowWalk.{Next, Stop, next}
 use Rattle.meaning.proofs.WalkRead.{Read, dimensions-read, base-read}
 use Rattle.meaning.proofs.Walk.{Room, room-none, room-up, move-room, move-shares, along-go, StandingPlace, place-up, place-top, place-over, place-along, head-read, others-standing}
-
--- where the walk rests: the cell that its last move went from and the number of the link, the cell and the coordinate at hand, and the
--- number of cells gone to
-pub record Rest : Type 0 where
-  pub from : ℕ
-  pub number : ℕ
-  pub at : ℕ
-  pub coordinate : ℕ
-  pub looked : ℕ
-
--- where it rests after a step, if `onward` says so of the rest of the walk
-abbrev pub restAfter : (ℕ → ℕ → ℕ → ℕ → ℕ → Rest) → ℕ → ℕ → ℕ → ℕ → ℕ → Step → Rest
-restAfter onward from number x d n (Go y) = onward x d y d (suc n)
-restAfter onward from number x d n Up = onward from number x (suc d) n
-restAfter onward from number x d n End = record { from = from; number = number; at = x; coordinate = d; looked = n }
-
--- where the walk for k rests, from cell x and coordinate d, after n cells gone to, the last by link `number` of cell `from`; at the latest
--- after `fuel` steps
-unfoldable pub restFrom : ℕ → List ℕ → ℕ → ℕ → ℕ → ℕ → ℕ → ℕ → Rest
-restFrom zero ws k from number x d n = record { from = from; number = number; at = x; coordinate = d; looked = n }
-restFrom (suc fuel) ws k from number x d n = restAfter (restFrom fuel ws k) from number x d n (stepAt ws k x d)
-
-unfoldable pub rest : List ℕ → ℕ → Rest
-rest ws k = restFrom (getD ws 0 0 * getD ws 3 0) ws k 0 0 0 0 0
 
 pub rest-looked-from : (fuel : ℕ) (ws : List ℕ) (k from number x d n : ℕ) → restFrom fuel ws k from number x d n .looked ≡ n + length (walkFrom fuel ws k x d)
 unfolding restFrom walkFrom

@@ -7,6 +7,7 @@ use lib.ListN.{getD}
 use Rattle.settings.specs.Numbers.{headerWords, fieldsBeforeCoordinates, cellWords}
 use Rattle.meaning.specs.Keys.{coordinate}
 use Rattle.meaning.specs.Row.{between}
+use Rattle.meaning.specs.declared.Rest.{Rest}
 use Rattle.meaning.specs.declared.Step.{Step}
 use Rattle.meaning.specs.declared.Step.the-variants.{Go, Up, End}
 
@@ -85,3 +86,19 @@ ends (suc fuel) ws k x d = endsAfter (ends fuel ws k) x d (stepAt ws k x d)
 -- cell's digit there, so D times b steps are enough on a list.
 unfoldable pub walk : List ℕ → ℕ → List ℕ
 walk ws k = walkFrom (getD ws 0 0 * getD ws 3 0) ws k 0 0
+
+-- Where the walk rests after a step from cell x and coordinate d and n cells gone to, the last by link `number` of cell `from`, if
+-- `onward` says so of the rest of the walk.
+abbrev pub restAfter : (ℕ → ℕ → ℕ → ℕ → ℕ → Rest) → ℕ → ℕ → ℕ → ℕ → ℕ → Step → Rest
+restAfter onward from number x d n (Go y) = onward x d y d (suc n)
+restAfter onward from number x d n Up = onward from number x (suc d) n
+restAfter onward from number x d n End = record { from = from; number = number; at = x; coordinate = d; looked = n }
+
+-- the same, at the latest after `fuel` steps
+unfoldable pub restFrom : ℕ → List ℕ → ℕ → ℕ → ℕ → ℕ → ℕ → ℕ → Rest
+restFrom zero ws k from number x d n = record { from = from; number = number; at = x; coordinate = d; looked = n }
+restFrom (suc fuel) ws k from number x d n = restAfter (restFrom fuel ws k) from number x d n (stepAt ws k x d)
+
+-- where the walk for k comes to rest
+unfoldable pub rest : List ℕ → ℕ → Rest
+rest ws k = restFrom (getD ws 0 0 * getD ws 3 0) ws k 0 0 0 0 0

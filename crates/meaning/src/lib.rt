@@ -1,4 +1,5 @@
-// The types that the definitions of document 01 and the code share: what a call answers, and one step of the walk.
+// The types that the definitions of document 01 and the code share: what a call answers, one step of the walk, and where it
+// comes to rest.
 ghost use mathlib.Core.Path.{_≡_};
 ghost use Rattle.meaning.specs.Refusals.{answer};
 
@@ -16,6 +17,16 @@ pub enum Step {
     Go(u32),
     Up,
     End,
+}
+
+// Where the walk comes to rest: the cell that its last move went from and the number of that link, the cell and the coordinate at hand,
+// and how many cells it has gone to.
+pub struct Rest {
+    pub from: u32,
+    pub number: u32,
+    pub at: u32,
+    pub coordinate: u32,
+    pub looked: u32,
 }
 
 // A refusal that answers its number alone.
