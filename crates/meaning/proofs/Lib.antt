@@ -20,3 +20,11 @@ pub mod KeepsSetUp
 pub mod KeepsFinish
 pub mod KeepsTake
 pub mod KeepsSweep
+pub mod Parent
+pub mod Slot
+pub mod KeepsInsert
+pub mod SentencesNumbers
+pub mod SentencesRow
+pub mod SentencesCells
+pub mod SentencesShape
+pub mod Sentences

@@ -1,0 +1,493 @@
+-- Inserting keeps a state in order. The position stays or becomes the parent of the key's cell; either way its key is then below the
+-- inserted one and not above the old position's, and up to there all are dead. Of debts, a new entry can touch that of the entry
+-- before it, which then is its parent, and, by a new dimension, that of the next larger entry, which then has the slot: the two that
+-- an insert finishes.
+use mathlib.Core.Path.{_≡_, refl, _∙_, sym, ap, ap₂, subst, subst₂}
+use mathlib.Core.Bool.{Bool, true, false, cond, not}
+use mathlib.Core.List.{List, [], _∷_, _++_, map, map-append}
+use mathlib.Core.Option.{none, some}
+use Prim.Native.Nat.{ℕ, suc, _≤_, _<_}
+use native.Mathlib.Omega.{arith}
+use native.Mathlib.Decide.{ℕ-discrete, decLe}
+use lib.Dec.{eqb, leb, ltb}
+use lib.ListN.{length, drop, length-append, length-map}
+use borrow.Author.Tests.{eq-eqb, ne-eqb, le-leb, lt-leb, ltb-true, eqb-false, not-true}
+use Rattle.meaning.specs.Keys.{shared}
+use Rattle.meaning.specs.Row.{Entry, headEntry, firstOf, placesAfter, places, entryAt}
+use Rattle.meaning.specs.State.{State, keyOf, occurrences, positionKey}
+use Rattle.meaning.specs.Operations.{paid, finished, withRow, parentIn, positionAfter, revivedEntry, revived, Slot, newEntry, slotFor, slotOwes, added}
+use Rattle.meaning.proofs.Order.{All, Asc, both, all-map, all-left, all-right, all-append}
+use Rattle.meaning.proofs.Keys.{shared-less, ultra}
+use Rattle.meaning.proofs.State.{Sound, Debt, cellsIn, base-positive}
+use Rattle.meaning.proofs.Cells.{all-zip, occurrences-here}
+use Rattle.meaning.proofs.Places.{all-mapped, occurrences-append, occurrences-more, none-occurs, asc-left, lastFrom, dimensionFrom, Keeping, cells-changed, keyOf-head-changed, asc-changed, firstOf-changed, onCell, onCell-cases, onCell-keeping}
+use Rattle.meaning.proofs.Keeps.{changed-sound}
+use Rattle.meaning.proofs.KeepsFinish.{paid-keeping, finished-sound}
+use Rattle.meaning.proofs.Parent.{dimensionAfter, parentAfter, placesFrom, Without, Apart, all-last, asc-last, apart-left, apart-at, first-among, first-key, last-shares, last-first, parent-is}
+use Rattle.meaning.proofs.Slot.{Gap, gap, put-gap, asc-put, apart-put, sound-apart, free-apart, first-free, first-free-all, dimensions-positive, slotCell, SlotIs, slot-is, without-changed, apart-changed, gap-changed, last-changed, parent-changed}
+
+-- The position
+
+-- a cell that can be the position after a key was inserted: standing, below the key and not above the old position
+pub record Lowered (s : State) (key c : ℕ) (row : List Entry) : Type 0 where
+  pub stands : 0 < occurrences c (0 ∷ map (λ x. x .cell) row)
+  pub below : keyOf c (headEntry ∷ row) < key
+  pub least : keyOf c (headEntry ∷ row) ≤ positionKey s
+
+all-stand : (row : List Entry) → All (λ z. 0 < occurrences (z .cell) (map (λ x. x .cell) row)) row
+all-stand [] = tt
+all-stand (x ∷ row) = (
+  omega (arith, occurrences-here (x .cell) (x .cell) (map (λ y. y .cell) row) refl),
+  all-map (λ z h. let m = occurrences-more (z .cell) (x .cell) (map (λ y. y .cell) row) in omega arith) row (all-stand row),
+)
+
+module _ (s : State) (pos : 0 < s .settings .base) (deep : 0 < s .settings .dimensions) (pre : List Entry) (x : Entry) (post : List Entry) (a : Asc 0 (pre ++ x ∷ post)) (o : Apart (headEntry ∷ (pre ++ x ∷ post))) where
+  parent-lowers : x .key ≤ positionKey s → Lowered s (x .key) (parentAfter (s .settings .base) (s .settings .dimensions) headEntry pre (x .key)) (pre ++ x ∷ post)
+  parent-lowers h =
+      let b = s .settings .base in
+      let D = s .settings .dimensions in
+      let A = lastFrom headEntry pre in
+      let row = pre ++ x ∷ post in
+      let n = suc (dimensionAfter b D headEntry pre (x .key)) in
+      let l = last-shares b D deep headEntry pre x post a in
+      let k = first-key b D (A .key) n headEntry pre (x ∷ post) (asc-left 0 pre (x ∷ post) a) (apart-left (headEntry ∷ pre) (x ∷ post) o) l in
+      let m = asc-last headEntry pre (x ∷ post) a .0 in
+      let all = all-stand (headEntry ∷ row) in
+      record {
+        stands = first-among b D (λ c. 0 < occurrences c (map (λ y. y .cell) (headEntry ∷ row))) (A .key) n headEntry pre l (all .0) (all-left (λ z. 0 < occurrences (z .cell) (map (λ y. y .cell) (headEntry ∷ row))) pre (x ∷ post) (all .1));
+        below = omega arith;
+        least = omega arith;
+      }
+
+  -- the position after the call, where the old one stands, and with its old key
+  position-lowers :
+      0 < occurrences (s .position) (0 ∷ map (λ y. y .cell) (pre ++ x ∷ post)) → keyOf (s .position) (headEntry ∷ (pre ++ x ∷ post)) ≡ positionKey s →
+      Lowered s (x .key) (positionAfter s (x .key) (x .cell) (pre ++ x ∷ post)) (pre ++ x ∷ post)
+  unfolding positionAfter
+  position-lowers stands same = at (decLe (x .key) (positionKey s))
+    where
+      at : Dec (x .key ≤ positionKey s) → Lowered s (x .key) (cond (leb (x .key) (positionKey s)) (parentIn s (x .cell) (pre ++ x ∷ post)) (s .position)) (pre ++ x ∷ post)
+      at (yes h) = rw (le-leb (x .key) (positionKey s) h, parent-is s pre x post pos deep a o) (parent-lowers h)
+      at (no h) =
+          let l : positionKey s < x .key = omega arith in
+          rw (lt-leb (x .key) (positionKey s) l) (record { stands = stands; below = omega arith; least = omega arith })
+
+-- A dead standing key
+
+-- the entry with a key stands between two parts
+pub entry-split : (key : ℕ) (x : Entry) (row : List Entry) → entryAt key row ≡ some x → (pre : List Entry) × (post : List Entry) × (row ≡ pre ++ x ∷ post)
+unfolding entryAt
+entry-split key x [] e = absurd (let z : _≡_ {A = ℕ} 0 1 = cc in omega arith)
+entry-split key x (y ∷ row) e = at (ℕ-discrete (y .key) key) e (entry-split key x row)
+  where
+    Split : List Entry → Type 0
+    Split r = (pre : List Entry) × (post : List Entry) × (r ≡ pre ++ x ∷ post)
+
+    at : Dec (y .key ≡ key) → cond (eqb (y .key) key) (some y) (entryAt key row) ≡ some x → (entryAt key row ≡ some x → Split row) → Split (y ∷ row)
+    at (yes h) q ih = ([], row, (let r : some y ≡ some x = rw (eq-eqb (y .key) key h) at q in let same : y ≡ x = cc in ap {B = List Entry} (λ z. z ∷ row) same))
+    at (no h) q ih = let t = ih (rw (ne-eqb (y .key) key h) at q) in (y ∷ t .0, t .1, ap {B = List Entry} (λ r. y ∷ r) (t .2))
+
+module _ (s : State) (x : Entry) (value : ℕ) (v : Sound s) (pre post : List Entry) (split : s .row ≡ pre ++ x ∷ post) where
+  abbrev revive : Entry → Entry
+  revive = onCell (x .cell) (revivedEntry value)
+
+  alone : Without (x .cell) (headEntry ∷ (pre ++ post))
+  alone = apart-at headEntry pre x post (subst (λ r. Apart (headEntry ∷ r)) split (sound-apart s v))
+
+  -- only x has its cell
+  same-cell : All (λ y. y .cell ≡ x .cell → y .key ≡ x .key) (s .row)
+  same-cell =
+      subst (All (λ y. y .cell ≡ x .cell → y .key ≡ x .key)) (sym split)
+      (all-append (λ y. y .cell ≡ x .cell → y .key ≡ x .key) pre (x ∷ post)
+      (all-map (λ y n h. absurd (n h)) pre (all-left (λ y. y .cell ≡ x .cell → ⊥) pre post (alone .1)))
+      (λ h. refl, all-map (λ y n h. absurd (n h)) post (all-right (λ y. y .cell ≡ x .cell → ⊥) pre post (alone .1))))
+
+  pub revived-keeping : Keeping (onCell (x .cell) (revivedEntry value))
+  revived-keeping = onCell-keeping (x .cell) (revivedEntry value) (λ y. refl) (λ y. refl) (λ z. absurd (alone .0 z))
+
+  revived-row : map revive (s .row) ≡ map revive pre ++ revive x ∷ map revive post
+  revived-row = ap (map revive) split ∙ map-append revive pre (x ∷ post)
+
+  revived-ascends : Asc 0 (map revive pre ++ revive x ∷ map revive post)
+  revived-ascends = subst (Asc 0) revived-row (asc-changed revive revived-keeping 0 (s .row) (v .ascends))
+
+  revived-apart : Apart (headEntry ∷ (map revive pre ++ revive x ∷ map revive post))
+  revived-apart =
+      let o = sound-apart s v in
+      subst (λ r. Apart (headEntry ∷ r)) revived-row (without-changed revive revived-keeping 0 (s .row) (o .0), apart-changed revive revived-keeping (s .row) (o .1))
+
+  revived-lowered : Lowered s (x .key) (positionAfter s (x .key) (x .cell) (map revive (s .row))) (map revive (s .row))
+  revived-lowered =
+      subst (λ r. Lowered s (x .key) (positionAfter s (x .key) (x .cell) r) r) (sym revived-row)
+      (subst₂ (λ i c. Lowered s i (positionAfter s i c (map revive pre ++ revive x ∷ map revive post)) (map revive pre ++ revive x ∷ map revive post)) (revived-keeping .key x) (revived-keeping .cell x)
+      (position-lowers s (base-positive s v) (dimensions-positive s v) (map revive pre) (revive x) (map revive post) revived-ascends revived-apart
+      (subst (λ r. 0 < occurrences (s .position) (0 ∷ map (λ y. y .cell) r)) revived-row (subst (λ cs. 0 < occurrences (s .position) (0 ∷ cs)) (sym (cells-changed revive revived-keeping (s .row))) (v .position)))
+      (ap (λ r. keyOf (s .position) (headEntry ∷ r)) (sym revived-row) ∙ keyOf-head-changed revive revived-keeping (s .position) (s .row))))
+
+  revived-sound-at : Sound (revived s x value)
+  unfolding revived
+  revived-sound-at =
+      let p = positionAfter s (x .key) (x .cell) (map revive (s .row)) in
+      let same = keyOf-head-changed revive revived-keeping p (s .row) in
+      let below = revived-lowered .below in
+      let least = revived-lowered .least in
+      changed-sound s revive p v revived-keeping
+      (λ y h. onCell-cases (λ z. z .owes ≡ false) (x .cell) (revivedEntry value) y (λ here. h) (λ other. h))
+      (all-map (λ y h. onCell-cases (λ z. z .live ≡ false → z .value ≡ 0) (x .cell) (revivedEntry value) y (λ here l. absurd (let z : _≡_ {A = ℕ} 0 1 = cc in omega arith)) (λ other. h)) (s .row) (v .values))
+      (subst (λ cs. 0 < occurrences p (0 ∷ cs)) (cells-changed revive revived-keeping (s .row)) (revived-lowered .stands))
+      (all-zip (λ y only dead l. onCell-cases (λ z. z .live ≡ false) (x .cell) (revivedEntry value) y (λ here. absurd (let q = only here in omega arith)) (λ other. dead (omega arith))) (s .row) same-cell (v .dead))
+
+  -- the parent is that of the settled shape before the call
+  pub revived-parent : parentIn s (x .cell) (map (onCell (x .cell) (revivedEntry value)) (s .row)) ≡ parentAfter (s .settings .base) (s .settings .dimensions) headEntry pre (x .key)
+  revived-parent =
+      let b = s .settings .base in
+      let D = s .settings .dimensions in
+      ap₂ (parentIn s) (sym (revived-keeping .cell x)) revived-row
+      ∙ parent-is s (map revive pre) (revive x) (map revive post) (base-positive s v) (dimensions-positive s v) revived-ascends revived-apart
+      ∙ ap (parentAfter b D headEntry (map revive pre)) (revived-keeping .key x)
+      ∙ parent-changed revive revived-keeping b D pre (x .key)
+
+pub revived-sound : (s : State) (x : Entry) (value : ℕ) → Sound s → entryAt (x .key) (s .row) ≡ some x → x .live ≡ false → Sound (revived s x value)
+revived-sound s x value v e dead = let t = entry-split (x .key) x (s .row) e in revived-sound-at s x value v (t .0) (t .1) (t .2)
+
+-- A new entry
+
+-- a cell goes from the free ones to the standing ones
+moved-all : (P : ℕ → Type 0) (front back : List ℕ) (c : ℕ) (free : List ℕ) → All P ((front ++ back) ++ (c ∷ free)) → All P ((front ++ c ∷ back) ++ free)
+moved-all P front back c free a =
+    let standing = all-left P (front ++ back) (c ∷ free) a in
+    let rest = all-right P (front ++ back) (c ∷ free) a in
+    all-append P (front ++ c ∷ back) free (all-append P front (c ∷ back) (all-left P front back standing) (rest .0, all-right P front back standing)) (rest .1)
+
+moved-occurrences : (n : ℕ) (front back : List ℕ) (c : ℕ) (free : List ℕ) → occurrences n ((front ++ c ∷ back) ++ free) ≡ occurrences n ((front ++ back) ++ (c ∷ free))
+moved-occurrences n front back c free =
+    omega (arith, occurrences-append n (front ++ c ∷ back) free, occurrences-append n front (c ∷ back), occurrences-append n (c ∷ []) back, occurrences-append n (front ++ back) (c ∷ free), occurrences-append n front back, occurrences-append n (c ∷ []) free)
+
+moved-length : (front back : List ℕ) (c : ℕ) (free : List ℕ) → length ((front ++ c ∷ back) ++ free) ≡ length ((front ++ back) ++ (c ∷ free))
+moved-length front back c free =
+    omega (arith, length-append (front ++ c ∷ back) free, length-append front (c ∷ back), length-append (front ++ back) (c ∷ free), length-append front back)
+
+module _ (b D : ℕ) where
+  abbrev Allowed : List Entry → Entry → ℕ → Type 0
+  Allowed row y e = All (λ n. n .entry .owes ≡ true → Debt b D n) (placesAfter b D y e row)
+
+  -- a debt does not depend on the dimension of the entry before
+  debts-any : (y : Entry) (e f : ℕ) (row : List Entry) → Allowed row y e → Allowed row y f
+  unfolding placesAfter
+  debts-any y e f [] a = tt
+  debts-any y e f (x ∷ row) a = (λ h. let d = a .0 h in record { later = d .later; unowing = d .unowing; lower = d .lower }, a .1)
+
+  -- nor, but for the next larger entry's, on what comes before
+  debts-behind : (y x : Entry) (e f : ℕ) (post : List Entry) → (firstOf post .owes ≡ true → shared b D (y .key) (firstOf post .key) ≡ shared b D (x .key) (firstOf post .key)) → Allowed post y e → Allowed post x f
+  unfolding placesAfter
+  debts-behind y x e f [] same a = tt
+  debts-behind y x e f (z ∷ post) same a = (
+    λ h. let d = a .0 h in record { later = d .later; unowing = d .unowing; lower = subst (λ i. i < shared b D (z .key) (firstOf post .key)) (same h) (d .lower) },
+    debts-any z (shared b D (y .key) (z .key)) (shared b D (x .key) (z .key)) post (a .1),
+  )
+
+  -- Debts stay allowed where a new entry x comes after one that does not owe, if the debt of x is allowed and the next larger entry,
+  -- if it owes, shares as much with x as with the one before.
+  debts-put :
+      (w : Entry) (f : ℕ) (y : Entry) (e : ℕ) (pre : List Entry) (x : Entry) (post : List Entry) → lastFrom y pre .owes ≡ false →
+      (x .owes ≡ true → Debt b D (record { entry = x; dimension = dimensionAfter b D y pre (x .key); before = lastFrom y pre; beforeDimension = dimensionFrom b D y e pre; later = post })) →
+      (firstOf post .owes ≡ true → dimensionAfter b D y pre (firstOf post .key) ≡ shared b D (x .key) (firstOf post .key)) →
+      All (λ n. n .entry .owes ≡ true → Debt b D n) (placesFrom b D w f y e (pre ++ post)) → All (λ n. n .entry .owes ≡ true → Debt b D n) (placesFrom b D w f y e (pre ++ x ∷ post))
+  unfolding placesAfter lastFrom dimensionFrom
+  debts-put w f y e [] x post un own same a = (λ h. absurd (let z : _≡_ {A = ℕ} 0 1 = cc in omega arith), (own, debts-behind y x e (shared b D (y .key) (x .key)) post same (a .1)))
+  debts-put w f y e (z ∷ pre) x post un own same a = (λ h. let d = a .0 h in record { later = omega arith; unowing = d .unowing; lower = d .lower }, debts-put y e z (shared b D (y .key) (z .key)) pre x post un own same (a .1))
+
+-- a state in order with an entry more, in the first free cell, and another position
+pub put-sound :
+    (s : State) (x : Entry) (free : List ℕ) (p : ℕ) → Sound s → 0 < x .key → x .key ≤ s .settings .largest → (g : Gap (x .key) (s .row)) → s .free ≡ x .cell ∷ free →
+    (x .live ≡ false → x .value ≡ 0) → lastFrom headEntry (g .pre) .owes ≡ false →
+    (x .owes ≡ true → Debt (s .settings .base) (s .settings .dimensions) (record { entry = x; dimension = dimensionAfter (s .settings .base) (s .settings .dimensions) headEntry (g .pre) (x .key); before = lastFrom headEntry (g .pre); beforeDimension = dimensionFrom (s .settings .base) (s .settings .dimensions) headEntry 0 (g .pre); later = g .post })) →
+    (firstOf (g .post) .owes ≡ true → dimensionAfter (s .settings .base) (s .settings .dimensions) headEntry (g .pre) (firstOf (g .post) .key) ≡ shared (s .settings .base) (s .settings .dimensions) (x .key) (firstOf (g .post) .key)) →
+    Lowered s (x .key) p (g .pre ++ x ∷ g .post) → Sound (record { settings = s .settings; row = g .pre ++ x ∷ g .post; free = free; position = p })
+unfolding places
+put-sound s x free p v h most g first value un own same lowered =
+    record {
+      dimensions-least = v .dimensions-least;
+      dimensions-most = v .dimensions-most;
+      largest-least = v .largest-least;
+      largest-most = v .largest-most;
+      cells-least = v .cells-least;
+      cells-most = v .cells-most;
+      base = v .base;
+      ascends = asc-put 0 x pre post h (subst (Asc 0) (g .splits) (v .ascends)) (g .below) (g .above);
+      keys = entries (λ y. y .key ≤ s .settings .largest) most (v .keys);
+      count = ap length new ∙ moved-length front back (x .cell) free ∙ sym (ap length old) ∙ v .count;
+      range = subst (All Range) (sym new) (moved-all Range front back (x .cell) free (subst (All Range) old (v .range)));
+      once =
+          subst (λ cs. All (λ c. occurrences c cs ≡ 1) cs) (sym new)
+          (all-map (λ c e. moved-occurrences c front back (x .cell) free ∙ e) ((front ++ x .cell ∷ back) ++ free)
+          (moved-all (λ c. occurrences c ((front ++ back) ++ (x .cell ∷ free)) ≡ 1) front back (x .cell) free
+          (subst (λ cs. All (λ c. occurrences c cs ≡ 1) cs) old (v .once))));
+      values = entries (λ y. y .live ≡ false → y .value ≡ 0) value (v .values);
+      debts = debts-put b D headEntry 0 headEntry 0 pre x post un own same (subst (λ r. All (λ n. n .entry .owes ≡ true → Debt b D n) (places b D r)) (g .splits) (v .debts));
+      position = lowered .stands;
+      dead =
+          entries (λ y. y .key ≤ keyOf p (headEntry ∷ (pre ++ x ∷ post)) → y .live ≡ false) (λ l. absurd (let k = lowered .below in omega arith))
+          (all-map (λ y dead l. dead (let k = lowered .least in omega arith)) (s .row) (v .dead));
+    }
+  where
+    b : ℕ
+    b = s .settings .base
+
+    D : ℕ
+    D = s .settings .dimensions
+
+    pre : List Entry
+    pre = g .pre
+
+    post : List Entry
+    post = g .post
+
+    Range : ℕ → Type 0
+    Range c = (0 < c) × (c < s .settings .cells)
+
+    front : List ℕ
+    front = map (λ y. y .cell) pre
+
+    back : List ℕ
+    back = map (λ y. y .cell) post
+
+    old : cellsIn s ≡ (front ++ back) ++ (x .cell ∷ free)
+    old = ap₂ (λ r cs. map (λ y. y .cell) r ++ cs) (g .splits) first ∙ ap (λ cs. cs ++ (x .cell ∷ free)) (map-append (λ y. y .cell) pre post)
+
+    new : map (λ y. y .cell) (pre ++ x ∷ post) ++ free ≡ (front ++ x .cell ∷ back) ++ free
+    new = ap (λ cs. cs ++ free) (map-append (λ y. y .cell) pre (x ∷ post))
+
+    entries : (P : Entry → Type 0) → P x → All P (s .row) → All P (pre ++ x ∷ post)
+    entries P q a = let c = subst (All P) (g .splits) a in all-append P pre (x ∷ post) (all-left P pre post c) (q, all-right P pre post c)
+
+-- What the slot says of the next larger entry
+
+first-above : (key : ℕ) (post : List Entry) → 0 < length post → All (λ y. key < y .key) post → key < firstOf post .key
+first-above key [] h a = absurd (omega arith)
+first-above key (x ∷ post) h a = a .0
+
+first-owes : (post : List Entry) → firstOf post .owes ≡ true → 0 < length post
+first-owes [] h = absurd (let z : _≡_ {A = ℕ} 0 1 = cc in omega arith)
+first-owes (x ∷ post) h = omega arith
+
+-- it has the slot
+pub slot-first : (b D key p : ℕ) (post : List Entry) → (slotCell b D key p post ≡ 0 → ⊥) → (0 < length post) × (slotCell b D key p post ≡ firstOf post .cell)
+slot-first b D key p [] n = absurd (n refl)
+slot-first b D key p (x ∷ post) n = at (decLe p (shared b D key (x .key))) n
+  where
+    at : Dec (p ≤ shared b D key (x .key)) → (cond (leb p (shared b D key (x .key))) (x .cell) 0 ≡ 0 → ⊥) → (0 < length (x ∷ post)) × (cond (leb p (shared b D key (x .key))) (x .cell) 0 ≡ x .cell)
+    at (yes h) m = (omega arith, rw (le-leb p (shared b D key (x .key)) h) refl)
+    at (no h) m = absurd (m (rw (lt-leb p (shared b D key (x .key)) (omega arith)) refl))
+
+-- or it shares less with the key
+pub slot-not-first : (b D key p : ℕ) (post : List Entry) → 0 < length post → (firstOf post .cell ≡ slotCell b D key p post → ⊥) → shared b D key (firstOf post .key) < p
+slot-not-first b D key p [] h n = absurd (omega arith)
+slot-not-first b D key p (x ∷ post) h n = at (decLe p (shared b D key (x .key))) n
+  where
+    at : Dec (p ≤ shared b D key (x .key)) → (x .cell ≡ cond (leb p (shared b D key (x .key))) (x .cell) 0 → ⊥) → shared b D key (x .key) < p
+    at (yes q) m = absurd (m (rw (le-leb p (shared b D key (x .key)) q) refl))
+    at (no q) m = omega arith
+
+-- The entry before a new key
+
+debt-last :
+    (b D : ℕ) (w : Entry) (f : ℕ) (y : Entry) (e : ℕ) (pre post : List Entry) → All (λ n. n .entry .owes ≡ true → Debt b D n) (placesFrom b D w f y e (pre ++ post)) →
+    lastFrom y pre .owes ≡ true → (0 < length post) × (dimensionFrom b D y e pre < dimensionAfter b D y pre (firstOf post .key))
+unfolding placesAfter lastFrom dimensionFrom
+debt-last b D w f y e [] post a h = let d = a .0 h in (d .later, d .lower)
+debt-last b D w f y e (z ∷ pre) post a h = debt-last b D y e z (shared b D (y .key) (z .key)) pre post (a .1) h
+
+-- If it owes, it is the key's parent: its dimension is below what it shares with the next larger entry, and that is no more than what
+-- it shares with the key.
+pub owing-parent :
+    (s : State) → Sound s → (key : ℕ) → 0 < key → (g : Gap key (s .row)) → lastFrom headEntry (g .pre) .owes ≡ true →
+    parentAfter (s .settings .base) (s .settings .dimensions) headEntry (g .pre) key ≡ lastFrom headEntry (g .pre) .cell
+unfolding places
+owing-parent s v key h g owes =
+    let b = s .settings .base in
+    let D = s .settings .dimensions in
+    let A = lastFrom headEntry (g .pre) in
+    let t = debt-last b D headEntry 0 headEntry 0 (g .pre) (g .post) (subst (λ r. All (λ n. n .entry .owes ≡ true → Debt b D n) (places b D r)) (g .splits) (v .debts)) owes in
+    let low : A .key < key = all-last (λ z. z .key < key) headEntry (g .pre) h (g .below) in
+    let high = first-above key (g .post) (t .0) (g .above) in
+    let u = ultra b D (A .key) key (firstOf (g .post) .key) (base-positive s v) (omega arith) (omega arith) in
+    let l = t .1 in
+    let m = shared-less b D (A .key) key (dimensions-positive s v) (omega arith) in
+    last-first b D (base-positive s v) (dimensions-positive s v) (shared b D (A .key) key) headEntry 0 (g .pre) (asc-left 0 (g .pre) (g .post) (subst (Asc 0) (g .splits) (v .ascends))) m (omega arith)
+
+-- The row with one entry more
+
+keyOf-put : (c : ℕ) (x : Entry) (pre post : List Entry) → (x .cell ≡ c → ⊥) → keyOf c (pre ++ x ∷ post) ≡ keyOf c (pre ++ post)
+unfolding keyOf
+keyOf-put c x [] post n = rw (ne-eqb (x .cell) c n) refl
+keyOf-put c x (y ∷ pre) post n = ap (cond (eqb (y .cell) c) (y .key)) (keyOf-put c x pre post n)
+
+occurrences-put : (c : ℕ) (x : Entry) (pre post : List Entry) → occurrences c (map (λ y. y .cell) (pre ++ post)) ≤ occurrences c (map (λ y. y .cell) (pre ++ x ∷ post))
+occurrences-put c x pre post =
+    let front = map (λ y. y .cell) pre in
+    let back = map (λ y. y .cell) post in
+    let old = ap (occurrences c) (map-append (λ y. y .cell) pre post) ∙ occurrences-append c front back in
+    let new = ap (occurrences c) (map-append (λ y. y .cell) pre (x ∷ post)) ∙ occurrences-append c front (x .cell ∷ back) in
+    let more = occurrences-more c (x .cell) back in
+    omega arith
+
+-- A key that does not stand
+
+-- what still owes owed before and was not finished
+pub paid-owes : (c : ℕ) (x : Entry) → onCell c paid x .owes ≡ true → (x .owes ≡ true) × (x .cell ≡ c → ⊥)
+paid-owes c x = onCell-cases (λ y. y .owes ≡ true → (x .owes ≡ true) × (x .cell ≡ c → ⊥)) c paid x (λ here h. absurd (let z : _≡_ {A = ℕ} 0 1 = cc in omega arith)) (λ other h. (h, other))
+
+module _ (s : State) (v : Sound s) (key value : ℕ) (positive : 0 < key) (g : Gap key (s .row)) (f : 0 < length (s .free)) (t : Slot) (i : SlotIs s key (g .pre) (g .post) t) where
+  abbrev b : ℕ
+  b = s .settings .base
+
+  abbrev D : ℕ
+  D = s .settings .dimensions
+
+  abbrev x : Entry
+  x = newEntry (t .n) key value (slotOwes t)
+
+  -- the state before x is put into it: what the parent and c owe is finished
+  abbrev settled : State
+  settled = withRow (withRow s (finished (t .parent) (s .row))) (finished (t .c) (finished (t .parent) (s .row)))
+
+  settled-sound : Sound settled
+  settled-sound = finished-sound (withRow s (finished (t .parent) (s .row))) (t .c) (finished-sound s (t .parent) v)
+
+  abbrev pay : Entry → Entry
+  pay y = onCell (t .c) paid (onCell (t .parent) paid y)
+
+  abbrev front : List Entry
+  front = finished (t .c) (finished (t .parent) (g .pre))
+
+  abbrev back : List Entry
+  back = finished (t .c) (finished (t .parent) (g .post))
+
+  -- the gap in its row: front and back
+  settled-gap : Gap key (settled .row)
+  unfolding finished gap-changed
+  settled-gap = gap-changed (onCell (t .c) paid) (paid-keeping (t .c)) key (finished (t .parent) (s .row)) (gap-changed (onCell (t .parent) paid) (paid-keeping (t .parent)) key (s .row) g)
+
+  pay-key : (y : Entry) → pay y .key ≡ y .key
+  pay-key y = paid-keeping (t .c) .key (onCell (t .parent) paid y) ∙ paid-keeping (t .parent) .key y
+
+  last-paid : lastFrom headEntry front ≡ pay (lastFrom headEntry (g .pre))
+  unfolding finished
+  last-paid = last-changed (onCell (t .c) paid) (paid-keeping (t .c)) (finished (t .parent) (g .pre)) ∙ ap (onCell (t .c) paid) (last-changed (onCell (t .parent) paid) (paid-keeping (t .parent)) (g .pre))
+
+  next-paid : firstOf back ≡ pay (firstOf (g .post))
+  unfolding finished
+  next-paid = firstOf-changed (onCell (t .c) paid) (paid-keeping (t .c)) (finished (t .parent) (g .post)) ∙ ap (onCell (t .c) paid) (firstOf-changed (onCell (t .parent) paid) (paid-keeping (t .parent)) (g .post))
+
+  last-key : lastFrom headEntry front .key ≡ lastFrom headEntry (g .pre) .key
+  last-key = ap (λ y. y .key) last-paid ∙ pay-key (lastFrom headEntry (g .pre))
+
+  next-key : firstOf back .key ≡ firstOf (g .post) .key
+  next-key = ap (λ y. y .key) next-paid ∙ pay-key (firstOf (g .post))
+
+  -- if the entry before x owed, it is the parent, whose debt is finished
+  last-unowing : lastFrom headEntry front .owes ≡ false
+  last-unowing = ap (λ y. y .owes) last-paid ∙ at (pay (lastFrom headEntry (g .pre)) .owes) refl
+    where
+      at : (o : Bool) → pay (lastFrom headEntry (g .pre)) .owes ≡ o → o ≡ false
+      at false e = refl
+      at true e =
+          let p = paid-owes (t .parent) (lastFrom headEntry (g .pre)) (paid-owes (t .c) (onCell (t .parent) paid (lastFrom headEntry (g .pre))) e .0) in
+          absurd (p .1 (sym (i .parent-is ∙ owing-parent s v key positive g (p .0))))
+
+  -- x owes to c, whose debt is finished
+  new-debt : x .owes ≡ true → Debt b D (record { entry = x; dimension = dimensionAfter b D headEntry front key; before = lastFrom headEntry front; beforeDimension = dimensionFrom b D headEntry 0 front; later = back })
+  unfolding finished
+  new-debt owes =
+      let two = both (not (eqb (t .c) 0)) (ltb (t .p) (t .q)) owes in
+      let held : t .c ≡ 0 → ⊥ = eqb-false (t .c) 0 (not-true (eqb (t .c) 0) (two .0)) in
+      let less = ltb-true (t .p) (t .q) (two .1) in
+      let next = slot-first b D key (dimensionAfter b D headEntry (g .pre) key) (g .post) (λ e. held (i .c-is ∙ e)) in
+      let here : onCell (t .parent) paid (firstOf (g .post)) .cell ≡ t .c = paid-keeping (t .parent) .cell (firstOf (g .post)) ∙ sym (i .c-is ∙ next .1) in
+      record {
+        later = rw (length-map (map (onCell (t .parent) paid) (g .post)) (onCell (t .c) paid), length-map (g .post) (onCell (t .parent) paid)) (next .0);
+        unowing = ap (λ y. y .owes) next-paid ∙ onCell-cases (λ y. y .owes ≡ false) (t .c) paid (onCell (t .parent) paid (firstOf (g .post))) (λ e. refl) (λ other. absurd (other here));
+        lower = subst₂ (λ m n. shared b D m key < shared b D key n) (sym last-key) (sym next-key) (subst₂ (λ m n. m < n) (i .p-is) (i .q-is held) less);
+      }
+
+  -- if the next larger entry still owes, it does not have the slot, and its dimension stays
+  next-same : firstOf back .owes ≡ true → dimensionAfter b D headEntry front (firstOf back .key) ≡ shared b D key (firstOf back .key)
+  next-same owes =
+      let c = paid-owes (t .c) (onCell (t .parent) paid (firstOf (g .post))) (sym (ap (λ y. y .owes) next-paid) ∙ owes) in
+      let stands = first-owes (g .post) (paid-owes (t .parent) (firstOf (g .post)) (c .0) .0) in
+      let less = slot-not-first b D key (dimensionAfter b D headEntry (g .pre) key) (g .post) stands (λ e. c .1 (paid-keeping (t .parent) .cell (firstOf (g .post)) ∙ e ∙ sym (i .c-is))) in
+      let low : lastFrom headEntry (g .pre) .key < key = all-last (λ z. z .key < key) headEntry (g .pre) positive (g .below) in
+      let high = first-above key (g .post) stands (g .above) in
+      let u = ultra b D (lastFrom headEntry (g .pre) .key) key (firstOf (g .post) .key) (base-positive s v) (omega arith) (omega arith) in
+      let same : shared b D (lastFrom headEntry (g .pre) .key) (firstOf (g .post) .key) ≡ shared b D key (firstOf (g .post) .key) = omega arith in
+      subst₂ (λ m n. shared b D m n ≡ shared b D key n) (sym last-key) (sym next-key) same
+
+  -- The cell of x is new, and the position's is not
+
+  new-cell : Without (x .cell) (headEntry ∷ settled .row)
+  new-cell = subst (λ c. Without c (headEntry ∷ settled .row)) (sym (i .n-is)) (first-free-all (λ c. Without c (headEntry ∷ settled .row)) (s .free) f (free-apart settled settled-sound))
+
+  position-old : x .cell ≡ s .position → ⊥
+  position-old e =
+      let absent = none-occurs (x .cell) (map (λ y. y .cell) (headEntry ∷ settled .row)) (all-mapped (λ c. x .cell ≡ c → ⊥) (λ y. y .cell) (headEntry ∷ settled .row) (all-map (λ y n m. n (sym m)) (headEntry ∷ settled .row) new-cell)) in
+      let stands = subst (λ c. 0 < occurrences c (map (λ y. y .cell) (headEntry ∷ settled .row))) (sym e) (settled-sound .position) in
+      omega arith
+
+  position-same : positionKey settled ≡ positionKey s
+  unfolding finished
+  position-same =
+      keyOf-head-changed (onCell (t .c) paid) (paid-keeping (t .c)) (s .position) (finished (t .parent) (s .row))
+      ∙ keyOf-head-changed (onCell (t .parent) paid) (paid-keeping (t .parent)) (s .position) (s .row)
+
+  settled-row : settled .row ≡ front ++ back
+  unfolding settled-gap finished gap-changed
+  settled-row = settled-gap .splits
+
+  new-ascends : Asc 0 (front ++ x ∷ back)
+  unfolding settled-gap finished gap-changed
+  new-ascends = asc-put 0 x front back positive (subst (Asc 0) settled-row (settled-sound .ascends)) (settled-gap .below) (settled-gap .above)
+
+  new-apart : Apart (headEntry ∷ (front ++ x ∷ back))
+  new-apart = apart-put headEntry x front back (subst (λ r. Apart (headEntry ∷ r)) settled-row (sound-apart settled settled-sound)) (subst (λ r. Without (x .cell) (headEntry ∷ r)) settled-row new-cell)
+
+  new-lowered : Lowered settled key (positionAfter s key (t .n) (front ++ x ∷ back)) (front ++ x ∷ back)
+  new-lowered =
+      let more = occurrences-put (s .position) x (headEntry ∷ front) back in
+      let stands = subst (λ r. 0 < occurrences (s .position) (0 ∷ map (λ y. y .cell) r)) settled-row (settled-sound .position) in
+      let l = position-lowers s (base-positive s v) (dimensions-positive s v) front x back new-ascends new-apart (omega arith)
+      (keyOf-put (s .position) x (headEntry ∷ front) back position-old ∙ ap (λ r. keyOf (s .position) (headEntry ∷ r)) (sym settled-row) ∙ position-same) in
+      record { stands = l .stands; below = l .below; least = subst (λ k. keyOf (positionAfter s key (t .n) (front ++ x ∷ back)) (headEntry ∷ (front ++ x ∷ back)) ≤ k) (sym position-same) (l .least) }
+
+  pub added-row :
+      added s key value t .row
+      ≡ finished (t .c) (finished (t .parent) (g .pre)) ++ newEntry (t .n) key value (slotOwes t) ∷ finished (t .c) (finished (t .parent) (g .post))
+  unfolding added settled-gap finished gap-changed
+  added-row = put-gap x (settled .row) settled-gap
+
+  -- the parent in the new settled shape is the slot's
+  pub added-parent : parentIn s (t .n) (added s key value t .row) ≡ t .parent
+  unfolding finished
+  added-parent =
+      ap (parentIn s (t .n)) added-row
+      ∙ parent-is s front x back (base-positive s v) (dimensions-positive s v) new-ascends new-apart
+      ∙ parent-changed (onCell (t .c) paid) (paid-keeping (t .c)) b D (finished (t .parent) (g .pre)) key
+      ∙ parent-changed (onCell (t .parent) paid) (paid-keeping (t .parent)) b D (g .pre) key
+      ∙ sym (i .parent-is)
+
+  pub added-position : added s key value t .position ≡ cond (leb key (positionKey s)) (t .parent) (s .position)
+  unfolding added positionAfter
+  added-position = ap (λ c. cond (leb key (positionKey s)) c (s .position)) added-parent
+
+  pub added-sound-at : key ≤ s .settings .largest → Sound (added s key value t)
+  unfolding added settled-gap finished gap-changed
+  added-sound-at most =
+      subst (λ r. Sound (record { settings = s .settings; row = r; free = drop 1 (s .free); position = positionAfter s key (t .n) r })) (sym added-row)
+      (put-sound settled x (drop 1 (s .free)) (positionAfter s key (t .n) (front ++ x ∷ back)) settled-sound positive most settled-gap
+      (first-free (s .free) f ∙ ap {B = List ℕ} (λ c. c ∷ drop 1 (s .free)) (sym (i .n-is)))
+      (λ l. absurd (let z : _≡_ {A = ℕ} 0 1 = cc in omega arith)) last-unowing new-debt next-same new-lowered)
+
+pub added-sound : (s : State) (key value : ℕ) → Sound s → 1 ≤ key → key ≤ s .settings .largest → entryAt key (s .row) ≡ none → 0 < length (s .free) → Sound (added s key value (slotFor s key))
+added-sound s key value v positive most e f =
+    let g = gap key 0 (s .row) (v .ascends) e in
+    added-sound-at s v key value positive g f (slotFor s key) (slot-is s v key positive g f) most

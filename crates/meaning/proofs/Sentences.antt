@@ -1,0 +1,416 @@
+-- Every sentence of document 01 holds of a list. A list is the picture of a state in order; its standing cells have their places, its other
+-- cells are free, and what a sentence says of cells by their words is so of the places by the order of the row.
+use mathlib.Core.Path.{_≡_, refl, sym, ap, ap₂, _∙_, subst, subst₂}
+use mathlib.Core.Bool.{Bool, true, false, cond, _&&_, not, false≢true}
+use mathlib.Core.List.{List, [], _∷_, List·Memᴰ}
+use mathlib.Core.Logic.{inr}
+use mathlib.Core.Option.{Option, none, some}
+use Prim.Native.Nat.{ℕ, suc, _≤_, _<_}
+use native.Mathlib.Omega.{arith}
+use lib.Dec.{leb, ltb, eqb}
+use borrow.Author.Tests.{leb-true, ltb-true, ne-eqb}
+use Rattle.settings.proofs.Laws.{base-is}
+use Rattle.meaning.specs.Keys.{shared}
+use Rattle.meaning.specs.Row.{headEntry, firstOf, firstSharing, Place, headPlace, places, settledLink, owed, low, high, between, link, placeOf}
+use Rattle.meaning.specs.State.{State, positionKey}
+use Rattle.meaning.specs.Picture.{firstNumber, mark, pathWord, picture}
+use Rattle.meaning.specs.Reading.{read, isList}
+use Rattle.meaning.specs.Walk.{keyAt, valueAt, markAt, owedAt, lowAt, highAt, linkAt, linkRead}
+use Rattle.meaning.specs.Sentences.{Standing, sharedAt, positionAt, NextLarger, Dimension, Settled, Chained, FreeChain, Owing, MayOwe, Sharing, OnPath, AList}
+use Rattle.meaning.specs.Sentences.Chained.{ended, onward}
+use Rattle.meaning.proofs.Order.{All, both, and-both, all-map}
+use Rattle.meaning.proofs.Keys.{shared-same, shared-le, shared-sym}
+use Rattle.meaning.proofs.State.{Sound, Debt}
+use Rattle.meaning.proofs.Cells.{row-range, free-range, free-distinct}
+use Rattle.meaning.proofs.Picture.{picture-length, picture-path, later-has, free-found}
+use Rattle.meaning.proofs.Reading.{Follow, distinct-follow, position-read, list-is-picture, list-sound}
+use Rattle.meaning.proofs.WalkRead.{between-is, between-not, link-read}
+use Rattle.meaning.proofs.SentencesRow.{all-in, members, Compared, Least, SharesAtLeast, first-with}
+use Rattle.meaning.proofs.SentencesRow.Led.{head, led}
+use Rattle.meaning.proofs.SentencesRow.Compared.{same, later, earlier}
+use Rattle.meaning.proofs.SentencesRow.Least.{least, nowhere}
+use Rattle.meaning.proofs.SentencesCells.{placesIn, Placed, placed-has, placed-entry, placed-cell, placed-keyOf, head-placed, place-key, place-value, place-mark, place-owed, place-low, place-high, place-coordinate, place-link, place-standing, free-cell-first, free-cell-rest, free-cell-free, cell-standing, cell-unfound, cell-free, free-cell, position-placed}
+use Rattle.meaning.proofs.SentencesShape.{NextIn, LedIn, HasPlace, placed-shared, placed-digit, placed-led, placed-compared, next-larger, place-after, place-next-smaller, place-dimension, row-placed, place-settled}
+
+-- Links of a place
+
+and-false : (t u : Bool) → u ≡ false → (t && u) ≡ false
+and-false true u e = e
+and-false false u e = refl
+
+between-facts : (from above d : ℕ) → between from above d ≡ true → (from ≤ d) × (d < above)
+between-facts from above d e = let (h, k) = both (leb from d) (ltb d above) e in (leb-true from d h, ltb-true d above k)
+
+module _ (b D : ℕ) (p : Place) (d : ℕ) where
+  -- link d is one that the cell before is due
+  abbrev due : Bool
+  due = p .before .owes && between (p .beforeDimension) (p .dimension) d
+
+  -- link d is one that the cell itself owes
+  abbrev owing : Bool
+  owing = p .entry .owes && between (low p) (high b D p) d
+
+  -- the link, where it is known whether it is one or the other
+  abbrev tested : Bool → Bool → ℕ
+  tested t u = cond t (firstSharing b D (p .before .key) d (p .entry ∷ p .later)) (cond u 0 (settledLink b D p d))
+
+  link-tested : (t u : Bool) → due ≡ t → owing ≡ u → link b D p d ≡ tested t u
+  unfolding link
+  link-tested t u e f = ap₂ tested e f
+
+  -- "Links low to high-1 of n are then 0"
+  link-owing : p .dimension ≤ d → owing ≡ true → link b D p d ≡ 0
+  link-owing h e =
+      let outside = between-not (p .beforeDimension) (p .dimension) d h in
+      link-tested false true (and-false (p .before .owes) (between (p .beforeDimension) (p .dimension) d) outside) e
+
+  -- "Every other link is settled."
+  link-other : due ≡ false → owing ≡ false → link b D p d ≡ settledLink b D p d
+  link-other e f = link-tested false false e f
+
+-- a link in what a cell owes is read from the cell that it owes to
+read-through : (ws : List ℕ) (x d : ℕ) → 0 < owedAt ws x → lowAt ws x ≤ d → d < highAt ws x → linkRead ws x d ≡ linkAt ws (owedAt ws x) d
+unfolding linkRead
+read-through ws x d o h l =
+    ap (λ t. linkAt ws (cond t (owedAt ws x) x) d)
+    (and-both (not (eqb (owedAt ws x) 0)) (between (lowAt ws x) (highAt ws x) d)
+    (ap not (ne-eqb (owedAt ws x) 0 (λ e. omega arith)))
+    (between-is (lowAt ws x) (highAt ws x) d h l))
+
+-- What a cell owes
+
+-- cell x, in place p, owes to the cell of place q
+pub record Owes (s : State) (x : ℕ) (p q : Place) : Type 0 where
+  pub placed : Placed s (q .entry .cell) q
+  pub next : NextIn s p q
+  pub positive : 0 < q .entry .cell
+  pub unowing : q .entry .owes ≡ false
+  pub lower : p .dimension < q .dimension
+  pub owed : owedAt (picture s) x ≡ q .entry .cell
+  pub low : lowAt (picture s) x ≡ p .dimension
+  pub high : highAt (picture s) x ≡ q .dimension
+
+module _ {s : State} (v : Sound s) where
+  pub later-positive : {x : ℕ} {p : Place} → Placed s x p → All (λ y. 0 < y .cell) (p .later)
+  unfolding places
+  later-positive here =
+      let row = all-map (λ y r. r .0) (s .row) (row-range s v) in
+      placed-has here (λ p. All (λ y. 0 < y .cell) (p .later))
+      (row, later-has (λ y. 0 < y .cell) (s .settings .base) (s .settings .dimensions) headEntry 0 (s .row) row)
+
+  pub place-owes : {x : ℕ} {p : Place} → Placed s x p → p .entry .owes ≡ true → (q : Place) × Owes s x p q
+  place-owes {x} {p} here o =
+      let b = s .settings .base in
+      let D = s .settings .dimensions in
+      let debt = placed-has here (λ n. n .entry .owes ≡ true → Debt b D n) (v .debts) o in
+      let (q, there, next) = place-after v here (debt .later) in
+      let first : firstOf (p .later) ≡ q .entry = ap firstOf (next .later) in
+      let high-is = ap (λ y. shared b D (p .entry .key) (y .key)) first ∙ sym (next .dimension) in (
+        q,
+        record {
+          placed = there;
+          next = next;
+          positive = subst (All (λ y. 0 < y .cell)) (next .later) (later-positive here) .0;
+          unowing = ap (λ y. y .owes) (sym first) ∙ debt .unowing;
+          lower = let h = debt .lower in omega arith;
+          owed = place-owed v here ∙ ap (λ t. cond t (firstOf (p .later) .cell) 0) o ∙ ap (λ y. y .cell) first;
+          low = place-low v here ∙ ap (λ t. cond t (p .dimension) 0) o;
+          high = place-high v here ∙ ap (λ t. cond t (shared b D (p .entry .key) (firstOf (p .later) .key)) 0) o ∙ high-is;
+        },
+      )
+
+  -- "A cell that owes nothing has owed, low and high 0."
+  pub place-owes-nothing : {x : ℕ} {p : Place} → Placed s x p → p .entry .owes ≡ false →
+      (owedAt (picture s) x ≡ 0) × (lowAt (picture s) x ≡ 0) × (highAt (picture s) x ≡ 0)
+  place-owes-nothing {x} {p} here o = (
+    place-owed v here ∙ ap (λ t. cond t (firstOf (p .later) .cell) 0) o,
+    place-low v here ∙ ap (λ t. cond t (p .dimension) 0) o,
+    place-high v here ∙ ap (λ t. cond t (shared (s .settings .base) (s .settings .dimensions) (p .entry .key) (firstOf (p .later) .key)) 0) o,
+  )
+
+  -- a cell whose owed word is not 0 owes
+  pub owed-owes : {x : ℕ} {p : Place} → Placed s x p → 0 < owedAt (picture s) x → p .entry .owes ≡ true
+  owed-owes {x} {p} here h = at (p .entry .owes) refl
+    where
+      at : (t : Bool) → p .entry .owes ≡ t → t ≡ true
+      at true e = refl
+      at false e = absurd (omega (arith, h, place-owes-nothing here e .0))
+
+  owing-standing : {x : ℕ} {p q : Place} → Placed s x p → Owes s x p q → (d : ℕ) → p .dimension ≤ d → d < q .dimension → Owing (picture s) x d
+  owing-standing here o d h k =
+      record {
+        standing = place-standing v here;
+        owes = let z = o .positive in omega (arith, o .owed);
+        low = omega (arith, o .low);
+        high = omega (arith, o .high);
+      }
+
+  -- the head's place does not owe
+  owes-not-head : {x : ℕ} {p : Place} → Placed s x p → p .entry .owes ≡ true → 0 < x
+  owes-not-head {x} {p} here o = at (placed-led v here)
+    where
+      at : LedIn s p → 0 < x
+      at (head e) = absurd (false≢true (ap (λ q. q .entry .owes) (sym e) ∙ o))
+      at (led q there next) =
+          let h = subst (All (λ y. 0 < y .cell)) (next .later) (later-positive there) .0 in
+          omega (arith, placed-cell here)
+
+  owing-true : {x : ℕ} {p : Place} → Placed s x p → p .entry .owes ≡ true → (d : ℕ) → lowAt (picture s) x ≤ d → d < highAt (picture s) x →
+      owing (s .settings .base) (s .settings .dimensions) p d ≡ true
+  owing-true {x} {p} here o d h k =
+      let b = s .settings .base in
+      let D = s .settings .dimensions in
+      and-both (p .entry .owes) (between (low p) (high b D p) d) o
+      (between-is (low p) (high b D p) d (omega (arith, place-low v here)) (omega (arith, place-high v here)))
+
+  -- from the dimension on, the link read through what is owed is the settled one
+  owed-link : {n : ℕ} {p : Place} → Placed s n p → (d : ℕ) → d < s .settings .dimensions → p .dimension ≤ d →
+      linkRead (picture s) n d ≡ settledLink (s .settings .base) (s .settings .dimensions) p d
+  owed-link {n} {p} here d h k =
+      ap (λ c. linkRead (picture s) c d) (sym (placed-cell here))
+      ∙ placed-has here (λ p. p .dimension ≤ d → linkRead (picture s) (p .entry .cell) d ≡ settledLink (s .settings .base) (s .settings .dimensions) p d)
+      (link-read s v d h) k
+
+  may-owe : {n : ℕ} {p q : Place} → Placed s n p → p .entry .owes ≡ true → Owes s n p q → MayOwe (picture s) n
+  may-owe {n} {p} {q} here o owes =
+      record {
+        not-head = owes-not-head here o;
+        owed = subst (NextLarger (picture s) n) (sym (owes .owed)) (next-larger v here (owes .placed) (owes .next));
+        owes-nothing = ap (λ c. owedAt (picture s) c) (owes .owed) ∙ place-owes-nothing (owes .placed) (owes .unowing) .0;
+        low = subst (Dimension (picture s) n) (sym (owes .low)) (place-dimension v here);
+        high =
+            owes .high ∙ owes .next .dimension ∙ sym (placed-shared v here (owes .placed))
+            ∙ ap (λ c. sharedAt (picture s) n c) (sym (owes .owed));
+        low-below-high = let h = owes .lower in omega (arith, owes .low, owes .high);
+        own-links = λ d h k. place-link v here d (inside d k) ∙ link-owing b D p d (above d h) (owing-true here o d h k);
+        owed-links = λ d h k.
+            let through = read-through (picture s) n d (let z = owes .positive in omega (arith, owes .owed)) h k in
+            subst (Settled (picture s) n d) (sym (owed-link here d (inside d k) (above d h)) ∙ through) (place-settled v here d);
+      }
+    where
+      b : ℕ
+      b = s .settings .base
+
+      D : ℕ
+      D = s .settings .dimensions
+
+      above : (d : ℕ) → lowAt (picture s) n ≤ d → p .dimension ≤ d
+      above d h = omega (arith, owes .low)
+
+      inside : (d : ℕ) → d < highAt (picture s) n → d < D
+      inside d k = omega (arith, k, owes .high, owes .next .dimension, shared-le b D (p .entry .key) (q .entry .key))
+
+  -- "So in a list a cell n other than the head may owe, and only so"
+  pub debt-sentence : {n : ℕ} {p : Place} → Placed s n p → 0 < owedAt (picture s) n → MayOwe (picture s) n
+  debt-sentence here h = let o = owed-owes here h in may-owe here o (place-owes here o .1)
+
+  -- "Every other link is settled."
+  pub link-sentence : {x : ℕ} {p : Place} → Placed s x p → (d : ℕ) → d < s .settings .dimensions → (Owing (picture s) x d → ⊥) →
+      ((n : ℕ) → Owing (picture s) n d → owedAt (picture s) n ≡ x → ⊥) → Settled (picture s) x d (linkAt (picture s) x d)
+  link-sentence {x} {p} here d h own due-to =
+      let is = link-other b D p d (not-due (due b D p d) refl) (not-owing (owing b D p d) refl) in
+      subst (Settled (picture s) x d) (sym (place-link v here d h ∙ is)) (place-settled v here d)
+    where
+      b : ℕ
+      b = s .settings .base
+
+      D : ℕ
+      D = s .settings .dimensions
+
+      not-owing : (t : Bool) → owing b D p d ≡ t → t ≡ false
+      not-owing true e =
+          let (owes, inside) = both (p .entry .owes) (between (low p) (high b D p) d) e in
+          let (l, k) = between-facts (low p) (high b D p) d inside in
+          let (q, o) = place-owes here owes in
+          absurd (own (owing-standing here o d (omega (arith, l, place-low v here, o .low)) (omega (arith, k, place-high v here, o .high))))
+      not-owing false e = refl
+
+      no-debtor : p .before .owes ≡ true → p .beforeDimension ≤ d → d < p .dimension → LedIn s p → ⊥
+      no-debtor owes l k (head e) = false≢true (ap (λ q. q .before .owes) (sym e) ∙ owes)
+      no-debtor owes l k (led q there next) =
+          let (r, o) = place-owes there (ap (λ y. y .owes) (sym (next .before)) ∙ owes) in
+          let is : r .entry ≡ p .entry = ap firstOf (sym (o .next .later) ∙ next .later) in
+          let dimension = o .next .dimension ∙ ap (λ y. shared b D (q .entry .key) (y .key)) is ∙ sym (next .dimension) in
+          due-to (q .entry .cell) (owing-standing there o d (omega (arith, l, next .beforeDimension)) (omega arith))
+          (o .owed ∙ ap (λ y. y .cell) is ∙ placed-cell here)
+
+      not-due : (t : Bool) → due b D p d ≡ t → t ≡ false
+      not-due true e =
+          let (owes, inside) = both (p .before .owes) (between (p .beforeDimension) (p .dimension) d) e in
+          let (l, k) = between-facts (p .beforeDimension) (p .dimension) d inside in
+          absurd (no-debtor owes l k (placed-led v here))
+      not-due false e = refl
+
+  -- The path
+
+  entry-member : {x : ℕ} {p : Place} → Placed s x p → List·Memᴰ (p .entry) (headEntry ∷ s .row)
+  entry-member here =
+      let (first, rest) = members (headEntry ∷ s .row) in
+      placed-entry here (λ y. List·Memᴰ y (headEntry ∷ s .row)) first rest
+
+  entries-placed : All (HasPlace s) (headEntry ∷ s .row)
+  entries-placed = (record { place = headPlace (s .row); placed = head-placed s; entry = refl }, row-placed v)
+
+  -- c is the least-key standing cell sharing the first n coordinates with x
+  abbrev LeastSharing : ℕ → ℕ → ℕ → Type 0
+  LeastSharing n x c = Sharing (picture s) x n c × ((y : ℕ) → Sharing (picture s) x n y → keyAt (picture s) c ≤ keyAt (picture s) y)
+
+  least-sharing : {x : ℕ} {p : Place} → Placed s x p → (n : ℕ) → n ≤ s .settings .dimensions → {c : ℕ} →
+      Least (SharesAtLeast (s .settings .base) (s .settings .dimensions) (p .entry .key) n) (headEntry ∷ s .row) c → LeastSharing n x c
+  least-sharing {x} {p} here n h (least y m k a) = (
+    record { standing = place-standing v there; shares = omega (arith, k, placed-shared v here there, shares) },
+    λ z l. let (r, found) = cell-standing s z (l .standing) in at z r found (l .shares),
+  )
+    where
+      b : ℕ
+      b = s .settings .base
+
+      D : ℕ
+      D = s .settings .dimensions
+
+      stands : HasPlace s y
+      stands = all-in (HasPlace s) m entries-placed
+
+      there : Placed s (y .cell) (stands .place)
+      there = stands .placed
+
+      shares : shared b D (p .entry .key) (stands .place .entry .key) ≡ shared b D (y .key) (p .entry .key)
+      shares = ap (λ e. shared b D (p .entry .key) (e .key)) (stands .entry) ∙ shared-sym b D (p .entry .key) (y .key)
+
+      at : (z : ℕ) (r : Place) → Placed s z r → n ≤ sharedAt (picture s) x z → keyAt (picture s) (y .cell) ≤ keyAt (picture s) z
+      at z r found l =
+          let le = all-in (λ z. SharesAtLeast b D (p .entry .key) n z → y .key ≤ z .key) (entry-member found) a
+          (omega (arith, l, placed-shared v here found, shared-sym b D (p .entry .key) (r .entry .key))) in
+          omega (arith, place-key v there, place-key v found, ap (λ e. e .key) (stands .entry))
+  least-sharing {x} {p} here n h (nowhere a) =
+      absurd (all-in (λ z. SharesAtLeast (s .settings .base) (s .settings .dimensions) (p .entry .key) n z → ⊥) (entry-member here) a
+      (omega (arith, shared-same (s .settings .base) (s .settings .dimensions) (p .entry .key))))
+
+  -- "The position is the last cell of the path."
+  pub position-is : positionAt (picture s) ≡ s .position
+  unfolding picture
+  position-is = position-read s v
+
+  -- "Path word d is the least-key standing cell sharing the first d+1 coordinates with the position."
+  pub path-sentence : (d : ℕ) → d < s .settings .dimensions → OnPath (picture s) d
+  path-sentence d h =
+      let b = s .settings .base in
+      let D = s .settings .dimensions in
+      let (p, here) = position-placed v in
+      let first = first-with b D (positionKey s) (suc d) headEntry (s .row) (v .ascends) in
+      let found = subst (λ k. Least (SharesAtLeast b D k (suc d)) (headEntry ∷ s .row) (pathWord s d)) (placed-keyOf here) first in
+      let (sharing, less) = subst₂ (LeastSharing (suc d)) (sym position-is) (sym (picture-path s d h)) (least-sharing here (suc d) h found) in
+      record { sharing = sharing; least = less }
+
+  pub position-standing : Standing (picture s) (positionAt (picture s))
+  position-standing = subst (Standing (picture s)) (sym position-is) (place-standing v (position-placed v .1))
+
+  -- "All standing cells with keys up to the position's are dead."
+  pub passed-dead : {x : ℕ} {p : Place} → Placed s x p → keyAt (picture s) x ≤ keyAt (picture s) (positionAt (picture s)) → markAt (picture s) x ≡ 2
+  passed-dead {x} {p} here h =
+      let (q, there) = position-placed v in
+      let dead = placed-entry here (λ y. y .key ≤ positionKey s → y .live ≡ false) (λ k. refl) (v .dead) in
+      let key = ap (λ c. keyAt (picture s) c) position-is ∙ place-key v there ∙ sym (placed-keyOf there) in
+      place-mark v here ∙ ap mark (dead (omega (arith, place-key v here)))
+
+  -- The free chain
+
+  chained-from : (cs : List ℕ) → Follow (s .free) cs → All (λ c. (0 < c) × (c < s .settings .cells)) cs → All (λ c. placeOf c (placesIn s) ≡ none) cs →
+      Chained (picture s) (firstNumber cs) cs
+  chained-from [] f r u = ended
+  chained-from (c ∷ cs) f r u =
+      let onto = free-cell-first s c (r .0 .1) (u .0) ∙ f .0 in
+      onward (r .0 .0) (subst (λ n. Chained (picture s) n cs) (sym onto) (chained-from cs (f .1) (r .1) (u .1)))
+
+  -- "The chain from word 4 meets every free cell once, no other cell, and ends in 0."
+  pub chain-sentence : FreeChain (picture s)
+  unfolding picture
+  chain-sentence =
+      record {
+        chain = s .free;
+        chained = chained-from (s .free) (distinct-follow (s .free) (free-distinct s v)) (free-range s v) (free-found s v);
+        once = cell-free v;
+        no-other = free-cell v;
+      }
+
+  -- The other sentences
+
+  -- "Keys: 1 to K"
+  pub key-sentence : {x : ℕ} {p : Place} → Placed s x p → 0 < x → (0 < keyAt (picture s) x) × (keyAt (picture s) x ≤ s .settings .largest)
+  key-sentence {x} here h =
+      let above = place-next-smaller v here h .smaller in
+      let most = placed-entry here (λ y. y .key ≤ s .settings .largest) (omega arith) (v .keys) in
+      (omega arith, omega (arith, place-key v here))
+
+  -- "Mark: 0 free, 1 live, 2 dead."
+  mark-sentence : (x : ℕ) → x < s .settings .cells → markAt (picture s) x ≤ 2
+  mark-sentence x h = at (placeOf x (placesIn s)) refl
+    where
+      of : (live : Bool) → mark live ≤ 2
+      of true = omega arith
+      of false = omega arith
+
+      at : (o : Option Place) → placeOf x (placesIn s) ≡ o → markAt (picture s) x ≤ 2
+      at none e = let m = free-cell-free s x h e .mark in omega arith
+      at (some p) e = omega (arith, place-mark v (record { found = e }), of (p .entry .live))
+
+  -- "A dead cell's value is 0."
+  dead-sentence : (x : ℕ) → x < s .settings .cells → markAt (picture s) x ≡ 2 → valueAt (picture s) x ≡ 0
+  unfolding picture
+  dead-sentence x h e =
+      let (p, here) = cell-standing s x (record { cell = h; mark = inr e }) in
+      let value = placed-entry here (λ y. y .live ≡ false → y .value ≡ 0) (λ l. refl) (v .values) in
+      place-value v here ∙ value (dead (p .entry .live) (sym (place-mark v here) ∙ e))
+    where
+      dead : (live : Bool) → mark live ≡ 2 → live ≡ false
+      dead true m = absurd (omega arith)
+      dead false m = refl
+
+  -- "no two standing cells have the same key"
+  pub distinct-sentence : {x y : ℕ} {p q : Place} → Placed s x p → Placed s y q → keyAt (picture s) x ≡ keyAt (picture s) y → x ≡ y
+  distinct-sentence {x} {y} {p} {q} here there e = at (placed-compared v here there)
+    where
+      at : Compared p q → x ≡ y
+      at (same is) = sym (placed-cell here) ∙ ap (λ r. r .entry .cell) is ∙ placed-cell there
+      at (later l) = absurd (omega (arith, e, place-key v here, place-key v there, l .larger))
+      at (earlier l) = absurd (omega (arith, e, place-key v here, place-key v there, l .larger))
+
+  owes-nothing-sentence : {x : ℕ} {p : Place} → Placed s x p → owedAt (picture s) x ≡ 0 → (lowAt (picture s) x ≡ 0) × (highAt (picture s) x ≡ 0)
+  owes-nothing-sentence {x} {p} here e = at (p .entry .owes) refl
+    where
+      at : (t : Bool) → p .entry .owes ≡ t → (lowAt (picture s) x ≡ 0) × (highAt (picture s) x ≡ 0)
+      at true o = let (q, owes) = place-owes here o in absurd (omega (arith, e, owes .owed, owes .positive))
+      at false o = let (z, low, high) = place-owes-nothing here o in (low, high)
+
+-- Every sentence
+
+pub picture-sentences : (s : State) → Sound s → AList (picture s)
+unfolding picture
+picture-sentences s v =
+    record {
+      dimensions = (v .dimensions-least, v .dimensions-most);
+      largest = (v .largest-least, v .largest-most);
+      count = (v .cells-least, v .cells-most);
+      keys = λ x stands h. key-sentence v (cell-standing s x stands .1) h;
+      base = rw (v .base) (base-is (s .settings .dimensions) (s .settings .largest) (let h = v .dimensions-least in omega arith));
+      long = picture-length s;
+      marks = mark-sentence v;
+      head = (place-key v (head-placed s), (place-value v (head-placed s), place-mark v (head-placed s)));
+      dead-value = dead-sentence v;
+      free-words = λ x j free h k. free-cell-rest s x (free .cell) (cell-unfound v x free) j h k;
+      free-chain = chain-sentence v;
+      owes-nothing = λ x stands e. owes-nothing-sentence v (cell-standing s x stands .1) e;
+      distinct = λ x y sx sy e. distinct-sentence v (cell-standing s x sx .1) (cell-standing s y sy .1) e;
+      coordinate-words = λ x d stands h.
+          let (p, here) = cell-standing s x stands in
+          place-coordinate v here d h ∙ sym (placed-digit v here d);
+      debts = λ n stands h. debt-sentence v (cell-standing s n stands .1) h;
+      links = λ x d stands h own due-to. link-sentence v (cell-standing s x stands .1) d h own due-to;
+      position = position-standing v;
+      path = path-sentence v;
+      passed-dead = λ x stands h. passed-dead v (cell-standing s x stands .1) h;
+    }
+
+-- a list meets every sentence
+pub list-sentences : (ws : List ℕ) → isList ws ≡ true → AList ws
+list-sentences ws e = subst AList (list-is-picture ws e) (picture-sentences (read ws) (list-sound ws e))

@@ -1,0 +1,275 @@
+-- Document 01's own wording of the settled shape, of the words of a picture: the standing cells of next smaller and next larger key, the
+-- dimension, and the settled links are those of the places. Keys ascend along the row, so what is later in it is larger, and larger at
+-- the first coordinate not shared; what is first in it is least.
+use mathlib.Core.Path.{_≡_, refl, sym, ap, ap₂, _∙_, subst, subst₂}
+use mathlib.Core.List.{List, [], _∷_}
+use Prim.Native.Nat.{ℕ, _^_, _≤_, _<_}
+use native.Mathlib.Decide.{decLe}
+use native.Mathlib.Omega.{arith}
+use lib.ListN.{length}
+use borrow.Author.Tests.{le-leb, lt-leb}
+use Rattle.meaning.specs.Keys.{coordinate, coordinates, shared}
+use Rattle.meaning.specs.Row.{Entry, headEntry, firstOf, Place, placesAfter, places, settledLink}
+use Rattle.meaning.specs.State.{State}
+use Rattle.meaning.specs.Picture.{picture}
+use Rattle.meaning.specs.Walk.{keyAt}
+use Rattle.meaning.specs.Sentences.{agreed, sharedAt, digitAt, NextSmaller, NextLarger, Dimension, Settled}
+use Rattle.meaning.specs.Sentences.Dimension.{of-head, of-other}
+use Rattle.meaning.specs.Sentences.Settled.{leads, leads-nowhere, below-dimension}
+use Rattle.meaning.proofs.Order.{All, Asc, all-map, asc-above}
+use Rattle.meaning.proofs.Keys.{shared-agreed, shared-sym, coordinate-less}
+use Rattle.meaning.proofs.State.{Sound, base-positive, base-above}
+use Rattle.meaning.proofs.Picture.{place-found, later-has}
+use Rattle.meaning.proofs.SentencesRow.{all-in, Next, Followed, Led, places-followed, places-led, Later, Compared, places-compared, places-ascend, Least, SharesExactly, first-sharing}
+use Rattle.meaning.proofs.SentencesRow.Followed.{last, followed}
+use Rattle.meaning.proofs.SentencesRow.Led.{head, led}
+use Rattle.meaning.proofs.SentencesRow.Compared.{same, later, earlier}
+use Rattle.meaning.proofs.SentencesRow.Least.{least, nowhere}
+use Rattle.meaning.proofs.SentencesCells.{placesIn, Placed, placed-has, placed-entry, placed-cell, place-key, place-standing, cell-standing}
+
+-- q is the place after p; p is the head's or has a place before it; p is the last or has a place after it
+abbrev pub NextIn : State → Place → Place → Type 0
+NextIn s p q = Next (s .settings .base) (s .settings .dimensions) p q
+
+abbrev pub LedIn : State → Place → Type 0
+LedIn s p = Led (s .settings .base) (s .settings .dimensions) (λ q. Placed s (q .entry .cell) q) (s .row) p
+
+abbrev pub FollowedIn : State → Place → Type 0
+FollowedIn s p = Followed (s .settings .base) (s .settings .dimensions) (λ q. Placed s (q .entry .cell) q) p
+
+-- an entry that has a place
+pub record HasPlace (s : State) (y : Entry) : Type 0 where
+  pub place : Place
+  pub placed : Placed s (y .cell) place
+  pub entry : place .entry ≡ y
+
+module _ {s : State} (v : Sound s) where
+  pub places-placed : All (λ p. Placed s (p .entry .cell) p) (placesIn s)
+  places-placed = all-map (λ p e. record { found = e }) (placesIn s) (place-found s v)
+
+  -- Keys
+
+  pub key-below : {x : ℕ} {p : Place} → Placed s x p → p .entry .key < s .settings .base ^ s .settings .dimensions
+  key-below here =
+      let most = placed-entry here (λ y. y .key ≤ s .settings .largest) (omega arith) (v .keys) in
+      omega (arith, base-above s v)
+
+  pub placed-shared : {x y : ℕ} {p q : Place} → Placed s x p → Placed s y q →
+      sharedAt (picture s) x y ≡ shared (s .settings .base) (s .settings .dimensions) (p .entry .key) (q .entry .key)
+  unfolding picture
+  placed-shared {p = p} {q = q} here there =
+      let b = s .settings .base in
+      let D = s .settings .dimensions in
+      ap₂ (λ k l. agreed (coordinates b D k) (coordinates b D l)) (place-key v here) (place-key v there)
+      ∙ sym (shared-agreed b D (p .entry .key) (q .entry .key) (base-positive s v) (key-below here) (key-below there))
+
+  pub placed-digit : {x : ℕ} {p : Place} → Placed s x p → (d : ℕ) →
+      digitAt (picture s) x d ≡ coordinate (s .settings .base) (s .settings .dimensions) (p .entry .key) d
+  unfolding picture
+  placed-digit here d = ap (λ k. coordinate (s .settings .base) (s .settings .dimensions) k d) (place-key v here)
+
+  pub placed-ascends : {x : ℕ} {p : Place} → Placed s x p → Asc (p .entry .key) (p .later)
+  placed-ascends here =
+      placed-has here (λ p. Asc (p .entry .key) (p .later)) (places-ascend (s .settings .base) (s .settings .dimensions) (s .row) (v .ascends))
+
+  pub placed-compared : {x y : ℕ} {p q : Place} → Placed s x p → Placed s y q → Compared p q
+  placed-compared {p = p} here there =
+      placed-has there (λ q. Compared p q)
+      (placed-has here (λ p. All (λ q. Compared p q) (placesIn s)) (places-compared (s .settings .base) (s .settings .dimensions) (s .row) (v .ascends)))
+
+  -- Neighbours
+
+  pub placed-led : {x : ℕ} {p : Place} → Placed s x p → LedIn s p
+  placed-led here =
+      placed-has here (LedIn s)
+      (places-led (s .settings .base) (s .settings .dimensions) (λ q. Placed s (q .entry .cell) q) (s .row) places-placed)
+
+  pub placed-followed : {x : ℕ} {p : Place} → Placed s x p → FollowedIn s p
+  placed-followed here =
+      placed-has here (FollowedIn s)
+      (places-followed (s .settings .base) (s .settings .dimensions) (λ q. Placed s (q .entry .cell) q) (s .row) places-placed)
+
+  pub next-smaller : {x y : ℕ} {p q : Place} → Placed s x p → Placed s y q → NextIn s q p → NextSmaller (picture s) x y
+  next-smaller {x} {y} {p} {q} here there next =
+      record {
+        standing = place-standing v there;
+        smaller = omega (arith, subst (Asc (q .entry .key)) (next .later) (placed-ascends there) .0, place-key v here, place-key v there);
+        next = λ z stands less. let (r, found) = cell-standing s z stands in at z r found less (placed-compared found here);
+      }
+    where
+      at : (z : ℕ) (r : Place) → Placed s z r → keyAt (picture s) z < keyAt (picture s) x → Compared r p → keyAt (picture s) z ≤ keyAt (picture s) y
+      at z r found less (same e) = omega (arith, place-key v here, place-key v found, less, ap (λ q. q .entry .key) e)
+      at z r found less (later l) = omega (arith, place-key v there, place-key v found, l .up-to, ap (λ e. e .key) (next .before))
+      at z r found less (earlier l) = omega (arith, place-key v here, place-key v found, less, l .larger)
+
+  pub next-larger : {x y : ℕ} {p q : Place} → Placed s x p → Placed s y q → NextIn s p q → NextLarger (picture s) x y
+  next-larger {x} {y} {p} {q} here there next =
+      record {
+        standing = place-standing v there;
+        larger = let h = ascends .0 in omega (arith, place-key v here, place-key v there);
+        next = λ z stands less. let (r, found) = cell-standing s z stands in at z r found less (placed-compared here found);
+      }
+    where
+      ascends : Asc (p .entry .key) (q .entry ∷ q .later)
+      ascends = subst (Asc (p .entry .key)) (next .later) (placed-ascends here)
+
+      all-from : All (λ z. q .entry .key ≤ z .key) (p .later)
+      all-from =
+          subst (All (λ z. q .entry .key ≤ z .key)) (sym (next .later))
+          (omega arith, all-map (λ z h. omega arith) (q .later) (asc-above (q .entry .key) (q .later) (ascends .1)))
+
+      at : (z : ℕ) (r : Place) → Placed s z r → keyAt (picture s) x < keyAt (picture s) z → Compared p r → keyAt (picture s) y ≤ keyAt (picture s) z
+      at z r found less (same e) = omega (arith, place-key v here, place-key v found, less, ap (λ q. q .entry .key) e)
+      at z r found less (later l) = omega (arith, place-key v there, place-key v found, all-in (λ z. q .entry .key ≤ z .key) (l .member) all-from)
+      at z r found less (earlier l) = omega (arith, place-key v here, place-key v found, less, l .larger)
+
+  -- the place before that of a cell that is not the head
+  pub place-before : {x : ℕ} {p : Place} → Placed s x p → 0 < x → (q : Place) × Placed s (q .entry .cell) q × NextIn s q p
+  place-before {x} {p} here h = at (placed-led here)
+    where
+      at : LedIn s p → (q : Place) × Placed s (q .entry .cell) q × NextIn s q p
+      at (head e) = absurd (omega (arith, h, placed-cell here, ap (λ q. q .entry .cell) e))
+      at (led q there next) = (q, there, next)
+
+  -- the place after that of a cell with later ones
+  pub place-after : {x : ℕ} {p : Place} → Placed s x p → 0 < length (p .later) → (q : Place) × Placed s (q .entry .cell) q × NextIn s p q
+  place-after {x} {p} here h = at (placed-followed here)
+    where
+      at : FollowedIn s p → (q : Place) × Placed s (q .entry .cell) q × NextIn s p q
+      at (last e) = absurd (omega (arith, h, ap length e))
+      at (followed q there next) = (q, there, next)
+
+  -- "the standing cell of next smaller key"
+  pub place-next-smaller : {x : ℕ} {p : Place} → Placed s x p → 0 < x → NextSmaller (picture s) x (p .before .cell)
+  place-next-smaller {x} here h =
+      let (q, there, next) = place-before here h in
+      subst (NextSmaller (picture s) x) (sym (ap (λ y. y .cell) (next .before))) (next-smaller here there next)
+
+  -- "the standing cell of next larger key"
+  pub place-next-larger : {x : ℕ} {p : Place} → Placed s x p → 0 < length (p .later) → NextLarger (picture s) x (firstOf (p .later) .cell)
+  place-next-larger {x} here h =
+      let (q, there, next) = place-after here h in
+      subst (NextLarger (picture s) x) (sym (ap (λ l. firstOf l .cell) (next .later))) (next-larger here there next)
+
+  -- "A standing cell's dimension is the number of leading coordinates it shares with the standing cell of next smaller key; the head's
+  -- is 0."
+  pub place-dimension : {x : ℕ} {p : Place} → Placed s x p → Dimension (picture s) x (p .dimension)
+  place-dimension {x} {p} here = at (placed-led here)
+    where
+      at : LedIn s p → Dimension (picture s) x (p .dimension)
+      at (head e) =
+          subst₂ (Dimension (picture s)) (sym (ap (λ q. q .entry .cell) e) ∙ placed-cell here) (sym (ap (λ q. q .dimension) e)) of-head
+      at (led q there next) =
+          subst (Dimension (picture s) x) (placed-shared there here ∙ sym (next .dimension)) (of-other (next-smaller here there next))
+
+  -- Settled links
+
+  -- each entry of the row has a place, and so has each entry later than a place
+  placed-after : (b D : ℕ) (a : Entry) (e : ℕ) (row : List Entry) → All (λ p. Placed s (p .entry .cell) p) (placesAfter b D a e row) → All (HasPlace s) row
+  unfolding placesAfter
+  placed-after b D a e [] all = tt
+  placed-after b D a e (x ∷ row) all = (record { place = _; placed = all .0; entry = refl }, placed-after b D x (shared b D (a .key) (x .key)) row (all .1))
+
+  pub row-placed : All (HasPlace s) (s .row)
+  unfolding places
+  row-placed = placed-after (s .settings .base) (s .settings .dimensions) headEntry 0 (s .row) (places-placed .1)
+
+  pub later-placed : {x : ℕ} {p : Place} → Placed s x p → All (HasPlace s) (p .later)
+  unfolding places
+  later-placed here =
+      placed-has here (λ p. All (HasPlace s) (p .later))
+      (row-placed, later-has (HasPlace s) (s .settings .base) (s .settings .dimensions) headEntry 0 (s .row) row-placed)
+
+  -- what shares exactly d coordinates with a standing cell and is larger at d is a later one
+  larger-later : {x : ℕ} {p : Place} → Placed s x p → (d z : ℕ) (r : Place) → Placed s z r →
+      sharedAt (picture s) x z ≡ d → digitAt (picture s) x d < digitAt (picture s) z d →
+      SharesExactly (s .settings .base) (s .settings .dimensions) (p .entry .key) d (r .entry) × Later (p .entry .key) (p .later) r
+  larger-later {x} {p} here d z r found shares larger = (exactly, at (placed-compared here found))
+    where
+      b : ℕ
+      b = s .settings .base
+
+      D : ℕ
+      D = s .settings .dimensions
+
+      exactly : shared b D (p .entry .key) (r .entry .key) ≡ d
+      exactly = sym (placed-shared here found) ∙ shares
+
+      above : coordinate b D (p .entry .key) d < coordinate b D (r .entry .key) d
+      above = subst₂ (λ i j. i < j) (placed-digit here d) (placed-digit found d) larger
+
+      at : Compared p r → Later (p .entry .key) (p .later) r
+      at (same e) = absurd (omega (arith, above, ap (λ q. coordinate b D (q .entry .key) d) e))
+      at (later l) = l
+      at (earlier l) =
+          let less = coordinate-less b D (r .entry .key) (p .entry .key) (base-positive s v) (key-below found) (key-below here) (l .larger) in
+          let there : shared b D (r .entry .key) (p .entry .key) ≡ d = shared-sym b D (r .entry .key) (p .entry .key) ∙ exactly in
+          absurd (omega (arith, above, subst (λ e. coordinate b D (r .entry .key) e < coordinate b D (p .entry .key) e) there less))
+
+  -- the least-key later entry that shares exactly d coordinates is what link d leads to
+  settled-least : {x : ℕ} {p : Place} → Placed s x p → (d : ℕ) → p .dimension ≤ d → {c : ℕ} →
+      Least (SharesExactly (s .settings .base) (s .settings .dimensions) (p .entry .key) d) (p .later) c → Settled (picture s) x d c
+  settled-least {x} {p} here d low (least y m h a) =
+      leads (place-dimension here) low
+      (record {
+        standing = place-standing v there;
+        shares = placed-shared here there ∙ shares;
+        larger =
+            subst₂ (λ i j. i < j) (sym (placed-digit here d)) (sym (placed-digit there d))
+            (subst (λ e. coordinate b D (p .entry .key) e < coordinate b D (q .entry .key) e) shares
+            (coordinate-less b D (p .entry .key) (q .entry .key) (base-positive s v) (key-below here) (key-below there) larger));
+      })
+      (λ z l. let (r, found) = cell-standing s z (l .standing) in at z r found (larger-later here d z r found (l .shares) (l .larger)))
+    where
+      b : ℕ
+      b = s .settings .base
+
+      D : ℕ
+      D = s .settings .dimensions
+
+      stands : HasPlace s y
+      stands = all-in (HasPlace s) m (later-placed here)
+
+      q : Place
+      q = stands .place
+
+      there : Placed s (y .cell) q
+      there = stands .placed
+
+      shares : shared b D (p .entry .key) (q .entry .key) ≡ d
+      shares = ap (λ e. shared b D (p .entry .key) (e .key)) (stands .entry) ∙ h
+
+      larger : p .entry .key < q .entry .key
+      larger =
+          subst (λ e. p .entry .key < e .key) (sym (stands .entry))
+          (all-in (λ e. p .entry .key < e .key) m (asc-above (p .entry .key) (p .later) (placed-ascends here)))
+
+      at : (z : ℕ) (r : Place) → Placed s z r → SharesExactly b D (p .entry .key) d (r .entry) × Later (p .entry .key) (p .later) r →
+          keyAt (picture s) (y .cell) ≤ keyAt (picture s) z
+      at z r found (e, l) =
+          let le = all-in (λ z. SharesExactly b D (p .entry .key) d z → y .key ≤ z .key) (l .member) a e in
+          omega (arith, place-key v there, place-key v found, ap (λ e. e .key) (stands .entry))
+  settled-least {x} {p} here d low (nowhere a) =
+      leads-nowhere (place-dimension here) low
+      (λ z l.
+      let (r, found) = cell-standing s z (l .standing) in
+      let (e, m) = larger-later here d z r found (l .shares) (l .larger) in
+      all-in (λ z. SharesExactly (s .settings .base) (s .settings .dimensions) (p .entry .key) d z → ⊥) (m .member) a e)
+
+  -- "For x of dimension e and d at least e, link d of x leads to the least-key standing cell that shares exactly the first d coordinates
+  -- with x and is larger at d. Every other link is 0."
+  pub place-settled : {x : ℕ} {p : Place} → Placed s x p → (d : ℕ) →
+      Settled (picture s) x d (settledLink (s .settings .base) (s .settings .dimensions) p d)
+  place-settled {x} {p} here d = at (decLe (p .dimension) d)
+    where
+      b : ℕ
+      b = s .settings .base
+
+      D : ℕ
+      D = s .settings .dimensions
+
+      at : Dec (p .dimension ≤ d) → Settled (picture s) x d (settledLink b D p d)
+      at (yes h) =
+          let first = first-sharing b D (p .entry .key) d (p .entry .key) (p .later) (placed-ascends here) in
+          rw (le-leb (p .dimension) d h) (settled-least here d h first)
+      at (no h) = rw (lt-leb (p .dimension) d (omega arith)) (below-dimension (place-dimension here) (omega arith))
