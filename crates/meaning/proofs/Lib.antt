@@ -28,3 +28,10 @@ pub mod SentencesRow
 pub mod SentencesCells
 pub mod SentencesShape
 pub mod Sentences
+pub mod ConverseCount
+pub mod ConverseKeys
+pub mod ConverseRow
+pub mod ConversePlaces
+pub mod ConverseState
+pub mod ConverseLinks
+pub mod Converse

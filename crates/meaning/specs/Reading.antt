@@ -1,4 +1,5 @@
 -- The state that a buffer's words hold, and when a buffer is a list: document 01, the end of "How cells hang together".
+use mathlib.Core.Path.{_≡_}
 use mathlib.Core.Bool.{Bool, true, false, cond, _&&_, not}
 use mathlib.Core.List.{List, [], _∷_}
 use Prim.Native.Nat.{ℕ, zero, suc, _+_, _-_}
@@ -58,3 +59,8 @@ same (x ∷ xs) (y ∷ ys) = eqb x y && same xs ys
 -- it holds is in order, and each word is as the picture of that state has it.
 unfoldable pub isList : List ℕ → Bool
 isList ws = elim (sized ws) [ true ↦ valid (read ws) && same (picture (read ws)) ws | false ↦ false ]
+
+-- words that are a list with the settings s: what the inner functions ask
+pub record Listed (ws : List ℕ) (s : Settings) : Type 0 where
+  pub list : isList ws ≡ true
+  pub settings : settingsAt ws ≡ s

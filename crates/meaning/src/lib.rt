@@ -41,6 +41,18 @@ pub fn refused(refusal: u32) -> Answer
     }
 }
 
+// A refusal that answers a key and a count after its number.
+pub fn refused_at(refusal: u32, key: u32, count: u32) -> Answer
+    ensures { λ r. ⌜ r ≡ answer refusal key 0 count ⌝ }
+{
+    Answer {
+        refusal,
+        key,
+        value: 0,
+        count,
+    }
+}
+
 // What an accepted call answers.
 pub fn accepted(key: u32, value: u32, count: u32) -> Answer
     ensures { λ r. ⌜ r ≡ answer 0 key value count ⌝ }

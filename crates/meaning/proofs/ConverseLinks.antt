@@ -1,0 +1,161 @@
+-- Debts and links of a buffer of which every sentence holds are those of its places: the first later one that shares exactly d coordinates
+-- is the least-key one, so the settled link is what the sentence asks for, and that has one answer.
+use mathlib.Core.Path.{_≡_, refl, sym, _∙_, ap, ap₂, subst}
+use mathlib.Core.Bool.{Bool, true, false, cond, _&&_}
+use mathlib.Core.List.{List, _∷_}
+use Prim.Native.Nat.{ℕ, _≤_, _<_}
+use native.Mathlib.Omega.{arith}
+use lib.Dec.{leb, ltb}
+use borrow.Author.Tests.{leb-true, leb-false, ltb-true, le-leb, lt-ltb}
+use Rattle.meaning.specs.Keys.{shared}
+use Rattle.meaning.specs.Row.{Entry, firstOf, firstSharing, Place, settledLink, owed, low, high, between, link}
+use Rattle.meaning.specs.Walk.{keyAt, owedAt, lowAt, highAt, linkAt}
+use Rattle.meaning.specs.Sentences.{dimensionsAt, baseAt, NextLarger, LargerAt, Settled, leads, leads-nowhere, below-dimension, Owing, AList}
+use Rattle.meaning.proofs.Order.{All, both, and-both, asc-above}
+use Rattle.meaning.proofs.Cells.{all-zip}
+use Rattle.meaning.proofs.SentencesRow.{all-in, Least, least, nowhere, SharesExactly, first-sharing}
+use Rattle.meaning.proofs.ConverseKeys.{shared-is, larger-key, larger-at, next-larger-of-one, settled-unique}
+use Rattle.meaning.proofs.ConverseRow.{Shown, owes-shown}
+use Rattle.meaning.proofs.ConversePlaces.{above-has, above-next-larger, Stands, Behind, none, one, PlaceShown}
+use Rattle.meaning.proofs.ConverseState.{DebtShown, debt-shown}
+
+-- A link's number between two others
+
+inside : (t : Bool) (lower above d : ℕ) → (t && between lower above d) ≡ true → (t ≡ true) × ((lower ≤ d) × (d < above))
+inside t lower above d e =
+    let one = both t (between lower above d) e in
+    let two = both (leb lower d) (ltb d above) (one .1) in
+    (one .0, (leb-true lower d (two .0), ltb-true d above (two .1)))
+
+outside : (t : Bool) (lower above d : ℕ) → (t && between lower above d) ≡ false → t ≡ true → lower ≤ d → d < above → ⊥
+outside t lower above d e o h k =
+    let f = and-both t (between lower above d) o (and-both (leb lower d) (ltb d above) (le-leb lower d h) (lt-ltb d above k)) in
+    let z : _≡_ {A = ℕ} 0 1 = cc in
+    omega arith
+
+owing-cases : (owes : Bool) (v w : ℕ) → (owes ≡ true → w ≡ v) → (owes ≡ false → w ≡ 0) → cond owes v 0 ≡ w
+owing-cases true v w f g = sym (f refl)
+owing-cases false v w f g = sym (g refl)
+
+module _ (ws : List ℕ) (a : AList ws) where
+  -- Links
+
+  -- link d, by the later ones of a cell of dimension at most d
+  settled-first : (n : Entry) (e : ℕ) (later : List Entry) (d : ℕ) → Stands ws n e later → e ≤ d → Settled ws (n .cell) d (firstSharing (baseAt ws) (dimensionsAt ws) (n .key) d later)
+  settled-first n e later d s h = at (first-sharing b D (n .key) d (n .key) later (s .above .ascends))
+    where
+      b : ℕ
+      b = baseAt ws
+
+      D : ℕ
+      D = dimensionsAt ws
+
+      -- a later one that shares just d, and the other way round
+      larger : (y : Entry) → Shown ws y → n .key < y .key → shared b D (n .key) (y .key) ≡ d → LargerAt ws (n .cell) d (y .cell)
+      larger y t k q =
+          let i = s .shown .key in
+          let j = t .key in
+          larger-at ws a (n .cell) d (y .cell) (s .shown .standing) (t .standing) (omega arith) (ap₂ (shared b D) (sym i) (sym j) ∙ q)
+
+      shares : (z : ℕ) → LargerAt ws (n .cell) d z → shared b D (n .key) (keyAt ws z) ≡ d
+      shares z l = ap (λ key. shared b D key (keyAt ws z)) (s .shown .key) ∙ sym (shared-is ws a (n .cell) z (s .shown .standing) (l .standing)) ∙ l .shares
+
+      has : (P : ℕ → Type 0) → All (λ y. shared b D (n .key) (y .key) ≡ d → P (y .cell)) later → (z : ℕ) → LargerAt ws (n .cell) d z → P z
+      has P all z l =
+          let k = larger-key ws a (n .cell) d z (s .shown .standing) l in
+          above-has (λ z. shared b D (n .key) (keyAt ws z) ≡ d → P z) (s .above)
+          (all-zip (λ y t f q. f (ap (shared b D (n .key)) (t .key) ∙ q)) later (s .above .shown) all)
+          z (l .standing) (let i = s .shown .key in omega arith) (shares z l)
+
+      at : {c : ℕ} → Least (SharesExactly b D (n .key) d) later c → Settled ws (n .cell) d c
+      at (least y m q all) =
+          let t = all-in (Shown ws) m (s .above .shown) in
+          let k = all-in (λ z. n .key < z .key) m (asc-above (n .key) later (s .above .ascends)) in
+          leads (s .dimension) h (larger y t k q)
+          (has (λ z. keyAt ws (y .cell) ≤ keyAt ws z) (all-zip (λ z u f r. let i = t .key in let j = u .key in let l = f r in omega arith) later (s .above .shown) all))
+      at (nowhere all) = leads-nowhere (s .dimension) h (has (λ z. ⊥) all)
+
+  settled-link : (p : Place) (d : ℕ) → PlaceShown ws p → Settled ws (p .entry .cell) d (settledLink (baseAt ws) (dimensionsAt ws) p d)
+  settled-link p d q = at (leb (p .dimension) d) refl
+    where
+      at : (t : Bool) → leb (p .dimension) d ≡ t → Settled ws (p .entry .cell) d (cond t (firstSharing (baseAt ws) (dimensionsAt ws) (p .entry .key) d (p .later)) 0)
+      at true e = settled-first (p .entry) (p .dimension) (p .later) d (q .here) (leb-true (p .dimension) d e)
+      at false e = below-dimension (q .here .dimension) (leb-false (p .dimension) d e)
+
+  -- Debts
+
+  debt-at : (p : Place) → PlaceShown ws p → p .entry .owes ≡ true → DebtShown ws (p .entry) (p .dimension) (p .later)
+  debt-at p q = debt-shown ws a (p .entry) (p .dimension) (p .later) (q .here)
+
+  pub owed-shown : (p : Place) → PlaceShown ws p → owed p ≡ owedAt ws (p .entry .cell)
+  owed-shown p q =
+      owing-cases (p .entry .owes) (firstOf (p .later) .cell) (owedAt ws (p .entry .cell)) (λ o. debt-at p q o .owed) (q .here .shown .unowing)
+
+  pub low-shown : (p : Place) → PlaceShown ws p → low p ≡ lowAt ws (p .entry .cell)
+  low-shown p q =
+      owing-cases (p .entry .owes) (p .dimension) (lowAt ws (p .entry .cell)) (λ o. debt-at p q o .low)
+      (λ o. a .owes-nothing (p .entry .cell) (q .here .shown .standing) (q .here .shown .unowing o) .0)
+
+  pub high-shown : (p : Place) → PlaceShown ws p → high (baseAt ws) (dimensionsAt ws) p ≡ highAt ws (p .entry .cell)
+  high-shown p q =
+      owing-cases (p .entry .owes) (shared (baseAt ws) (dimensionsAt ws) (p .entry .key) (firstOf (p .later) .key)) (highAt ws (p .entry .cell)) (λ o. debt-at p q o .high)
+      (λ o. a .owes-nothing (p .entry .cell) (q .here .shown .standing) (q .here .shown .unowing o) .1)
+
+  -- Links as they stand
+
+  -- where the entry before owes, link d is its settled one
+  link-owed : (p : Place) (d : ℕ) → Behind ws p → p .before .owes ≡ true → p .beforeDimension ≤ d → d < p .dimension →
+      firstSharing (baseAt ws) (dimensionsAt ws) (p .before .key) d (p .entry ∷ p .later) ≡ linkAt ws (p .entry .cell) d
+  link-owed p d (none e f) o h k = absurd (let z : _≡_ {A = ℕ} 0 1 = cc in omega arith)
+  link-owed p d (one s e) o h k =
+      let n = p .before .cell in
+      let m = a .debts n (s .shown .standing) (s .shown .owing o) in
+      let t = debt-shown ws a (p .before) (p .beforeDimension) (p .entry ∷ p .later) s o in
+      let l = t .low in
+      let g = t .high in
+      settled-unique ws a (settled-first (p .before) (p .beforeDimension) (p .entry ∷ p .later) d s h)
+      (subst (λ c. Settled ws n d (linkAt ws c d)) (t .owed) (m .owed-links d (omega arith) (omega arith)))
+
+  -- who owes link d of the entry of a place is the entry before
+  owing-before : (p : Place) (d n : ℕ) → Behind ws p → Owing ws n d → owedAt ws n ≡ p .entry .cell →
+      (p .before .owes ≡ true) × ((p .beforeDimension ≤ d) × (d < p .dimension))
+  owing-before p d n (none e f) w q = absurd (let h = w .owes in omega arith)
+  owing-before p d n (one s e) w q =
+      let m = a .debts n (w .standing) (w .owes) in
+      let same = next-larger-of-one ws a n (p .before .cell) (p .entry .cell) (w .standing) (s .shown .standing) (subst (NextLarger ws n) q (m .owed)) (above-next-larger (s .shown) (s .above)) in
+      let v = subst (λ i. Owing ws i d) same w in
+      let o = owes-shown (p .before) (s .shown) (v .owes) in
+      let t = debt-shown ws a (p .before) (p .beforeDimension) (p .entry ∷ p .later) s o in
+      (o, (let h = t .low in let k = v .low in omega arith, let h = t .high in let k = v .high in omega arith))
+
+  pub link-shown : (p : Place) (d : ℕ) → PlaceShown ws p → d < dimensionsAt ws → link (baseAt ws) (dimensionsAt ws) p d ≡ linkAt ws (p .entry .cell) d
+  unfolding link
+  link-shown p d q less =
+      at (p .before .owes && between (p .beforeDimension) (p .dimension) d) (p .entry .owes && between (low p) (high b D p) d) refl refl
+    where
+      b : ℕ
+      b = baseAt ws
+
+      D : ℕ
+      D = dimensionsAt ws
+
+      x : ℕ
+      x = p .entry .cell
+
+      at : (t u : Bool) → (p .before .owes && between (p .beforeDimension) (p .dimension) d) ≡ t → (p .entry .owes && between (low p) (high b D p) d) ≡ u →
+          cond t (firstSharing b D (p .before .key) d (p .entry ∷ p .later)) (cond u 0 (settledLink b D p d)) ≡ linkAt ws x d
+      at true u e f =
+          let i = inside (p .before .owes) (p .beforeDimension) (p .dimension) d e in
+          link-owed p d (q .behind) (i .0) (i .1 .0) (i .1 .1)
+      at false true e f =
+          let i = inside (p .entry .owes) (low p) (high b D p) d f in
+          let m = a .debts x (q .here .shown .standing) (q .here .shown .owing (i .0)) in
+          let l = low-shown p q in
+          let g = high-shown p q in
+          sym (m .own-links d (omega arith) (omega arith))
+      at false false e f =
+          settled-unique ws a (settled-link p d q)
+          (a .links x d (q .here .shown .standing) less
+          (λ w. outside (p .entry .owes) (low p) (high b D p) d f (owes-shown (p .entry) (q .here .shown) (w .owes))
+          (let l = low-shown p q in let k = w .low in omega arith) (let g = high-shown p q in let k = w .high in omega arith))
+          (λ n w r. let i = owing-before p d n (q .behind) w r in outside (p .before .owes) (p .beforeDimension) (p .dimension) d e (i .0) (i .1 .0) (i .1 .1)))
