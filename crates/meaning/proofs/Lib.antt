@@ -35,3 +35,4 @@ pub mod ConversePlaces
 pub mod ConverseState
 pub mod ConverseLinks
 pub mod Converse
+pub mod Promises

@@ -201,7 +201,7 @@ sound-valid s v =
 
 -- The base
 
-base-of : (s : State) → Sound s → IsBase (s .settings .dimensions) (s .settings .largest) (s .settings .base)
+pub base-of : (s : State) → Sound s → IsBase (s .settings .dimensions) (s .settings .largest) (s .settings .base)
 base-of s v = rw (v .base) (base-is (s .settings .dimensions) (s .settings .largest) (let h = v .dimensions-least in omega arith))
 
 pub base-positive : (s : State) → Sound s → 0 < s .settings .base

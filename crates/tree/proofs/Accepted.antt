@@ -1,0 +1,235 @@
+-- A buffer that the check accepts is a list: it is the picture of the state whose row is the cells read, in that order, whose free
+-- cells are those of the chain, and whose position is the last path word; and that state is in order.
+use mathlib.Core.Path.{_≡_, refl, sym, _∙_, ap, subst}
+use mathlib.Core.Bool.{Bool, true, false, _&&_, false≢true}
+use mathlib.Core.Logic.{_⊎_, inl, inr}
+use mathlib.Core.List.{List, _∷_, map}
+use Prim.Native.Nat.{ℕ, zero, suc, _+_, _*_, _-_, _/_, _%_, _≤_, _<_}
+use native.Mathlib.Nat.{mod-lt, div-add-mod', div-lt-iff-lt-mul}
+use native.Mathlib.Decide.{decLt}
+use native.Mathlib.Omega.{arith}
+use lib.ListN.{length, getD, length-append, length-map}
+use lib.Seq.{ext-getD}
+use borrow.Author.Tests.{eqb-true}
+use Rattle.settings.specs.Numbers.{headerWords, cellWords, lengthOf}
+use Rattle.settings.proofs.Laws.{base-is, base-unique}
+use Rattle.meaning.specs.Row.{headEntry, places}
+use Rattle.meaning.specs.State.{State, positionKey, occurrences}
+use Rattle.meaning.specs.Picture.{wordsOf, firstWith, picture}
+use Rattle.meaning.specs.Reading.{settingsAt, isList}
+use Rattle.meaning.specs.Walk.{wordAt, keyAt, markAt}
+use Rattle.meaning.proofs.Order.{All, Asc, both, all-map, all-append}
+use Rattle.meaning.proofs.State.{Sound, cellsIn}
+use Rattle.meaning.proofs.Cells.{Distinct, all-zip, occurrences-here}
+use Rattle.meaning.proofs.Places.{all-mapped, occurrences-more}
+use Rattle.meaning.proofs.Picture.{shownWords, picture-length, picture-path, picture-word, places-cells, place-found, free-found}
+use Rattle.meaning.proofs.Reading.{picture-is-list}
+use Rattle.tree.specs.Tree.{positionWord, headRight, headerRight, atHead, chainRight, seenAll, accepts}
+use Rattle.tree.proofs.AcceptedTests.{Header, header-right, Head, head-right}
+use Rattle.tree.proofs.AcceptedRun.{Run, head-run}
+use Rattle.tree.proofs.AcceptedKeys.{head-keyed, rowIn, Rising, rising, row-asc}
+use Rattle.tree.proofs.AcceptedWords.{Standing, standing-places, standing-word}
+use Rattle.tree.proofs.AcceptedPath.{Occurs, position-met, path-right, position-key, dead-met, values-met, keys-met}
+use Rattle.tree.proofs.AcceptedChain.{chainCells, chain-length, chain-free, chain-first, free-mark, free-positive, chain-distinct, free-words}
+use Rattle.tree.proofs.AcceptedCells.{distinct-append, distinct-once, all-occurs, covered, left-met, distinct-met, range-met, marked-met}
+
+-- What the check has found of a buffer that it accepts.
+record Checked (ws : List ℕ) : Type 0 where
+  header : Header ws
+  head : Head ws
+  begins : atHead ws .right ≡ true
+  run : Run ws 0 0 (atHead ws) (seenAll ws)
+  passed : seenAll ws .passed ≡ true
+  chain : chainRight ws (seenAll ws .left) (getD ws 4 0) ≡ true
+
+checked : (ws : List ℕ) → accepts ws ≡ true → Checked ws
+unfolding accepts
+checked ws e = at (headerRight ws) refl e
+  where
+    tree : Bool
+    tree = atHead ws .right && seenAll ws .right
+
+    rest : Bool
+    rest = seenAll ws .passed && chainRight ws (seenAll ws .left) (getD ws 4 0)
+
+    at : (t : Bool) → headerRight ws ≡ t → elim t [ true ↦ headRight ws && (tree && rest) | false ↦ false ] ≡ true → Checked ws
+    at true q h =
+        let t = both (headRight ws) (tree && rest) h in
+        let u = both tree rest (t .1) in
+        let v = both (atHead ws .right) (seenAll ws .right) (u .0) in
+        let w = both (seenAll ws .passed) (chainRight ws (seenAll ws .left) (getD ws 4 0)) (u .1) in
+        record { header = header-right ws q; head = head-right ws (t .0); begins = v .0; run = head-run ws (v .1); passed = w .0; chain = w .1 }
+    at false q h = absurd (false≢true h)
+
+-- the state that the buffer shows
+abbrev stateOf : (ws : List ℕ) → Checked ws → State
+stateOf ws k =
+    record { settings = settingsAt ws; row = rowIn ws (k .run .met); free = chainCells ws (seenAll ws .left) (getD ws 4 0); position = positionWord ws }
+
+module _ (ws : List ℕ) (k : Checked ws) where
+  levels : All (λ m. m .level < getD ws 0 0) (k .run .met)
+  levels = all-map (λ m h. h .1) (k .run .met) (k .run .levels)
+
+  rises : Rising ws 0 (k .run .met)
+  unfolding atHead
+  rises = rising ws (k .header) (atHead ws) (k .run .met) (head-keyed ws (k .header) (k .head)) (k .run .trace) levels
+
+  standing : All (Standing ws (getD ws 3 0) (getD ws 0 0)) (places (getD ws 3 0) (getD ws 0 0) (rowIn ws (k .run .met)))
+  standing = standing-places ws (k .header) (k .head) (k .run .met) (k .run .trace) (k .run .links) rises (k .run .cells) levels (k .run .linked)
+
+  position-is : (positionWord ws ≡ 0) ⊎ Occurs ws (positionWord ws) (k .run .met)
+  position-is = position-met ws (k .run .met) (ap (λ t. t .passed) (sym (k .run .ends)) ∙ k .passed)
+
+  -- The state is in order
+
+  free-range : All (λ c. (0 < c) × (c < getD ws 2 0)) (stateOf ws k .free)
+  free-range = all-map (λ c f. (free-positive ws (k .head) c f, f .inside)) (stateOf ws k .free) (chain-free ws (seenAll ws .left) (getD ws 4 0) (k .chain))
+
+  range : All (λ c. (0 < c) × (c < getD ws 2 0)) (cellsIn (stateOf ws k))
+  range =
+      all-append (λ c. (0 < c) × (c < getD ws 2 0)) (map (λ x. x .cell) (stateOf ws k .row)) (stateOf ws k .free)
+      (range-met ws (atHead ws) (k .run .met) (k .run .trace) (k .run .cells)) free-range
+
+  distinct : Distinct (cellsIn (stateOf ws k))
+  distinct =
+      let free = stateOf ws k .free in
+      let row = map (λ x. x .cell) (stateOf ws k .row) in
+      distinct-append row free (distinct-met ws 0 (k .run .met) rises) (chain-distinct ws (k .head) (seenAll ws .left) (getD ws 4 0) (k .chain))
+      (all-map (λ x marked. all-map (λ y f q. omega (arith, marked, free-mark ws y f, ap (markAt ws) q)) free
+      (chain-free ws (seenAll ws .left) (getD ws 4 0) (k .chain))) row (marked-met ws (atHead ws) (k .run .met) (k .run .trace)))
+
+  count : length (cellsIn (stateOf ws k)) ≡ getD ws 2 0 - 1
+  unfolding atHead
+  count =
+      let row = stateOf ws k .row in
+      let free = stateOf ws k .free in
+      omega (
+        arith,
+        length-append (map (λ x. x .cell) row) free,
+        length-map row (λ x. x .cell),
+        chain-length ws (seenAll ws .left) (getD ws 4 0),
+        left-met ws (atHead ws) (k .run .met) (k .run .trace),
+        ap (λ t. t .left) (k .run .ends),
+      )
+
+  key-is : positionKey (stateOf ws k) ≡ keyAt ws (positionWord ws)
+  key-is = position-key ws (k .head) (k .run .met) rises position-is
+
+  position-stands : 0 < occurrences (positionWord ws) (0 ∷ map (λ x. x .cell) (stateOf ws k .row))
+  position-stands = at position-is
+    where
+      row : List ℕ
+      row = map (λ x. x .cell) (stateOf ws k .row)
+
+      at : (positionWord ws ≡ 0) ⊎ Occurs ws (positionWord ws) (k .run .met) → 0 < occurrences (positionWord ws) (0 ∷ row)
+      at (inl q) = omega (arith, occurrences-here (positionWord ws) 0 row (sym q))
+      at (inr o) = omega (arith, o, occurrences-more (positionWord ws) 0 row)
+
+  dead : All (λ x. x .key ≤ positionKey (stateOf ws k) → x .live ≡ false) (stateOf ws k .row)
+  unfolding atHead
+  dead =
+      all-map (λ x d h. d (omega (arith, h, key-is))) (stateOf ws k .row)
+      (dead-met ws (atHead ws) (k .run .met) (k .run .trace) rises (λ e. omega (arith, ap (keyAt ws) (eqb-true (positionWord ws) 0 e))))
+
+  sound : Sound (stateOf ws k)
+  sound =
+      let r = k .header .in-range in
+      record {
+        dimensions-least = r .least-dimensions;
+        dimensions-most = r .most-dimensions;
+        largest-least = r .least-largest;
+        largest-most = r .most-largest;
+        cells-least = r .least-cells;
+        cells-most = r .most-cells;
+        base = base-unique (k .header .base) (base-is (getD ws 0 0) (getD ws 1 0) (let h = r .least-dimensions in omega arith));
+        ascends = subst (λ low. Asc low (stateOf ws k .row)) (k .head .key) (row-asc ws 0 (k .run .met) rises);
+        keys = keys-met ws (atHead ws) (k .run .met) (k .run .trace);
+        count = count;
+        range = range;
+        once = distinct-once (cellsIn (stateOf ws k)) distinct;
+        values = values-met ws (atHead ws) (k .run .met) (k .run .trace);
+        debts = all-map (λ p t. t .debt) (places (getD ws 3 0) (getD ws 0 0) (stateOf ws k .row)) standing;
+        position = position-stands;
+        dead = dead;
+      }
+
+  -- The buffer is its picture
+
+  -- the words of cell c are those that the picture shows
+  Worded : ℕ → Type 0
+  Worded c = (j : ℕ) → j < cellWords (getD ws 0 0) → getD (shownWords (stateOf ws k) c) j 0 ≡ wordAt ws c j
+
+  standing-worded : All Worded (0 ∷ map (λ x. x .cell) (stateOf ws k .row))
+  unfolding Worded wordsOf
+  standing-worded =
+      let b = getD ws 3 0 in
+      let D = getD ws 0 0 in
+      let ps = places b D (stateOf ws k .row) in
+      subst (All Worded) (places-cells b D (stateOf ws k .row))
+      (all-mapped Worded (λ p. p .entry .cell) ps
+      (all-zip (λ p found t j l.
+      ap (λ o. getD (wordsOf b D (stateOf ws k .free) (p .entry .cell) o) j 0) found ∙ sym (standing-word ws b D p refl t j l))
+      ps (place-found (stateOf ws k) sound) standing))
+
+  free-worded : All Worded (stateOf ws k .free)
+  unfolding Worded wordsOf
+  free-worded =
+      let b = getD ws 3 0 in
+      let D = getD ws 0 0 in
+      let free = stateOf ws k .free in
+      all-zip (λ c found words j l. ap (λ o. getD (wordsOf b D free c o) j 0) found ∙ sym (words j l))
+      free (free-found (stateOf ws k) sound) (free-words ws (k .head) (seenAll ws .left) (getD ws 4 0) (k .chain))
+
+  -- each cell below C
+  cell-worded : (c : ℕ) → c < getD ws 2 0 → Worded c
+  cell-worded c h =
+      let cells : List ℕ = 0 ∷ cellsIn (stateOf ws k) in
+      let least = k .header .in-range .least-cells in
+      all-occurs Worded c cells (all-append Worded (0 ∷ map (λ x. x .cell) (stateOf ws k .row)) (stateOf ws k .free) standing-worded free-worded)
+      (covered cells (getD ws 2 0) (all-map (λ x r q. let p = r .0 in omega arith) (cellsIn (stateOf ws k)) range, distinct) (omega (arith, count))
+      (omega arith, all-map (λ x r. r .1) (cellsIn (stateOf ws k)) range) c h)
+
+  -- and so the path words
+  path-worded : (d : ℕ) → d < getD ws 0 0 → getD (picture (stateOf ws k)) (headerWords + d) 0 ≡ getD ws (headerWords + d) 0
+  path-worded d l =
+      picture-path (stateOf ws k) d l
+      ∙ ap (λ key. firstWith (getD ws 3 0) (getD ws 0 0) key (suc d) (headEntry ∷ stateOf ws k .row)) key-is
+      ∙ sym (path-right ws (k .header .positive) (k .head) (k .run .met) (k .run .trace) rises (k .begins) position-is d l)
+
+  -- and so every word
+  word : (i : ℕ) → i < lengthOf (getD ws 0 0) (getD ws 2 0) → getD (picture (stateOf ws k)) i 0 ≡ getD ws i 0
+  unfolding picture Worded
+  word zero h = refl
+  word (suc zero) h = refl
+  word (suc (suc zero)) h = refl
+  word (suc (suc (suc zero))) h = refl
+  word (suc (suc (suc (suc zero)))) h = sym (chain-first ws (seenAll ws .left) (getD ws 4 0) (k .chain))
+  word (suc (suc (suc (suc (suc i))))) h = at (decLt i (getD ws 0 0))
+    where
+      D : ℕ
+      D = getD ws 0 0
+
+      w : ℕ
+      w = cellWords D
+
+      at : Dec (i < D) → getD (picture (stateOf ws k)) (suc (suc (suc (suc (suc i))))) 0 ≡ getD ws (suc (suc (suc (suc (suc i))))) 0
+      at (yes l) =
+          let there : suc (suc (suc (suc (suc i)))) ≡ headerWords + i = omega arith in
+          rw there (path-worded i l)
+      at (no l) =
+          let c = (i - D) / w in
+          let j = (i - D) % w in
+          let pos : 0 < w = omega arith in
+          let there : suc (suc (suc (suc (suc i)))) ≡ headerWords + D + c * w + j = omega (arith, div-add-mod' (i - D) w) in
+          let hc : c < getD ws 2 0 = div-lt-iff-lt-mul pos .1 (omega arith) in
+          let hj : j < w = mod-lt (i - D) pos in
+          rw there (picture-word (stateOf ws k) c j hc hj ∙ cell-worded c hc j hj)
+
+  picture-is : picture (stateOf ws k) ≡ ws
+  picture-is =
+      ext-getD 0 (picture (stateOf ws k)) ws (picture-length (stateOf ws k) ∙ sym (k .header .size)) (λ i h. word i (omega (arith, picture-length (stateOf ws k))))
+
+pub accepts-list : (ws : List ℕ) → accepts ws ≡ true → isList ws ≡ true
+accepts-list ws e =
+    let k = checked ws e in
+    subst (λ t. isList t ≡ true) (picture-is ws k) (picture-is-list (stateOf ws k) (sound ws k))

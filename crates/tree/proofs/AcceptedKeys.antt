@@ -1,0 +1,191 @@
+-- The keys of the cells met. Coordinate words that write a key are its coordinates; so a cell that is right after the one read before
+-- has the larger key, and shares with it as many coordinates as the number says by which it was met. In a row that rises so, the cell
+-- that link d leads to is the first that shares exactly d coordinates.
+use mathlib.Core.Path.{_≡_, refl, sym, _∙_, ap}
+use mathlib.Core.Bool.{true, not}
+use mathlib.Core.List.{List, [], _∷_, map}
+use Prim.Native.Nat.{ℕ, suc, _+_, _*_, _^_, _≤_, _<_, min}
+use native.Mathlib.Nat.{mul-le-mul-right}
+use native.Mathlib.Decide.{ℕ-discrete, decLt}
+use native.Mathlib.Omega.{arith}
+use lib.Dec.{eqb, ltb}
+use lib.ListN.{length, getD, drop, length-take, length-drop}
+use lib.Seq.{getD-take, getD-drop}
+use borrow.Author.Tests.{ltb-true, eqb-true, eq-eqb, ne-eqb}
+use Rattle.settings.specs.Numbers.{fieldsBeforeCoordinates, cellWords}
+use Rattle.meaning.specs.Keys.{coordinate, shared}
+use Rattle.meaning.specs.Row.{Entry, firstSharing}
+use Rattle.meaning.specs.Walk.{place, keyAt, valueAt, markAt, owedAt, coordinateAt}
+use Rattle.meaning.proofs.Order.{All, Asc, both}
+use Rattle.meaning.proofs.Keys.{shared-same, shared-sym, ultra, coordinate-head, coordinate-same, coordinate-less, coordinate-other, hornerFrom, horner, horner-coordinates}
+use Rattle.tree.specs.declared.Seen.{Seen}
+use Rattle.tree.specs.Tree.{written, coordinateWords, allBelow, writesKey}
+use Rattle.tree.proofs.AcceptedTests.{Header, Head}
+use Rattle.tree.proofs.AcceptedRun.{Met, next, next-past, next-here, next-none, seen, Trace}
+
+-- Coordinate words
+
+written-horner : (b n : ℕ) (xs : List ℕ) → hornerFrom b n xs ≡ written b n xs
+unfolding written hornerFrom
+written-horner b n [] = refl
+written-horner b n (x ∷ xs) = written-horner b (n * b + x) xs
+
+below-all : (b : ℕ) (xs : List ℕ) → allBelow b xs ≡ true → All (λ x. x < b) xs
+unfolding allBelow
+below-all b [] e = tt
+below-all b (x ∷ xs) e = let t = both (ltb x b) (allBelow b xs) e in (ltb-true x b (t .0), below-all b xs (t .1))
+
+-- the words of a cell are words of the buffer
+pub cell-fits : (ws : List ℕ) → Header ws → (c j : ℕ) → c < getD ws 2 0 → j ≤ cellWords (getD ws 0 0) → place (getD ws 0 0) c j ≤ length ws
+cell-fits ws header c j h l =
+    let w = cellWords (getD ws 0 0) in
+    let m : suc c * w ≤ getD ws 2 0 * w = mul-le-mul-right w h in
+    omega (arith, header .size)
+
+-- the coordinate words of a cell are its key's coordinates
+pub record Keyed (ws : List ℕ) (x : ℕ) : Type 0 where
+  pub below : keyAt ws x < getD ws 3 0 ^ getD ws 0 0
+  pub coordinate : (d : ℕ) → d < getD ws 0 0 → coordinateAt ws x d ≡ coordinate (getD ws 3 0) (getD ws 0 0) (keyAt ws x) d
+
+coordinate-word : (ws : List ℕ) (c d : ℕ) → d < getD ws 0 0 → coordinateAt ws c d ≡ getD (coordinateWords ws c) d 0
+coordinate-word ws c d l =
+    ap (λ i. getD ws i 0) (let there : place (getD ws 0 0) c (fieldsBeforeCoordinates + d) ≡ place (getD ws 0 0) c fieldsBeforeCoordinates + d = omega arith in there)
+    ∙ sym (getD-drop (place (getD ws 0 0) c fieldsBeforeCoordinates) ws d 0)
+    ∙ sym (getD-take (getD ws 0 0) (drop (place (getD ws 0 0) c fieldsBeforeCoordinates) ws) d 0 l)
+
+coordinate-words-length : (ws : List ℕ) → Header ws → (c : ℕ) → c < getD ws 2 0 → length (coordinateWords ws c) ≡ getD ws 0 0
+coordinate-words-length ws header c inside =
+    let D = getD ws 0 0 in
+    let from = place D c fieldsBeforeCoordinates in
+    let fits : place D c (fieldsBeforeCoordinates + D) ≤ length ws = cell-fits ws header c (fieldsBeforeCoordinates + D) inside (omega arith) in
+    length-take D (drop from ws) ∙ omega (arith, length-drop from ws)
+
+pub cell-keyed : (ws : List ℕ) → Header ws → (c : ℕ) → c < getD ws 2 0 → writesKey ws c ≡ true → Keyed ws c
+unfolding writesKey horner
+cell-keyed ws header c inside e =
+    let b = getD ws 3 0 in
+    let words = coordinateWords ws c in
+    let t = both (allBelow b words) (eqb (written b 0 words) (keyAt ws c)) e in
+    let k = horner-coordinates b (getD ws 0 0) (keyAt ws c) words (coordinate-words-length ws header c inside) (below-all b words (t .0))
+    (written-horner b 0 words ∙ eqb-true (written b 0 words) (keyAt ws c) (t .1)) in
+    record { below = k .1; coordinate = λ d l. coordinate-word ws c d l ∙ ap (λ xs. getD xs d 0) (sym (k .0)) }
+
+pub head-keyed : (ws : List ℕ) → Header ws → Head ws → Keyed ws 0
+head-keyed ws header head =
+    let b = getD ws 3 0 in
+    let D = getD ws 0 0 in
+    record {
+      below = let k = head .key in let h = header .base .above in omega arith;
+      coordinate = λ d l. head .coordinate d l ∙ sym (ap (λ k. coordinate b D k d) (head .key) ∙ coordinate-head b D d);
+    }
+
+-- keys whose coordinates are equal below e, and at e the second's is larger
+first-other : (b D x y e : ℕ) → 0 < b → e < D → x < b ^ D → y < b ^ D → ((d : ℕ) → d < e → coordinate b D y d ≡ coordinate b D x d) →
+    coordinate b D x e < coordinate b D y e → (x < y) × (shared b D x y ≡ e)
+first-other b D x y e pos inside hx hy same less = (at (decLt x y), is)
+  where
+    ne : x ≡ y → ⊥
+    ne q = omega (arith, less, ap (λ k. coordinate b D k e) q)
+
+    is : shared b D x y ≡ e
+    is = go (decLt (shared b D x y) e) (decLt e (shared b D x y))
+      where
+        go : Dec (shared b D x y < e) → Dec (e < shared b D x y) → shared b D x y ≡ e
+        go (yes h) k = absurd (coordinate-other b D x y pos hx hy ne (sym (same (shared b D x y) h)))
+        go (no h) (yes k) = absurd (omega (arith, less, coordinate-same b D x y e k))
+        go (no h) (no k) = omega (arith, h, k)
+
+    at : Dec (x < y) → x < y
+    at (yes h) = h
+    at (no h) =
+        let other = coordinate-less b D y x pos hy hx (omega (arith, h, ne)) in
+        absurd (omega (arith, less, rw (shared-sym b D y x ∙ is) at other))
+
+-- The row
+
+-- the entry that the words of cell c hold
+abbrev pub entryIn : List ℕ → ℕ → Entry
+entryIn ws c = record { cell = c; key = keyAt ws c; value = valueAt ws c; live = eqb (markAt ws c) 1; owes = not (eqb (owedAt ws c) 0) }
+
+abbrev pub rowIn : List ℕ → List Met → List Entry
+rowIn ws met = map (λ m. entryIn ws (m .cell)) met
+
+-- cells met after cell x: each has a larger key than the one before, and shares with it what the number says by which it was met
+abbrev pub Rising : List ℕ → ℕ → List Met → Type 0
+Rising ws x [] = Unit {0}
+Rising ws x (m ∷ met) = ((keyAt ws x < keyAt ws (m .cell)) × (shared (getD ws 3 0) (getD ws 0 0) (keyAt ws x) (keyAt ws (m .cell)) ≡ m .level)) × Rising ws (m .cell) met
+
+pub row-asc : (ws : List ℕ) (x : ℕ) (met : List Met) → Rising ws x met → Asc (keyAt ws x) (rowIn ws met)
+row-asc ws x [] r = tt
+row-asc ws x (m ∷ met) r = (r .0 .0, row-asc ws (m .cell) met (r .1))
+
+pub rising : (ws : List ℕ) → Header ws → (s : Seen) (met : List Met) → Keyed ws (s .last) → Trace ws s met → All (λ m. m .level < getD ws 0 0) met → Rising ws (s .last) met
+rising ws header s [] keyed t levels = tt
+rising ws header s (m ∷ met) keyed t levels =
+    let b = getD ws 3 0 in
+    let D = getD ws 0 0 in
+    let x = s .last in
+    let y = m .cell in
+    let e = m .level in
+    let own = cell-keyed ws header y (t .0 .inside) (t .0 .writes) in
+    let less : coordinate b D (keyAt ws x) e < coordinate b D (keyAt ws y) e =
+    (let p = keyed .coordinate e (levels .0) in let q = own .coordinate e (levels .0) in let h = t .0 .larger in omega arith) in (
+      first-other b D (keyAt ws x) (keyAt ws y) e (header .positive) (levels .0) (keyed .below) (own .below)
+          (λ d l. let k : d < D = (let i = levels .0 in omega arith) in sym (own .coordinate d k) ∙ t .0 .same d l ∙ keyed .coordinate d k) less,
+      rising ws header (seen ws m s) met own (t .1) (levels .1),
+    )
+
+-- The first that shares d coordinates
+
+sharing-here : (b D key d : ℕ) (y : Entry) (later : List Entry) → shared b D key (y .key) ≡ d → firstSharing b D key d (y ∷ later) ≡ y .cell
+unfolding firstSharing
+sharing-here b D key d y later e = rw (eq-eqb (shared b D key (y .key)) d e) refl
+
+sharing-past : (b D key d : ℕ) (y : Entry) (later : List Entry) → (shared b D key (y .key) ≡ d → ⊥) → firstSharing b D key d (y ∷ later) ≡ firstSharing b D key d later
+unfolding firstSharing
+sharing-past b D key d y later ne = rw (ne-eqb (shared b D key (y .key)) d ne) refl
+
+module _ (ws : List ℕ) (pos : 0 < getD ws 3 0) where
+  -- none that comes after a cell which shares less than d with x
+  sharing-none : (x p d : ℕ) (met : List Met) → Rising ws p met → keyAt ws x ≤ keyAt ws p → shared (getD ws 3 0) (getD ws 0 0) (keyAt ws x) (keyAt ws p) < d →
+      firstSharing (getD ws 3 0) (getD ws 0 0) (keyAt ws x) d (rowIn ws met) ≡ 0
+  unfolding firstSharing
+  sharing-none x p d [] r h l = refl
+  sharing-none x p d (m ∷ met) r h l =
+      let b = getD ws 3 0 in
+      let D = getD ws 0 0 in
+      let k = r .0 .0 in
+      let u = ultra b D (keyAt ws x) (keyAt ws p) (keyAt ws (m .cell)) pos h (omega arith) in
+      sharing-past b D (keyAt ws x) d (entryIn ws (m .cell)) (rowIn ws met) (λ e. omega arith)
+      ∙ sharing-none x (m .cell) d met (r .1) (omega arith) (omega arith)
+
+  -- after a cell p that shares more than d with x, the first that is met by a number of at most d
+  sharing-next : (x p d : ℕ) (met : List Met) → Rising ws p met → keyAt ws x ≤ keyAt ws p → d < shared (getD ws 3 0) (getD ws 0 0) (keyAt ws x) (keyAt ws p) →
+      firstSharing (getD ws 3 0) (getD ws 0 0) (keyAt ws x) d (rowIn ws met) ≡ next d met
+  unfolding firstSharing next
+  sharing-next x p d [] r h l = refl
+  sharing-next x p d (m ∷ met) r h l =
+      at (decLt d (m .level)) (ℕ-discrete (m .level) d) (r .0 .1) (ultra b D (keyAt ws x) (keyAt ws p) (keyAt ws (m .cell)) pos h (let k = r .0 .0 in omega arith))
+      (λ k. sharing-next x (m .cell) d met (r .1) (let i = r .0 .0 in omega arith) k)
+    where
+      b : ℕ
+      b = getD ws 3 0
+
+      D : ℕ
+      D = getD ws 0 0
+
+      at : Dec (d < m .level) → Dec (m .level ≡ d) → shared b D (keyAt ws p) (keyAt ws (m .cell)) ≡ m .level →
+          shared b D (keyAt ws x) (keyAt ws (m .cell)) ≡ min (shared b D (keyAt ws x) (keyAt ws p)) (shared b D (keyAt ws p) (keyAt ws (m .cell))) →
+          (d < shared b D (keyAt ws x) (keyAt ws (m .cell)) → firstSharing b D (keyAt ws x) d (rowIn ws met) ≡ next d met) →
+          firstSharing b D (keyAt ws x) d (entryIn ws (m .cell) ∷ rowIn ws met) ≡ next d (m ∷ met)
+      at (yes k) q is u more =
+          sharing-past b D (keyAt ws x) d (entryIn ws (m .cell)) (rowIn ws met) (λ e. omega arith) ∙ more (omega arith) ∙ sym (next-past d m met k)
+      at (no k) (yes q) is u more =
+          sharing-here b D (keyAt ws x) d (entryIn ws (m .cell)) (rowIn ws met) (omega arith) ∙ sym (next-here d m met q)
+      at (no k) (no q) is u more =
+          sharing-past b D (keyAt ws x) d (entryIn ws (m .cell)) (rowIn ws met) (λ e. omega arith)
+          ∙ sharing-none x (m .cell) d met (r .1) (let i = r .0 .0 in omega arith) (omega arith) ∙ sym (next-none d m met (omega arith))
+
+  -- link d of x
+  pub sharing-is-next : (x d : ℕ) (met : List Met) → Rising ws x met → d < getD ws 0 0 → firstSharing (getD ws 3 0) (getD ws 0 0) (keyAt ws x) d (rowIn ws met) ≡ next d met
+  sharing-is-next x d met r l = sharing-next x x d met r (omega arith) (omega (arith, shared-same (getD ws 3 0) (getD ws 0 0) (keyAt ws x)))

@@ -1,0 +1,200 @@
+-- The tests that the check makes, read as facts: those of a cell that is met, of the head, of the header and of a free cell.
+use mathlib.Core.Path.{_≡_, refl, sym, _∙_, ap}
+use mathlib.Core.Bool.{Bool, true, false, cond, _&&_, _||_, not}
+use mathlib.Core.Logic.{_⊎_, inl, inr}
+use mathlib.Core.List.{List, [], _∷_}
+use Prim.Native.Nat.{ℕ, zero, suc, _+_, _-_, _^_, _≤_, _<_}
+use native.Mathlib.Decide.{ℕ-discrete}
+use native.Mathlib.Omega.{arith}
+use lib.Dec.{eqb, leb, ltb}
+use lib.ListN.{length, getD}
+use borrow.Author.Tests.{ltb-true, ltb-false, leb-true, eqb-true, eq-eqb, ne-eqb, not-true}
+use Rattle.settings.specs.Numbers.{cellWords, lengthOf, inRange}
+use Rattle.settings.specs.Base.{IsBase}
+use Rattle.settings.proofs.Laws.{Ranges, ranges, is-base}
+use Rattle.meaning.specs.Walk.{wordAt, keyAt, valueAt, markAt, owedAt, lowAt, highAt, coordinateAt, linkAt}
+use Rattle.meaning.proofs.Order.{All, both}
+use Rattle.tree.specs.declared.Seen.{Seen}
+use Rattle.tree.specs.Tree.{allFrom, writesKey, follows, entryRight, dueTo, linksBelow, debtRight, agreedAt, positionWord, cellRight, headRight, freeRight, headerRight}
+
+-- Tests of several parts
+
+-- tests that hold together
+abbrev joined : List Bool → Bool
+joined [] = true
+joined (t ∷ []) = t
+joined (t ∷ u ∷ ts) = t && joined (u ∷ ts)
+
+joined-all : (ts : List Bool) → joined ts ≡ true → All (λ t. t ≡ true) ts
+joined-all [] e = tt
+joined-all (t ∷ []) e = (e, tt)
+joined-all (t ∷ u ∷ ts) e = let h = both t (joined (u ∷ ts)) e in (h .0, joined-all (u ∷ ts) (h .1))
+
+pub either : (t u : Bool) → (t || u) ≡ true → (t ≡ true) ⊎ (u ≡ true)
+either true u e = inl refl
+either false u e = inr e
+
+-- a test that holds at each of n numbers from i on
+all-from : (test : ℕ → Bool) (i n d : ℕ) → allFrom test i n ≡ true → i ≤ d → d < i + n → test d ≡ true
+unfolding allFrom
+all-from test i zero d e h l = absurd (omega arith)
+all-from test i (suc n) d e h l = at (ℕ-discrete i d) (both (test i) (allFrom test (suc i) n) e) (all-from test (suc i) n d)
+  where
+    at : Dec (i ≡ d) → (test i ≡ true) × (allFrom test (suc i) n ≡ true) → (allFrom test (suc i) n ≡ true → suc i ≤ d → d < suc i + n → test d ≡ true) → test d ≡ true
+    at (yes q) t more = ap test (sym q) ∙ t .0
+    at (no ne) t more = more (t .1) (omega arith) (omega arith)
+
+-- A cell that is met
+
+-- of a cell y that owes, of dimension e, read after x
+pub record Owing (ws : List ℕ) (x y e : ℕ) : Type 0 where
+  pub before : owedAt ws x ≡ 0
+  pub low : lowAt ws y ≡ e
+  pub high : e < highAt ws y
+  pub inside : highAt ws y < getD ws 0 0
+  pub links : (d : ℕ) → d < getD ws 0 0 → linkAt ws y d ≡ cond (eqb d (highAt ws y)) (owedAt ws y) 0
+
+-- of a cell y, met by link e, when `s` has been seen
+pub record Right (ws : List ℕ) (s : Seen) (y e : ℕ) : Type 0 where
+  pub left : 0 < s .left
+  pub inside : y < getD ws 2 0
+  pub same : (d : ℕ) → d < e → coordinateAt ws y d ≡ coordinateAt ws (s .last) d
+  pub larger : coordinateAt ws (s .last) e < coordinateAt ws y e
+  pub writes : writesKey ws y ≡ true
+  pub key : keyAt ws y ≤ getD ws 1 0
+  pub entry : ((markAt ws y ≡ 2) × (valueAt ws y ≡ 0)) ⊎ ((markAt ws y ≡ 1) × (s .passed ≡ true))
+  pub below : (d : ℕ) → d < e → (linkAt ws y d ≡ 0) ⊎ (dueTo ws (s .last) d ≡ true)
+  pub unowing : owedAt ws y ≡ 0 → (lowAt ws y ≡ 0) × (highAt ws y ≡ 0)
+  pub owing : (owedAt ws y ≡ 0 → ⊥) → Owing ws (s .last) y e
+  pub path : y ≡ positionWord ws → agreedAt ws y e (s .agreed) ≡ getD ws 0 0
+
+owing-right : (ws : List ℕ) (x y e : ℕ) → debtRight ws x y e ≡ true → (owedAt ws y ≡ 0 → ⊥) → Owing ws x y e
+unfolding debtRight
+owing-right ws x y e h ne =
+    let links : ℕ → Bool = λ d. eqb (linkAt ws y d) (cond (eqb d (highAt ws y)) (owedAt ws y) 0) in
+    let t = joined-all (eqb (owedAt ws x) 0 ∷ eqb (lowAt ws y) e ∷ ltb e (highAt ws y) ∷ ltb (highAt ws y) (getD ws 0 0) ∷
+    ltb (owedAt ws y) (getD ws 2 0) ∷ allFrom links 0 (getD ws 0 0) ∷ [])
+    (rw (ne-eqb (owedAt ws y) 0 ne) at h) in
+    record {
+      before = eqb-true (owedAt ws x) 0 (t .0);
+      low = eqb-true (lowAt ws y) e (t .1 .0);
+      high = ltb-true e (highAt ws y) (t .1 .1 .0);
+      inside = ltb-true (highAt ws y) (getD ws 0 0) (t .1 .1 .1 .0);
+      links = λ d l. eqb-true (linkAt ws y d) (cond (eqb d (highAt ws y)) (owedAt ws y) 0) (all-from links 0 (getD ws 0 0) d (t .1 .1 .1 .1 .1 .0) (omega arith) (omega arith));
+    }
+
+unowing-right : (ws : List ℕ) (x y e : ℕ) → debtRight ws x y e ≡ true → owedAt ws y ≡ 0 → (lowAt ws y ≡ 0) × (highAt ws y ≡ 0)
+unfolding debtRight
+unowing-right ws x y e h q =
+    let t = both (eqb (lowAt ws y) 0) (eqb (highAt ws y) 0) (rw (eq-eqb (owedAt ws y) 0 q) at h) in
+    (eqb-true (lowAt ws y) 0 (t .0), eqb-true (highAt ws y) 0 (t .1))
+
+entry-right : (ws : List ℕ) (y : ℕ) (passed : Bool) → entryRight ws y passed ≡ true →
+    (keyAt ws y ≤ getD ws 1 0) × (((markAt ws y ≡ 2) × (valueAt ws y ≡ 0)) ⊎ ((markAt ws y ≡ 1) × (passed ≡ true)))
+unfolding entryRight
+entry-right ws y passed h =
+    let dead = eqb (markAt ws y) 2 && eqb (valueAt ws y) 0 in
+    let live = eqb (markAt ws y) 1 && passed in
+    let t = both (leb (keyAt ws y) (getD ws 1 0)) (dead || live) h in
+    (leb-true (keyAt ws y) (getD ws 1 0) (t .0), at (either dead live (t .1)))
+  where
+    at : ((eqb (markAt ws y) 2 && eqb (valueAt ws y) 0) ≡ true) ⊎ ((eqb (markAt ws y) 1 && passed) ≡ true) →
+        ((markAt ws y ≡ 2) × (valueAt ws y ≡ 0)) ⊎ ((markAt ws y ≡ 1) × (passed ≡ true))
+    at (inl d) = let u = both (eqb (markAt ws y) 2) (eqb (valueAt ws y) 0) d in inl (eqb-true (markAt ws y) 2 (u .0), eqb-true (valueAt ws y) 0 (u .1))
+    at (inr l) = let u = both (eqb (markAt ws y) 1) passed l in inr (eqb-true (markAt ws y) 1 (u .0), u .1)
+
+below-right : (ws : List ℕ) (x y e : ℕ) → linksBelow ws x y e ≡ true → (d : ℕ) → d < e → (linkAt ws y d ≡ 0) ⊎ (dueTo ws x d ≡ true)
+unfolding linksBelow
+below-right ws x y e h d l = at (either (eqb (linkAt ws y d) 0) (dueTo ws x d) (all-from (λ i. eqb (linkAt ws y i) 0 || dueTo ws x i) 0 e d h (omega arith) (omega arith)))
+  where
+    at : (eqb (linkAt ws y d) 0 ≡ true) ⊎ (dueTo ws x d ≡ true) → (linkAt ws y d ≡ 0) ⊎ (dueTo ws x d ≡ true)
+    at (inl q) = inl (eqb-true (linkAt ws y d) 0 q)
+    at (inr q) = inr q
+
+pub cell-right : (ws : List ℕ) (y e : ℕ) (s : Seen) → cellRight ws y e s ≡ true → Right ws s y e
+unfolding cellRight follows
+cell-right ws y e s h =
+    let x = s .last in
+    let agreed = agreedAt ws y e (s .agreed) in
+    let alike : ℕ → Bool = λ d. eqb (coordinateAt ws y d) (coordinateAt ws x d) in
+    let t = joined-all (ltb 0 (s .left) ∷ ltb y (getD ws 2 0) ∷ follows ws x y e ∷ writesKey ws y ∷ entryRight ws y (s .passed) ∷
+    linksBelow ws x y e ∷ debtRight ws x y e ∷ (not (eqb y (positionWord ws)) || eqb agreed (getD ws 0 0)) ∷ []) h in
+    let f = both (allFrom alike 0 e) (ltb (coordinateAt ws x e) (coordinateAt ws y e)) (t .1 .1 .0) in
+    let entry = entry-right ws y (s .passed) (t .1 .1 .1 .1 .0) in
+    record {
+      left = ltb-true 0 (s .left) (t .0);
+      inside = ltb-true y (getD ws 2 0) (t .1 .0);
+      same = λ d l. eqb-true (coordinateAt ws y d) (coordinateAt ws x d) (all-from alike 0 e d (f .0) (omega arith) (omega arith));
+      larger = ltb-true (coordinateAt ws x e) (coordinateAt ws y e) (f .1);
+      writes = t .1 .1 .1 .0;
+      key = entry .0;
+      entry = entry .1;
+      below = below-right ws x y e (t .1 .1 .1 .1 .1 .0);
+      unowing = unowing-right ws x y e (t .1 .1 .1 .1 .1 .1 .0);
+      owing = owing-right ws x y e (t .1 .1 .1 .1 .1 .1 .0);
+      path = λ q. eqb-true agreed (getD ws 0 0) (rw (eq-eqb y (positionWord ws) q) at (t .1 .1 .1 .1 .1 .1 .1 .0));
+    }
+
+-- The header and the head
+
+pub record Header (ws : List ℕ) : Type 0 where
+  pub in-range : Ranges (getD ws 0 0) (getD ws 1 0) (getD ws 2 0)
+  pub positive : 0 < getD ws 3 0
+  pub size : length ws ≡ lengthOf (getD ws 0 0) (getD ws 2 0)
+  pub base : IsBase (getD ws 0 0) (getD ws 1 0) (getD ws 3 0)
+
+pub header-right : (ws : List ℕ) → headerRight ws ≡ true → Header ws
+unfolding headerRight
+header-right ws h =
+    let D = getD ws 0 0 in
+    let K = getD ws 1 0 in
+    let C = getD ws 2 0 in
+    let b = getD ws 3 0 in
+    let t = joined-all (inRange D K C ∷ eqb (length ws) (lengthOf D C) ∷ ltb 0 b ∷ ltb K (b ^ D) ∷ not (ltb K ((b - 1) ^ D)) ∷ []) h in
+    record {
+      in-range = ranges D K C (t .0);
+      positive = ltb-true 0 b (t .1 .1 .0);
+      size = eqb-true (length ws) (lengthOf D C) (t .1 .0);
+      base = is-base D (ltb-true K (b ^ D) (t .1 .1 .1 .0)) (ltb-false K ((b - 1) ^ D) (not-true (ltb K ((b - 1) ^ D)) (t .1 .1 .1 .1 .0)));
+    }
+
+pub record Head (ws : List ℕ) : Type 0 where
+  pub key : keyAt ws 0 ≡ 0
+  pub value : valueAt ws 0 ≡ 0
+  pub mark : markAt ws 0 ≡ 2
+  pub owed : owedAt ws 0 ≡ 0
+  pub low : lowAt ws 0 ≡ 0
+  pub high : highAt ws 0 ≡ 0
+  pub coordinate : (d : ℕ) → d < getD ws 0 0 → coordinateAt ws 0 d ≡ 0
+
+pub head-right : (ws : List ℕ) → headRight ws ≡ true → Head ws
+unfolding headRight
+head-right ws h =
+    let t = joined-all (eqb (keyAt ws 0) 0 ∷ eqb (valueAt ws 0) 0 ∷ eqb (markAt ws 0) 2 ∷ eqb (owedAt ws 0) 0 ∷ eqb (lowAt ws 0) 0 ∷
+    eqb (highAt ws 0) 0 ∷ allFrom (λ d. eqb (coordinateAt ws 0 d) 0) 0 (getD ws 0 0) ∷ []) h in
+    record {
+      key = eqb-true (keyAt ws 0) 0 (t .0);
+      value = eqb-true (valueAt ws 0) 0 (t .1 .0);
+      mark = eqb-true (markAt ws 0) 2 (t .1 .1 .0);
+      owed = eqb-true (owedAt ws 0) 0 (t .1 .1 .1 .0);
+      low = eqb-true (lowAt ws 0) 0 (t .1 .1 .1 .1 .0);
+      high = eqb-true (highAt ws 0) 0 (t .1 .1 .1 .1 .1 .0);
+      coordinate = λ d l. eqb-true (coordinateAt ws 0 d) 0 (all-from (λ i. eqb (coordinateAt ws 0 i) 0) 0 (getD ws 0 0) d (t .1 .1 .1 .1 .1 .1 .0) (omega arith) (omega arith));
+    }
+
+-- A free cell
+
+pub record Free (ws : List ℕ) (c : ℕ) : Type 0 where
+  pub inside : c < getD ws 2 0
+  pub blank : (j : ℕ) → 0 < j → j < cellWords (getD ws 0 0) → wordAt ws c j ≡ 0
+
+pub free-right : (ws : List ℕ) (c : ℕ) → freeRight ws c ≡ true → Free ws c
+unfolding freeRight
+free-right ws c h =
+    let D = getD ws 0 0 in
+    let blank : ℕ → Bool = λ j. eqb (wordAt ws c j) 0 in
+    let t = both (ltb c (getD ws 2 0)) (allFrom blank 1 (cellWords D - 1)) h in
+    record {
+      inside = ltb-true c (getD ws 2 0) (t .0);
+      blank = λ j pos l. eqb-true (wordAt ws c j) 0 (all-from blank 1 (cellWords D - 1) j (t .1) pos (omega arith));
+    }

@@ -1,0 +1,360 @@
+-- The words of the cells met are those that their places in the row ask for. A cell that owes has no link but the one to the cell met
+-- next, so that cell is the one owed; and what a cell is found to hold for the one before is then that one's settled link.
+use mathlib.Core.Path.{_≡_, refl, sym, _∙_, ap, ap₂, subst}
+use mathlib.Core.Bool.{Bool, true, false, cond, _&&_, not, false≢true}
+use mathlib.Core.Logic.{_⊎_, inl, inr}
+use mathlib.Core.List.{List, [], _∷_, _++_, map}
+use Prim.Native.Nat.{ℕ, zero, suc, _+_, _-_, _≤_, _<_}
+use native.Mathlib.Nat.{zero-add}
+use native.Mathlib.Decide.{ℕ-discrete, decLe, decLt}
+use native.Mathlib.Omega.{arith}
+use lib.Dec.{eqb, leb, ltb}
+use lib.ListN.{length, getD, List·getD-append}
+use lib.Seq.{getD-append-add}
+use borrow.Author.Tests.{ltb-true, leb-true, le-leb, lt-leb, eq-eqb, ne-eqb, eqb-false, not-true}
+use Rattle.settings.specs.Numbers.{fieldsBeforeCoordinates, cellWords}
+use Rattle.meaning.specs.Keys.{coordinates, coordinate, shared}
+use Rattle.meaning.specs.Row.{headEntry, firstSharing, Place, headPlace, placesAfter, places, settledLink, owed, low, high, between, link}
+use Rattle.meaning.specs.Picture.{numbersFrom, mark, standingWords}
+use Rattle.meaning.specs.Walk.{wordAt, keyAt, valueAt, markAt, owedAt, lowAt, highAt, coordinateAt, linkAt, linkRead}
+use Rattle.meaning.proofs.Order.{All, both}
+use Rattle.meaning.proofs.Keys.{coordinates-length, coordinate-head}
+use Rattle.meaning.proofs.State.{Debt}
+use Rattle.meaning.proofs.Blocks.{made-at}
+use Rattle.tree.specs.declared.Seen.{Seen}
+use Rattle.tree.specs.Tree.{dueTo, atHead}
+use Rattle.tree.proofs.AcceptedTests.{Owing, Right, Header, Head}
+use Rattle.tree.proofs.AcceptedRun.{Met, next, next-here, next-none, Linked, Links, seen, Trace}
+use Rattle.tree.proofs.AcceptedKeys.{cell-keyed, entryIn, rowIn, Rising, sharing-is-next}
+
+-- Links read through what is owed
+
+read-own : (ws : List ℕ) (x d : ℕ) → dueTo ws x d ≡ false → linkRead ws x d ≡ linkAt ws x d
+unfolding linkRead
+read-own ws x d e = ap (λ t. linkAt ws (cond t (owedAt ws x) x) d) e
+
+read-due : (ws : List ℕ) (x d : ℕ) → dueTo ws x d ≡ true → linkRead ws x d ≡ linkAt ws (owedAt ws x) d
+unfolding linkRead
+read-due ws x d e = ap (λ t. linkAt ws (cond t (owedAt ws x) x) d) e
+
+-- x owes, and link d is one that it owes
+record Due (ws : List ℕ) (x d : ℕ) : Type 0 where
+  owes : owedAt ws x ≡ 0 → ⊥
+  least : lowAt ws x ≤ d
+  above : d < highAt ws x
+
+due-fact : (ws : List ℕ) (x d : ℕ) → dueTo ws x d ≡ true → Due ws x d
+due-fact ws x d e =
+    let t = both (not (eqb (owedAt ws x) 0)) (between (lowAt ws x) (highAt ws x) d) e in
+    let u = both (leb (lowAt ws x) d) (ltb d (highAt ws x)) (t .1) in
+    record {
+      owes = eqb-false (owedAt ws x) 0 (not-true (eqb (owedAt ws x) 0) (t .0));
+      least = leb-true (lowAt ws x) d (u .0);
+      above = ltb-true d (highAt ws x) (u .1);
+    }
+
+due-not : (ws : List ℕ) (x d : ℕ) → highAt ws x ≤ d → dueTo ws x d ≡ false
+due-not ws x d h = at (dueTo ws x d) refl
+  where
+    at : (t : Bool) → dueTo ws x d ≡ t → t ≡ false
+    at true e = absurd (let k = due-fact ws x d e .above in omega arith)
+    at false e = refl
+
+-- What is owed, and to which cell
+
+pub record Clear (ws : List ℕ) (x : ℕ) : Type 0 where
+  pub owed : owedAt ws x ≡ 0
+  pub low : lowAt ws x ≡ 0
+  pub high : highAt ws x ≡ 0
+
+-- x, of dimension e, owes the cell met next
+pub record OwesTo (ws : List ℕ) (x e : ℕ) (m : Met) : Type 0 where
+  pub owes : owedAt ws x ≡ 0 → ⊥
+  pub owed : owedAt ws x ≡ m .cell
+  pub low : lowAt ws x ≡ e
+  pub high : highAt ws x ≡ m .level
+  pub lower : e < m .level
+
+-- x owes nothing, or the cell met next
+abbrev pub OwesNext : List ℕ → ℕ → ℕ → List Met → Type 0
+OwesNext ws x e [] = Clear ws x
+OwesNext ws x e (m ∷ met) = Clear ws x ⊎ OwesTo ws x e m
+
+clear-next : (ws : List ℕ) (x e : ℕ) → Clear ws x → (met : List Met) → OwesNext ws x e met
+clear-next ws x e c [] = c
+clear-next ws x e c (m ∷ met) = inl c
+
+-- a cell y that owes: its only link leads to the owed cell
+module _ (ws : List ℕ) (x y e : ℕ) (o : Owing ws x y e) where
+  owing-link : linkRead ws y (highAt ws y) ≡ owedAt ws y
+  owing-link =
+      read-own ws y (highAt ws y) (due-not ws y (highAt ws y) (omega arith)) ∙ o .links (highAt ws y) (o .inside)
+      ∙ ap (λ t. cond t (owedAt ws y) 0) (eq-eqb (highAt ws y) (highAt ws y) refl)
+
+  owing-none : (d : ℕ) → d < getD ws 0 0 → highAt ws y < d → linkRead ws y d ≡ 0
+  owing-none d l h =
+      read-own ws y d (due-not ws y d (omega arith)) ∙ o .links d l ∙ ap (λ t. cond t (owedAt ws y) 0) (ne-eqb d (highAt ws y) (λ q. omega arith))
+
+  -- so that is the cell met next
+  owing-next : (owedAt ws y ≡ 0 → ⊥) → (later : List Met) → Linked ws y e later →
+      All (λ m. 0 < m .cell) later → All (λ m. m .level < getD ws 0 0) later → OwesNext ws y e later
+  unfolding next
+  owing-next ne [] linked cells levels = absurd (ne (sym owing-link ∙ linked (highAt ws y) (let h = o .high in omega arith) (o .inside)))
+  owing-next ne (m ∷ later) linked cells levels = at (decLt (highAt ws y) (m .level)) (ℕ-discrete (m .level) (highAt ws y))
+    where
+      leads : owedAt ws y ≡ next (highAt ws y) (m ∷ later)
+      leads = sym owing-link ∙ linked (highAt ws y) (let h = o .high in omega arith) (o .inside)
+
+      at : Dec (highAt ws y < m .level) → Dec (m .level ≡ highAt ws y) → Clear ws y ⊎ OwesTo ws y e m
+      at (yes h) q =
+          let z : 0 ≡ m .cell = sym (owing-none (m .level) (levels .0) h) ∙ linked (m .level) (let k = o .high in omega arith) (levels .0) ∙ next-here (m .level) m later refl in
+          absurd (let p = cells .0 in omega arith)
+      at (no h) (yes q) =
+          inr (record { owes = ne; owed = leads ∙ next-here (highAt ws y) m later q; low = o .low; high = sym q; lower = let k = o .high in omega arith })
+      at (no h) (no q) = absurd (ne (leads ∙ next-none (highAt ws y) m later (omega arith)))
+
+owes-next : (ws : List ℕ) (s : Seen) (y e : ℕ) (later : List Met) → Right ws s y e → Linked ws y e later → All (λ m. 0 < m .cell) later →
+    All (λ m. m .level < getD ws 0 0) later → OwesNext ws y e later
+owes-next ws s y e later r linked cells levels = at (ℕ-discrete (owedAt ws y) 0)
+  where
+    at : Dec (owedAt ws y ≡ 0) → OwesNext ws y e later
+    at (yes q) = let u = r .unowing q in clear-next ws y e (record { owed = q; low = u .0; high = u .1 }) later
+    at (no ne) = owing-next ws (s .last) y e (r .owing ne) ne later linked cells levels
+
+-- The words by place
+
+-- the place of cell y, of dimension `dim`, met after cell a of dimension e
+abbrev placeIn : List ℕ → ℕ → ℕ → ℕ → ℕ → List Met → Place
+placeIn ws a e y dim later = record { entry = entryIn ws y; dimension = dim; before = entryIn ws a; beforeDimension = e; later = rowIn ws later }
+
+-- The words of a standing cell are those of its place, and its debt is one that document 01 allows.
+pub record Standing (ws : List ℕ) (b D : ℕ) (p : Place) : Type 0 where
+  pub key : keyAt ws (p .entry .cell) ≡ p .entry .key
+  pub value : valueAt ws (p .entry .cell) ≡ p .entry .value
+  pub mark : markAt ws (p .entry .cell) ≡ mark (p .entry .live)
+  pub owed : owedAt ws (p .entry .cell) ≡ owed p
+  pub low : lowAt ws (p .entry .cell) ≡ low p
+  pub high : highAt ws (p .entry .cell) ≡ high b D p
+  pub coordinate : (d : ℕ) → d < D → coordinateAt ws (p .entry .cell) d ≡ coordinate b D (p .entry .key) d
+  pub link : (d : ℕ) → d < D → linkAt ws (p .entry .cell) d ≡ link b D p d
+  pub debt : p .entry .owes ≡ true → Debt b D p
+
+owes-not : (ws : List ℕ) (x : ℕ) → owedAt ws x ≡ 0 → entryIn ws x .owes ≡ false
+owes-not ws x e = rw (eq-eqb (owedAt ws x) 0 e) refl
+
+owes-is : (ws : List ℕ) (x : ℕ) → (owedAt ws x ≡ 0 → ⊥) → entryIn ws x .owes ≡ true
+owes-is ws x ne = rw (ne-eqb (owedAt ws x) 0 ne) refl
+
+-- the words of what is owed
+module _ (ws : List ℕ) (a ea y e dim : ℕ) (same : dim ≡ e) where
+  debt-owed : (later : List Met) → OwesNext ws y e later → owedAt ws y ≡ owed (placeIn ws a ea y dim later)
+  debt-owed [] c = c .owed ∙ sym (ap (λ t. cond t 0 0) (owes-not ws y (c .owed)))
+  debt-owed (m ∷ later) (inl c) = c .owed ∙ sym (ap (λ t. cond t (m .cell) 0) (owes-not ws y (c .owed)))
+  debt-owed (m ∷ later) (inr o) = o .owed ∙ sym (ap (λ t. cond t (m .cell) 0) (owes-is ws y (o .owes)))
+
+  debt-low : (later : List Met) → OwesNext ws y e later → lowAt ws y ≡ low (placeIn ws a ea y dim later)
+  debt-low [] c = c .low ∙ sym (ap (λ t. cond t dim 0) (owes-not ws y (c .owed)))
+  debt-low (m ∷ later) (inl c) = c .low ∙ sym (ap (λ t. cond t dim 0) (owes-not ws y (c .owed)))
+  debt-low (m ∷ later) (inr o) = o .low ∙ sym same ∙ sym (ap (λ t. cond t dim 0) (owes-is ws y (o .owes)))
+
+  debt-high : (later : List Met) → Rising ws y later → OwesNext ws y e later → highAt ws y ≡ high (getD ws 3 0) (getD ws 0 0) (placeIn ws a ea y dim later)
+  debt-high [] r c = c .high ∙ sym (ap (λ t. cond t (shared (getD ws 3 0) (getD ws 0 0) (keyAt ws y) 0) 0) (owes-not ws y (c .owed)))
+  debt-high (m ∷ later) r (inl c) =
+      c .high ∙ sym (ap (λ t. cond t (shared (getD ws 3 0) (getD ws 0 0) (keyAt ws y) (keyAt ws (m .cell))) 0) (owes-not ws y (c .owed)))
+  debt-high (m ∷ later) r (inr o) =
+      o .high ∙ sym (r .0 .1) ∙ sym (ap (λ t. cond t (shared (getD ws 3 0) (getD ws 0 0) (keyAt ws y) (keyAt ws (m .cell))) 0) (owes-is ws y (o .owes)))
+
+  -- the links of y that the cell itself owes
+  due-own : (later : List Met) → Rising ws y later → OwesNext ws y e later → (d : ℕ) →
+      dueTo ws y d ≡ (entryIn ws y .owes && between (low (placeIn ws a ea y dim later)) (high (getD ws 3 0) (getD ws 0 0) (placeIn ws a ea y dim later)) d)
+  due-own later r owes d = ap₂ (λ l h. entryIn ws y .owes && between l h d) (debt-low later owes) (debt-high later r owes)
+
+  -- and those that the cell before owes
+  due-before : Clear ws a ⊎ OwesTo ws a ea (record { cell = y; level = e }) → (d : ℕ) → dueTo ws a d ≡ (entryIn ws a .owes && between ea dim d)
+  due-before (inl c) d =
+      ap (λ t. t && between (lowAt ws a) (highAt ws a) d) (owes-not ws a (c .owed)) ∙ sym (ap (λ t. t && between ea dim d) (owes-not ws a (c .owed)))
+  due-before (inr o) d = ap₂ (λ l h. entryIn ws a .owes && between l h d) (o .low) (o .high ∙ sym same)
+
+  -- "its owed cell c is the standing cell of next larger key, c owes nothing, .. and low < high"
+  debt-allowed : (s : Seen) (later : List Met) → s .last ≡ y → Trace ws s later → Rising ws y later → OwesNext ws y e later →
+      entryIn ws y .owes ≡ true → Debt (getD ws 3 0) (getD ws 0 0) (placeIn ws a ea y dim later)
+  debt-allowed s [] is t r c o = absurd (false≢true (sym (owes-not ws y (c .owed)) ∙ o))
+  debt-allowed s (m ∷ later) is t r (inl c) o = absurd (false≢true (sym (owes-not ws y (c .owed)) ∙ o))
+  debt-allowed s (m ∷ later) is t r (inr owes) o =
+      record {
+        later = omega arith;
+        unowing = at (ℕ-discrete (owedAt ws (m .cell)) 0);
+        lower = let l = owes .lower in let q = r .0 .1 in omega arith;
+      }
+    where
+      at : Dec (owedAt ws (m .cell) ≡ 0) → entryIn ws (m .cell) .owes ≡ false
+      at (yes q) = owes-not ws (m .cell) q
+      at (no ne) = absurd (owes .owes (ap (owedAt ws) (sym is) ∙ t .0 .owing ne .before))
+
+-- Link d of a cell that is met after another, of dimension ea.
+module _ (ws : List ℕ) (pos : 0 < getD ws 3 0) (s : Seen) (ea : ℕ) (m : Met) (later : List Met) (right : Right ws s (m .cell) (m .level))
+    (before : Linked ws (s .last) ea (m ∷ later)) (before-owes : Clear ws (s .last) ⊎ OwesTo ws (s .last) ea m)
+    (rises : Rising ws (s .last) (m ∷ later)) (linked : Linked ws (m .cell) (m .level) later) (owes : OwesNext ws (m .cell) (m .level) later)
+    (d : ℕ) (inside : d < getD ws 0 0) where
+  -- one that the cell before owes
+  link-due : dueTo ws (s .last) d ≡ true →
+      linkAt ws (m .cell) d ≡ firstSharing (getD ws 3 0) (getD ws 0 0) (keyAt ws (s .last)) d (entryIn ws (m .cell) ∷ rowIn ws later)
+  link-due t = at before-owes
+    where
+      due : Due ws (s .last) d
+      due = due-fact ws (s .last) d t
+
+      at : Clear ws (s .last) ⊎ OwesTo ws (s .last) ea m →
+          linkAt ws (m .cell) d ≡ firstSharing (getD ws 3 0) (getD ws 0 0) (keyAt ws (s .last)) d (entryIn ws (m .cell) ∷ rowIn ws later)
+      at (inl c) = absurd (due .owes (c .owed))
+      at (inr o) =
+          ap (λ x. linkAt ws x d) (sym (o .owed)) ∙ sym (read-due ws (s .last) d t) ∙ before d (let h = due .least in let k = o .low in omega arith) inside
+          ∙ sym (sharing-is-next ws pos (s .last) d (m ∷ later) rises inside)
+
+  -- one that the cell itself owes
+  link-owed : dueTo ws (m .cell) d ≡ true → linkAt ws (m .cell) d ≡ 0
+  link-owed t =
+      let due = due-fact ws (m .cell) d t in
+      right .owing (due .owes) .links d inside
+      ∙ ap (λ q. cond q (owedAt ws (m .cell)) 0) (ne-eqb d (highAt ws (m .cell)) (λ q. let h = due .above in omega arith))
+
+  -- any other is settled
+  link-own : (dim : ℕ) → dim ≡ m .level → dueTo ws (s .last) d ≡ false → dueTo ws (m .cell) d ≡ false →
+      linkAt ws (m .cell) d ≡ settledLink (getD ws 3 0) (getD ws 0 0) (placeIn ws (s .last) ea (m .cell) dim later) d
+  link-own dim same t u = at (decLe dim d)
+    where
+      lower : (linkAt ws (m .cell) d ≡ 0) ⊎ (dueTo ws (s .last) d ≡ true) → linkAt ws (m .cell) d ≡ 0
+      lower (inl q) = q
+      lower (inr q) = absurd (false≢true (sym t ∙ q))
+
+      at : Dec (dim ≤ d) → linkAt ws (m .cell) d ≡ settledLink (getD ws 3 0) (getD ws 0 0) (placeIn ws (s .last) ea (m .cell) dim later) d
+      at (yes h) =
+          rw (le-leb dim d h)
+          (sym (read-own ws (m .cell) d u) ∙ linked d (omega arith) inside ∙ sym (sharing-is-next ws pos (m .cell) d later (rises .1) inside))
+      at (no h) = rw (lt-leb dim d (omega arith)) (lower (right .below d (omega arith)))
+
+  link-word : (dim : ℕ) → dim ≡ m .level → linkAt ws (m .cell) d ≡ link (getD ws 3 0) (getD ws 0 0) (placeIn ws (s .last) ea (m .cell) dim later) d
+  unfolding link
+  link-word dim same =
+      at (dueTo ws (s .last) d) (dueTo ws (m .cell) d) refl refl
+      ∙ ap₂ (λ q r. cond q (firstSharing b D (keyAt ws (s .last)) d (entryIn ws (m .cell) ∷ rowIn ws later)) (cond r 0 (settledLink b D p d)))
+      (due-before ws (s .last) ea (m .cell) (m .level) dim same before-owes d)
+      (due-own ws (s .last) ea (m .cell) (m .level) dim same later (rises .1) owes d)
+    where
+      b : ℕ
+      b = getD ws 3 0
+
+      D : ℕ
+      D = getD ws 0 0
+
+      p : Place
+      p = placeIn ws (s .last) ea (m .cell) dim later
+
+      at : (q r : Bool) → dueTo ws (s .last) d ≡ q → dueTo ws (m .cell) d ≡ r →
+          linkAt ws (m .cell) d ≡ cond q (firstSharing b D (keyAt ws (s .last)) d (entryIn ws (m .cell) ∷ rowIn ws later)) (cond r 0 (settledLink b D p d))
+      at true r t u = link-due t
+      at false true t u = link-owed u
+      at false false t u = link-own dim same t u
+
+-- The places of the cells met
+
+mark-word : (ws : List ℕ) (s : Seen) (y e : ℕ) → Right ws s y e → markAt ws y ≡ mark (eqb (markAt ws y) 1)
+mark-word ws s y e r = at (r .entry)
+  where
+    at : ((markAt ws y ≡ 2) × (valueAt ws y ≡ 0)) ⊎ ((markAt ws y ≡ 1) × (s .passed ≡ true)) → markAt ws y ≡ mark (eqb (markAt ws y) 1)
+    at (inl t) = t .0 ∙ sym (ap (λ n. mark (eqb n 1)) (t .0))
+    at (inr t) = t .0 ∙ sym (ap (λ n. mark (eqb n 1)) (t .0))
+
+pub standing-after : (ws : List ℕ) → Header ws → (s : Seen) (ea : ℕ) (met : List Met) → Trace ws s met → Links ws met → Rising ws (s .last) met →
+    All (λ m. 0 < m .cell) met → All (λ m. m .level < getD ws 0 0) met → Linked ws (s .last) ea met → OwesNext ws (s .last) ea met →
+    All (Standing ws (getD ws 3 0) (getD ws 0 0)) (placesAfter (getD ws 3 0) (getD ws 0 0) (entryIn ws (s .last)) ea (rowIn ws met))
+unfolding placesAfter
+standing-after ws header s ea [] trace links rises cells levels before before-owes = tt
+standing-after ws header s ea (m ∷ met) trace links rises cells levels before before-owes = (
+  record {
+    key = refl;
+    value = refl;
+    mark = mark-word ws s (m .cell) (m .level) (trace .0);
+    owed = debt-owed ws (s .last) ea (m .cell) (m .level) dim (rises .0 .1) met owes;
+    low = debt-low ws (s .last) ea (m .cell) (m .level) dim (rises .0 .1) met owes;
+    high = debt-high ws (s .last) ea (m .cell) (m .level) dim (rises .0 .1) met (rises .1) owes;
+    coordinate = cell-keyed ws header (m .cell) (trace .0 .inside) (trace .0 .writes) .coordinate;
+    link = λ d l. link-word ws (header .positive) s ea m met (trace .0) before before-owes rises (links .0) owes d l dim (rises .0 .1);
+    debt = debt-allowed ws (s .last) ea (m .cell) (m .level) dim (rises .0 .1) (seen ws m s) met refl (trace .1) (rises .1) owes;
+  },
+  standing-after ws header (seen ws m s) dim met (trace .1) (links .1) (rises .1) (cells .1) (levels .1)
+      (subst (λ e. Linked ws (m .cell) e met) (sym (rises .0 .1)) (links .0)) (subst (λ e. OwesNext ws (m .cell) e met) (sym (rises .0 .1)) owes),
+)
+  where
+    dim : ℕ
+    dim = shared (getD ws 3 0) (getD ws 0 0) (keyAt ws (s .last)) (keyAt ws (m .cell))
+
+    owes : OwesNext ws (m .cell) (m .level) met
+    owes = owes-next ws s (m .cell) (m .level) met (trace .0) (links .0) (cells .1) (levels .1)
+
+-- The head's place
+
+pub entry-head : (ws : List ℕ) → Head ws → entryIn ws 0 ≡ headEntry
+entry-head ws head =
+    λ i. record { cell = 0; key = head .key i; value = head .value i; live = ap (λ n. eqb n 1) (head .mark) i; owes = owes-not ws 0 (head .owed) i }
+
+standing-head : (ws : List ℕ) → 0 < getD ws 3 0 → Head ws → (met : List Met) → Rising ws 0 met → Linked ws 0 0 met →
+    Standing ws (getD ws 3 0) (getD ws 0 0) (headPlace (rowIn ws met))
+unfolding link
+standing-head ws pos head met rises linked =
+    let b = getD ws 3 0 in
+    let D = getD ws 0 0 in
+    record {
+      key = head .key;
+      value = head .value;
+      mark = head .mark;
+      owed = head .owed;
+      low = head .low;
+      high = head .high;
+      coordinate = λ d l. head .coordinate d l ∙ sym (coordinate-head b D d);
+      link = λ d l.
+          rw (le-leb 0 d (omega arith))
+          (sym (read-own ws 0 d (ap (λ t. t && between (lowAt ws 0) (highAt ws 0) d) (owes-not ws 0 (head .owed))))
+          ∙ linked d (omega arith) l ∙ sym (sharing-is-next ws pos 0 d met rises l) ∙ ap (λ k. firstSharing b D k d (rowIn ws met)) (head .key));
+      debt = λ o. absurd (false≢true o);
+    }
+
+-- all places, from a run over all children of the head
+pub standing-places : (ws : List ℕ) → Header ws → Head ws → (met : List Met) → Trace ws (atHead ws) met → Links ws met → Rising ws 0 met →
+    All (λ m. 0 < m .cell) met → All (λ m. m .level < getD ws 0 0) met → Linked ws 0 0 met →
+    All (Standing ws (getD ws 3 0) (getD ws 0 0)) (places (getD ws 3 0) (getD ws 0 0) (rowIn ws met))
+unfolding places atHead
+standing-places ws header head met trace links rises cells levels linked = (
+  standing-head ws (header .positive) head met rises linked,
+  subst (λ x. All (Standing ws (getD ws 3 0) (getD ws 0 0)) (placesAfter (getD ws 3 0) (getD ws 0 0) x 0 (rowIn ws met))) (entry-head ws head)
+      (standing-after ws header (atHead ws) 0 met trace links rises cells levels linked
+      (clear-next ws 0 0 (record { owed = head .owed; low = head .low; high = head .high }) met)),
+)
+
+-- word j of a standing cell
+pub standing-word : (ws : List ℕ) (b D : ℕ) (p : Place) → D ≡ getD ws 0 0 → Standing ws b D p → (j : ℕ) → j < cellWords D → wordAt ws (p .entry .cell) j ≡ getD (standingWords b D p) j 0
+unfolding standingWords
+standing-word ws b D p dims t zero h = t .key
+standing-word ws b D p dims t (suc zero) h = t .value
+standing-word ws b D p dims t (suc (suc zero)) h = t .mark
+standing-word ws b D p dims t (suc (suc (suc zero))) h = t .owed
+standing-word ws b D p dims t (suc (suc (suc (suc zero)))) h = t .low
+standing-word ws b D p dims t (suc (suc (suc (suc (suc zero))))) h = t .high
+standing-word ws b D p dims t (suc (suc (suc (suc (suc (suc j)))))) h = at (decLt j D)
+  where
+    own : List ℕ
+    own = coordinates b D (p .entry .key)
+
+    links : List ℕ
+    links = map (link b D p) (numbersFrom 0 D)
+
+    at : Dec (j < D) → wordAt ws (p .entry .cell) (suc (suc (suc (suc (suc (suc j)))))) ≡ getD (own ++ links) j 0
+    at (yes l) =
+        let there : suc (suc (suc (suc (suc (suc j))))) ≡ fieldsBeforeCoordinates + j = omega arith in
+        ap (wordAt ws (p .entry .cell)) there ∙ t .coordinate j l ∙ sym (List·getD-append own links 0 j (omega (arith, coordinates-length b D (p .entry .key))))
+    at (no l) =
+        let there : suc (suc (suc (suc (suc (suc j))))) ≡ fieldsBeforeCoordinates + getD ws 0 0 + (j - D) = omega arith in
+        let here : length own + (j - D) ≡ j = omega (arith, coordinates-length b D (p .entry .key)) in
+        let inside : j - D < D = omega arith in
+        ap (wordAt ws (p .entry .cell)) there ∙ t .link (j - D) inside ∙ ap (link b D p) (sym (zero-add (j - D))) ∙ sym (made-at (link b D p) 0 D (j - D) 0 inside)
+        ∙ sym (getD-append-add own links (j - D) 0) ∙ ap (λ i. getD (own ++ links) i 0) here

@@ -1,0 +1,297 @@
+-- The check accepts every list: a list is the picture of a state in order; of that the header, the head, each standing cell in the
+-- order of keys, and the chain of free cells are right.
+use mathlib.Core.Path.{_≡_, refl, sym, _∙_, ap, ap₂, subst}
+use mathlib.Core.Bool.{true, _||_, not}
+use mathlib.Core.List.{List, [], _∷_}
+use mathlib.Core.Logic.{_⊎_, inl, inr}
+use mathlib.Core.Option.{none}
+use Prim.Native.Nat.{ℕ, zero, suc, _+_, _*_, _-_, _^_, _≤_, _<_}
+use native.Mathlib.Decide.{decLt, ℕ-discrete}
+use native.Mathlib.Omega.{arith}
+use lib.Dec.{eqb, leb}
+use lib.ListN.{length, getD, getD-replicate}
+use borrow.Author.Tests.{lt-ltb, le-ltb, le-leb, lt-leb, eq-eqb, ne-eqb}
+use Rattle.settings.specs.Numbers.{cellWords, lengthOf}
+use Rattle.settings.specs.Base.{IsBase}
+use Rattle.settings.proofs.Laws.{in-range, base-is}
+use Rattle.meaning.specs.Keys.{shared}
+use Rattle.meaning.specs.Row.{Entry, headEntry, Place, headPlace, placeOf, placesAfter, places}
+use Rattle.meaning.specs.State.{State, positionKey}
+use Rattle.meaning.specs.Picture.{firstNumber, nextFree, freeWords, wordsOf, picture}
+use Rattle.meaning.specs.Reading.{read, isList}
+use Rattle.meaning.specs.Walk.{wordAt, keyAt, valueAt, markAt, owedAt, lowAt, highAt, coordinateAt}
+use Rattle.meaning.proofs.Order.{All, Asc, all-map, asc-weaken}
+use Rattle.meaning.proofs.Keys.{shared-same, coordinate-head}
+use Rattle.meaning.proofs.State.{Sound, sound-ranges, base-positive, base-above}
+use Rattle.meaning.proofs.Cells.{free-distinct, free-range, free-length}
+use Rattle.meaning.proofs.Picture.{picture-length, picture-free, picture-word, free-found}
+use Rattle.meaning.proofs.Reading.{Follow, distinct-follow, list-is-picture, list-sound}
+use Rattle.meaning.proofs.WalkRead.{places-read}
+use Rattle.tree.specs.Tree.{positionWord, pathRun, children, headRight, atHead, freeRight, chainRight, headerRight, seenAll, accepts}
+use Rattle.tree.proofs.CompleteOrder.{lastBelow, seenAt, LinksRead, Entered, Ready, below-keeps, last-any, children-read}
+use Rattle.tree.proofs.CompletePath.{Stands, OnPath, run-agreed, position-here, position-apart}
+use Rattle.tree.proofs.CompleteCell.{and-then, or-left, or-right, all-from, Shown, enters-after}
+use Rattle.tree.proofs.CompleteShown.{position-stands, places-shown}
+
+-- The position among the standing cells
+
+-- a key has been passed at x, or stands later
+abbrev Ahead : ℕ → Entry → List Entry → Type 0
+Ahead key x later = (key ≤ x .key) ⊎ Stands key later
+
+stands-above : (key low : ℕ) (row : List Entry) → Asc low row → Stands key row → low < key
+stands-above key low [] asc stands = absurd stands
+stands-above key low (x ∷ row) asc (inl e) = let h = asc .0 in omega arith
+stands-above key low (x ∷ row) asc (inr later) =
+    let h = asc .0 in
+    stands-above key low row (asc-weaken low (x .key) row (omega arith) (asc .1)) later
+
+-- no standing key is between those of a cell and the next
+gap : (key : ℕ) (x y : Entry) (later : List Entry) → Asc (x .key) (y ∷ later) → Ahead key x (y ∷ later) → (key ≤ x .key) ⊎ (y .key ≤ key)
+gap key x y later asc (inl h) = inl h
+gap key x y later asc (inr (inl e)) = inr (omega arith)
+gap key x y later asc (inr (inr stands)) = inr (let h = stands-above key (y .key) later (asc .1) stands in omega arith)
+
+ahead-next : (key : ℕ) (x y : Entry) (later : List Entry) → x .key < y .key → Ahead key x (y ∷ later) → Ahead key y later
+ahead-next key x y later h (inl l) = inl (omega arith)
+ahead-next key x y later h (inr (inl e)) = inl (omega arith)
+ahead-next key x y later h (inr (inr stands)) = inr stands
+
+-- at a place of an ascending row
+abbrev Passing : ℕ → Place → Type 0
+Passing key p = Asc (p .entry .key) (p .later) × Ahead key (p .entry) (p .later)
+
+-- at the end of the row the position has been passed
+passed-last : (b D key : ℕ) (p : Place) → Passing key p → leb key (lastBelow b D 0 p .entry .key) ≡ true
+passed-last b D key p ahead =
+    le-leb key (last .entry .key)
+    (at (subst (Ahead key (last .entry))
+    (last-any b D (p .entry .key) (p .entry) (p .dimension) (p .before) (p .beforeDimension) (p .later)) (passing .1)))
+  where
+    last : Place
+    last = lastBelow b D 0 p
+
+    passing : Passing key last
+    passing =
+        below-keeps b D (Passing key) (λ q y later is h.
+        let asc : Asc (q .entry .key) (y ∷ later) = subst (Asc (q .entry .key)) is (h .0) in
+        (asc .1, ahead-next key (q .entry) y later (asc .0) (subst (Ahead key (q .entry)) is (h .1)))) 0 p ahead
+
+    at : Ahead key (last .entry) [] → key ≤ last .entry .key
+    at (inl h) = h
+    at (inr stands) = absurd stands
+
+-- Every standing cell is right when it is read
+
+module _ (ws : List ℕ) (key free : ℕ) (pos : 0 < getD ws 3 0) (some : 0 < getD ws 0 0) where
+  after-entered : (x : Entry) (e : ℕ) (a : Entry) (f : ℕ) (later : List Entry) →
+      Shown ws key (record { entry = x; dimension = e; before = a; beforeDimension = f; later = later }) →
+      All (Shown ws key) (placesAfter (getD ws 3 0) (getD ws 0 0) x e later) →
+      All (LinksRead ws (getD ws 3 0)) (placesAfter (getD ws 3 0) (getD ws 0 0) x e later) →
+      Ahead key x later → All (Entered ws (getD ws 3 0) key free) (placesAfter (getD ws 3 0) (getD ws 0 0) x e later)
+  unfolding placesAfter
+  after-entered x e a f [] shown after links ahead = tt
+  after-entered x e a f (y ∷ later) shown after links ahead = (
+    record {
+      positive = shown .later .0 .0;
+      links = links .0;
+      enters = enters-after ws key x e a f y later free pos some shown (after .0) (gap key x y later (shown .ascends) ahead);
+    },
+    after-entered y (shared (getD ws 3 0) (getD ws 0 0) (x .key) (y .key)) x e later (after .0) (after .1) (links .1)
+        (ahead-next key x y later (shown .ascends .0) ahead),
+  )
+
+-- The head
+
+module _ (ws : List ℕ) (key free : ℕ) (row : List Entry) (some : 0 < getD ws 0 0) (on : OnPath ws (getD ws 3 0) key (headPlace row)) where
+  head-agreed : pathRun ws 0 0 (getD ws 0 0) ≡ shared (getD ws 3 0) (getD ws 0 0) 0 key
+  head-agreed =
+      let D = getD ws 0 0 in
+      let all : D ≡ D - 0 = omega arith in
+      ap (pathRun ws 0 0) all ∙ run-agreed ws (getD ws 3 0) key (headPlace row) on 0 (omega arith) (omega arith)
+
+  -- what has been seen at the head
+  head-seen : getD ws 2 0 - 1 ≡ length row + free → atHead ws ≡ seenAt (getD ws 3 0) (getD ws 0 0) key free (headPlace row)
+  unfolding atHead
+  head-seen left = λ i. record { right = right i; left = left i; last = 0; agreed = head-agreed i; passed = passed i }
+    where
+      b : ℕ
+      b = getD ws 3 0
+
+      D : ℕ
+      D = getD ws 0 0
+
+      apart : (0 ≡ key → ⊥) → positionWord ws ≡ 0 → ⊥
+      apart ne e = position-apart ws b key (headPlace row) on some ne (sym e)
+
+      here : 0 ≡ key → positionWord ws ≡ 0
+      here e = sym (position-here ws b key (headPlace row) on some some e)
+
+      right : (not (eqb (positionWord ws) 0) || eqb (pathRun ws 0 0 D) D) ≡ true
+      right = at (ℕ-discrete 0 key)
+        where
+          at : Dec (0 ≡ key) → (not (eqb (positionWord ws) 0) || eqb (pathRun ws 0 0 D) D) ≡ true
+          at (yes e) =
+              or-right (not (eqb (positionWord ws) 0)) (eqb (pathRun ws 0 0 D) D)
+              (eq-eqb (pathRun ws 0 0 D) D (head-agreed ∙ ap (shared b D 0) (sym e) ∙ shared-same b D 0))
+          at (no ne) =
+              or-left (not (eqb (positionWord ws) 0)) (eqb (pathRun ws 0 0 D) D) (ap not (ne-eqb (positionWord ws) 0 (apart ne)))
+
+      passed : eqb (positionWord ws) 0 ≡ leb key 0
+      passed = at (ℕ-discrete 0 key)
+        where
+          at : Dec (0 ≡ key) → eqb (positionWord ws) 0 ≡ leb key 0
+          at (yes e) = eq-eqb (positionWord ws) 0 (here e) ∙ sym (le-leb key 0 (omega arith))
+          at (no ne) = ne-eqb (positionWord ws) 0 (apart ne) ∙ sym (lt-leb key 0 (omega arith))
+
+head-right : (ws : List ℕ) (key : ℕ) (row : List Entry) → Shown ws key (headPlace row) → headRight ws ≡ true
+unfolding headRight
+head-right ws key row shown =
+    let held = shown .held in
+    and-then (eq-eqb (keyAt ws 0) 0 (held .key))
+    (and-then (eq-eqb (valueAt ws 0) 0 (shown .value))
+    (and-then (eq-eqb (markAt ws 0) 2 (shown .marked))
+    (and-then (eq-eqb (owedAt ws 0) 0 (held .owed))
+    (and-then (eq-eqb (lowAt ws 0) 0 (held .low))
+    (and-then (eq-eqb (highAt ws 0) 0 (held .high))
+    (all-from (λ d. eqb (coordinateAt ws 0 d) 0) 0 (getD ws 0 0)
+    (λ d h l. eq-eqb (coordinateAt ws 0 d) 0 (held .coordinate d (omega arith) ∙ coordinate-head (getD ws 3 0) (getD ws 0 0) d))))))))
+
+-- All standing cells
+
+-- at the head a key that stands is ahead
+head-ahead : (key : ℕ) (row : List Entry) → Stands key (headEntry ∷ row) → Ahead key headEntry row
+head-ahead key row (inl e) = inl (omega arith)
+head-ahead key row (inr stands) = inr stands
+
+all-seen : (ws : List ℕ) (key free : ℕ) (row : List Entry) → 0 < getD ws 3 0 → 0 < getD ws 0 0 → Stands key (headEntry ∷ row) →
+    getD ws 2 0 ≡ suc (length row + free) → All (Shown ws key) (places (getD ws 3 0) (getD ws 0 0) row) →
+    All (LinksRead ws (getD ws 3 0)) (places (getD ws 3 0) (getD ws 0 0) row) →
+    seenAll ws ≡ seenAt (getD ws 3 0) (getD ws 0 0) key free (lastBelow (getD ws 3 0) (getD ws 0 0) 0 (headPlace row))
+unfolding places
+all-seen ws key free row pos some stands cells shown links =
+    let b = getD ws 3 0 in
+    let D = getD ws 0 0 in
+    let C = getD ws 2 0 in
+    let lowest : D - D ≡ 0 = omega arith in
+    let ready : Ready ws b key free C (headPlace row) =
+    record {
+      ascends = shown .0 .ascends;
+      links = links .0;
+      later = after-entered ws key free pos some headEntry 0 headEntry 0 row (shown .0) (shown .1) (links .1) (head-ahead key row stands);
+      enough = omega arith;
+    } in
+    ap (children C ws D 0) (head-seen ws key free row some (shown .0 .path) (omega arith))
+    ∙ children-read ws b key free C pos some D (omega arith) (headPlace row) (omega arith) ready
+    ∙ ap (λ m. seenAt b D key free (lastBelow b D m (headPlace row))) lowest
+
+-- The picture of a state in order
+
+module _ (s : State) (v : Sound s) where
+  base-is-base : IsBase (s .settings .dimensions) (s .settings .largest) (s .settings .base)
+  base-is-base = rw (v .base) (base-is (s .settings .dimensions) (s .settings .largest) (let h = v .dimensions-least in omega arith))
+
+  header-right : headerRight (picture s) ≡ true
+  unfolding headerRight picture
+  header-right =
+      let D = s .settings .dimensions in
+      let K = s .settings .largest in
+      let C = s .settings .cells in
+      let b = s .settings .base in
+      let pos = base-positive s v in
+      and-then (in-range D K C (sound-ranges s v))
+      (and-then (eq-eqb (length (picture s)) (lengthOf D C) (picture-length s))
+      (and-then (lt-ltb 0 b pos)
+      (and-then (lt-ltb K (b ^ D) (base-above s v))
+      (ap not (le-ltb K ((b - 1) ^ D) (at (decLt K ((b - 1) ^ D))))))))
+    where
+      at : Dec (s .settings .largest < (s .settings .base - 1) ^ s .settings .dimensions) →
+          (s .settings .base - 1) ^ s .settings .dimensions ≤ s .settings .largest
+      at (yes h) = absurd (let pos = base-positive s v in let l = base-is-base .least (s .settings .base - 1) h in omega arith)
+      at (no h) = omega arith
+
+  -- word j of a free cell
+  free-shown : (c j : ℕ) → c < s .settings .cells → placeOf c (places (s .settings .base) (s .settings .dimensions) (s .row)) ≡ none →
+      j < cellWords (s .settings .dimensions) → wordAt (picture s) c j ≡ getD (freeWords (s .settings .dimensions) (nextFree c (s .free))) j 0
+  unfolding wordsOf
+  free-shown c j h found l =
+      picture-word s c j h l ∙ ap (λ o. getD (wordsOf (s .settings .base) (s .settings .dimensions) (s .free) c o) j 0) found
+
+  free-right : (c : ℕ) → c < s .settings .cells → placeOf c (places (s .settings .base) (s .settings .dimensions) (s .row)) ≡ none →
+      freeRight (picture s) c ≡ true
+  unfolding freeRight freeWords picture
+  free-right c h found =
+      and-then (lt-ltb c (s .settings .cells) h)
+      (all-from (λ j. eqb (wordAt (picture s) c j) 0) 1 (cellWords (s .settings .dimensions) - 1) (λ j k l.
+      eq-eqb (wordAt (picture s) c j) 0 (free-shown c j h found (omega arith) ∙ behind j k (omega arith))))
+    where
+      behind : (j : ℕ) → 1 ≤ j → j < cellWords (s .settings .dimensions) →
+          getD (freeWords (s .settings .dimensions) (nextFree c (s .free))) j 0 ≡ 0
+      behind zero k l = absurd (omega arith)
+      behind (suc j) k l = getD-replicate (5 + 2 * s .settings .dimensions) j 0 0 (omega arith)
+
+  chain-right : (cs : List ℕ) → Follow (s .free) cs → All (λ c. (0 < c) × (c < s .settings .cells)) cs →
+      All (λ c. placeOf c (places (s .settings .base) (s .settings .dimensions) (s .row)) ≡ none) cs →
+      chainRight (picture s) (length cs) (firstNumber cs) ≡ true
+  unfolding chainRight freeWords
+  chain-right [] follow range found = refl
+  chain-right (c ∷ cs) follow range found =
+      rw (free-right c (range .0 .1) (found .0))
+      (ap (chainRight (picture s) (length cs)) (next ∙ follow .0) ∙ chain-right cs (follow .1) (range .1) (found .1))
+    where
+      next : wordAt (picture s) c 0 ≡ nextFree c (s .free)
+      next = free-shown c 0 (range .0 .1) (found .0) (omega arith)
+
+  -- all standing cells, read to the end of the row
+  picture-seen : seenAll (picture s) ≡
+      seenAt (s .settings .base) (s .settings .dimensions) (positionKey s) (length (s .free))
+      (lastBelow (s .settings .base) (s .settings .dimensions) 0 (headPlace (s .row)))
+  unfolding picture
+  picture-seen =
+      let least = v .dimensions-least in
+      let cells = v .cells-least in
+      let count = free-length s v in
+      all-seen (picture s) (positionKey s) (length (s .free)) (s .row) (base-positive s v) (omega arith) (position-stands s v) (omega arith)
+      (places-shown s v) (all-map (λ p r. r .link) (places (s .settings .base) (s .settings .dimensions) (s .row)) (places-read s v))
+
+  -- how many cells are left when all standing cells are read
+  pub seen-all-left : seenAll (picture s) .left ≡ length (s .free)
+  seen-all-left =
+      let b = s .settings .base in
+      let D = s .settings .dimensions in
+      let end = ap length (last-any b D 0 headEntry 0 headEntry 0 (s .row)) in
+      ap (λ t. t .left) picture-seen ∙ omega arith
+
+  seen-all-passed : seenAll (picture s) .passed ≡ true
+  seen-all-passed =
+      ap (λ t. t .passed) picture-seen
+      ∙ passed-last (s .settings .base) (s .settings .dimensions) (positionKey s) (headPlace (s .row))
+      (v .ascends, head-ahead (positionKey s) (s .row) (position-stands s v))
+
+  seen-all-right : seenAll (picture s) .right ≡ true
+  seen-all-right = ap (λ t. t .right) picture-seen
+
+  head-shown : Shown (picture s) (positionKey s) (headPlace (s .row))
+  unfolding places
+  head-shown = places-shown s v .0
+
+  at-head-right : atHead (picture s) .right ≡ true
+  unfolding picture
+  at-head-right =
+      let least = v .dimensions-least in
+      let cells = v .cells-least in
+      let count = free-length s v in
+      ap (λ t. t .right) (head-seen (picture s) (positionKey s) (length (s .free)) (s .row) (omega arith) (head-shown .path) (omega arith))
+
+  pub picture-accepts : accepts (picture s) ≡ true
+  unfolding accepts
+  picture-accepts =
+      rw (header-right, accepts)
+      (and-then (head-right (picture s) (positionKey s) (s .row) head-shown)
+      (and-then (and-then at-head-right seen-all-right)
+      (and-then seen-all-passed
+      (ap₂ (chainRight (picture s)) seen-all-left (picture-free s)
+      ∙ chain-right (s .free) (distinct-follow (s .free) (free-distinct s v)) (free-range s v) (free-found s v)))))
+
+pub list-accepts : (ws : List ℕ) → isList ws ≡ true → accepts ws ≡ true
+list-accepts ws e = subst (λ xs. accepts xs ≡ true) (list-is-picture ws e) (picture-accepts (read ws) (list-sound ws e))

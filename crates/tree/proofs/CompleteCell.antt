@@ -1,0 +1,387 @@
+-- Each standing cell of a picture is right when it is read after the one before it: each test of it, from what its words are by its
+-- place and by the place before.
+use mathlib.Core.Path.{_≡_, refl, sym, _∙_, ap, ap₂, subst}
+use mathlib.Core.Bool.{Bool, true, false, cond, _&&_, _||_, not}
+use mathlib.Core.List.{List, [], _∷_}
+use mathlib.Core.Logic.{_⊎_, inl, inr}
+use Prim.Native.Nat.{ℕ, zero, suc, _+_, _*_, _-_, _/_, _%_, _^_, _≤_, _<_}
+use native.Mathlib.Nat.{mod-lt}
+use native.Mathlib.Decide.{decLt, decLe, ℕ-discrete}
+use native.Mathlib.Omega.{arith}
+use lib.Dec.{eqb, leb, ltb}
+use lib.ListN.{length, getD}
+use borrow.Author.Tests.{lt-ltb, le-leb, lt-leb, eq-eqb, ne-eqb}
+use Rattle.meaning.specs.Keys.{coordinates, shared}
+use Rattle.meaning.specs.Row.{Entry, firstOf, firstSharing, Place, settledLink, owed, low, high, between, link}
+use Rattle.meaning.specs.Picture.{mark}
+use Rattle.meaning.specs.Walk.{keyAt, valueAt, markAt, owedAt, lowAt, highAt, coordinateAt, linkAt}
+use Rattle.meaning.proofs.Order.{All, Asc, and-both, all-map, all-append}
+use Rattle.meaning.proofs.Keys.{shared-same, shared-le, shared-less, coordinate-same, coordinate-less, coordinate-inside, coordinates-value, hornerFrom, horner}
+use Rattle.meaning.proofs.State.{Debt}
+use Rattle.meaning.proofs.WalkRead.{Held, between-is, between-not}
+use Rattle.tree.specs.Tree.{allFrom, written, coordinateWords, allBelow, writesKey, follows, entryRight, dueTo, linksBelow, debtRight, agreedAt, positionWord, cellRight, entered}
+use Rattle.tree.proofs.CompleteOrder.{placeAfter, seenAt, seenBefore, sharing-none, sharing-here, sharing-falls}
+use Rattle.tree.proofs.CompletePath.{OnPath, agreed-is, position-here, position-apart}
+
+-- Tests that hold
+
+pub and-then : {s t : Bool} → s ≡ true → t ≡ true → (s && t) ≡ true
+and-then {s} {t} p q = and-both s t p q
+
+pub all-from : (test : ℕ → Bool) (i n : ℕ) → ((d : ℕ) → i ≤ d → d < i + n → test d ≡ true) → allFrom test i n ≡ true
+unfolding allFrom
+all-from test i zero f = refl
+all-from test i (suc n) f = and-then (f i (omega arith) (omega arith)) (all-from test (suc i) n (λ d h l. f d (omega arith) (omega arith)))
+
+pub or-left : (s t : Bool) → s ≡ true → (s || t) ≡ true
+or-left s t e = rw e refl
+
+pub or-right : (s t : Bool) → t ≡ true → (s || t) ≡ true
+or-right true t e = refl
+or-right false t e = e
+
+-- Coordinates
+
+coordinates-below : (b D key : ℕ) → 0 < b → All (λ c. c < b) (coordinates b D key)
+unfolding coordinates
+coordinates-below b zero key pos = tt
+coordinates-below b (suc D) key pos =
+    all-append (λ c. c < b) (coordinates b D (key / b)) (key % b ∷ []) (coordinates-below b D (key / b) pos) (mod-lt key pos, tt)
+
+below-all : (b : ℕ) (xs : List ℕ) → All (λ x. x < b) xs → allBelow b xs ≡ true
+unfolding allBelow
+below-all b [] h = refl
+below-all b (x ∷ xs) h = and-then (lt-ltb x b (h .0)) (below-all b xs (h .1))
+
+-- what coordinates write is Horner's sum
+pub written-horner : (b n : ℕ) (xs : List ℕ) → written b n xs ≡ hornerFrom b n xs
+unfolding written hornerFrom
+written-horner b n [] = refl
+written-horner b n (x ∷ xs) = written-horner b (n * b + x) xs
+
+-- What the words and the row say of a standing cell, with the position's key.
+pub record Shown (ws : List ℕ) (key : ℕ) (p : Place) : Type 0 where
+  pub held : Held ws (getD ws 3 0) (getD ws 0 0) p
+  pub coordinates : coordinateWords ws (p .entry .cell) ≡ coordinates (getD ws 3 0) (getD ws 0 0) (p .entry .key)
+  pub value : valueAt ws (p .entry .cell) ≡ p .entry .value
+  pub marked : markAt ws (p .entry .cell) ≡ mark (p .entry .live)
+  pub cell : p .entry .cell < getD ws 2 0
+  pub most : p .entry .key ≤ getD ws 1 0
+  pub below : p .entry .key < getD ws 3 0 ^ getD ws 0 0
+  pub worthless : p .entry .live ≡ false → p .entry .value ≡ 0
+  pub dead : p .entry .key ≤ key → p .entry .live ≡ false
+  pub debt : p .entry .owes ≡ true → Debt (getD ws 3 0) (getD ws 0 0) p
+  pub ascends : Asc (p .entry .key) (p .later)
+  pub later : All (λ z. (0 < z .cell) × (z .cell < getD ws 2 0)) (p .later)
+  pub path : OnPath ws (getD ws 3 0) key p
+
+writes-key : (ws : List ℕ) (key : ℕ) (p : Place) → 0 < getD ws 3 0 → Shown ws key p → writesKey ws (p .entry .cell) ≡ true
+unfolding writesKey horner
+writes-key ws key p pos shown =
+    let b = getD ws 3 0 in
+    let D = getD ws 0 0 in
+    let c = p .entry .cell in
+    and-then
+    (ap (allBelow b) (shown .coordinates) ∙ below-all b (coordinates b D (p .entry .key)) (coordinates-below b D (p .entry .key) pos))
+    (eq-eqb (written b 0 (coordinateWords ws c)) (keyAt ws c)
+    (ap (written b 0) (shown .coordinates)
+    ∙ written-horner b 0 (coordinates b D (p .entry .key))
+    ∙ coordinates-value b D (p .entry .key) pos (shown .below)
+    ∙ sym (shown .held .key)))
+
+-- key at most K, and live only where the position is before
+entry-right : (ws : List ℕ) (key : ℕ) (p : Place) → Shown ws key p → (key ≤ p .before .key) ⊎ (p .entry .key ≤ key) →
+    entryRight ws (p .entry .cell) (leb key (p .before .key)) ≡ true
+unfolding entryRight
+entry-right ws key p shown gap =
+    and-then
+    (le-leb (keyAt ws c) (getD ws 1 0) (let k = shown .held .key in let m = shown .most in omega arith))
+    (at (p .entry .live) (shown .marked) (shown .worthless) (shown .dead) gap)
+  where
+    c : ℕ
+    c = p .entry .cell
+
+    at : (live : Bool) → markAt ws c ≡ mark live → (live ≡ false → p .entry .value ≡ 0) → (p .entry .key ≤ key → live ≡ false) →
+        (key ≤ p .before .key) ⊎ (p .entry .key ≤ key) →
+        ((eqb (markAt ws c) 2 && eqb (valueAt ws c) 0) || (eqb (markAt ws c) 1 && leb key (p .before .key))) ≡ true
+    at false m worthless dead any =
+        or-left (eqb (markAt ws c) 2 && eqb (valueAt ws c) 0) (eqb (markAt ws c) 1 && leb key (p .before .key))
+        (and-then (eq-eqb (markAt ws c) 2 m) (eq-eqb (valueAt ws c) 0 (shown .value ∙ worthless refl)))
+    at true m worthless dead (inl h) =
+        or-right (eqb (markAt ws c) 2 && eqb (valueAt ws c) 0) (eqb (markAt ws c) 1 && leb key (p .before .key))
+        (and-then (eq-eqb (markAt ws c) 1 m) (le-leb key (p .before .key) h))
+    at true m worthless dead (inr h) = absurd (let e = dead h in let z : _≡_ {A = ℕ} 0 1 = cc in omega arith)
+
+-- A cell y after a cell x, which has dimension e and stands after a, of dimension f.
+module _ (ws : List ℕ) (key : ℕ) (x : Entry) (e : ℕ) (a : Entry) (f : ℕ) (y : Entry) (later : List Entry) where
+  -- x's place
+  abbrev first : Place
+  first = record { entry = x; dimension = e; before = a; beforeDimension = f; later = y ∷ later }
+
+  -- y's place
+  abbrev second : Place
+  second = placeAfter (getD ws 3 0) (getD ws 0 0) first y later
+
+  cell-follows : 0 < getD ws 3 0 → Shown ws key first → Shown ws key second → follows ws (x .cell) (y .cell) (second .dimension) ≡ true
+  unfolding follows
+  cell-follows pos s t =
+      let b = getD ws 3 0 in
+      let D = getD ws 0 0 in
+      let n = shared b D (x .key) (y .key) in
+      let rise = s .ascends .0 in
+      let less = coordinate-less b D (x .key) (y .key) pos (s .below) (t .below) rise in
+      let inside : n < D = coordinate-inside b D (y .key) n (omega arith) in
+      and-then
+      (all-from (λ d. eqb (coordinateAt ws (y .cell) d) (coordinateAt ws (x .cell) d)) 0 n (λ d h l.
+      eq-eqb (coordinateAt ws (y .cell) d) (coordinateAt ws (x .cell) d)
+      (t .held .coordinate d (omega arith)
+      ∙ sym (coordinate-same b D (x .key) (y .key) d (omega arith))
+      ∙ sym (s .held .coordinate d (omega arith)))))
+      (lt-ltb (coordinateAt ws (x .cell) n) (coordinateAt ws (y .cell) n)
+      (omega (arith, s .held .coordinate n inside, t .held .coordinate n inside)))
+
+  -- a link below the dimension is 0 if x does not owe it
+  link-below : (d : ℕ) → d < second .dimension → (x .owes && between e (second .dimension) d) ≡ false →
+      link (getD ws 3 0) (getD ws 0 0) second d ≡ 0
+  unfolding link
+  link-below d h free =
+      let b = getD ws 3 0 in
+      let D = getD ws 0 0 in
+      let n = second .dimension in
+      ap (λ t.
+      cond t (firstSharing b D (x .key) d (y ∷ later))
+      (cond (y .owes && between (low second) (high b D second) d) 0 (settledLink b D second d))) free
+      ∙ ap (λ l. cond (y .owes && between (low second) (high b D second) d) 0 (cond l (firstSharing b D (y .key) d later) 0)) (lt-leb n d h)
+      ∙ same (y .owes && between (low second) (high b D second) d)
+    where
+      same : (t : Bool) → _≡_ {A = ℕ} (cond t 0 0) 0
+      same true = refl
+      same false = refl
+
+  -- the links of y that x owes
+  due : Shown ws key first → (d : ℕ) → x .owes ≡ true → e ≤ d → d < second .dimension → dueTo ws (x .cell) d ≡ true
+  due s d o h l =
+      let n = second .dimension in
+      let is-owed : owedAt ws (x .cell) ≡ y .cell = s .held .owed ∙ ap (λ t. cond t (y .cell) 0) o in
+      let is-low : lowAt ws (x .cell) ≡ e = s .held .low ∙ ap (λ t. cond t e 0) o in
+      let is-high : highAt ws (x .cell) ≡ n = s .held .high ∙ ap (λ t. cond t n 0) o in
+      let positive = s .later .0 .0 in
+      and-then
+      (ap not (ne-eqb (owedAt ws (x .cell)) 0 (λ z. omega arith)))
+      (between-is (lowAt ws (x .cell)) (highAt ws (x .cell)) d (omega arith) (omega arith))
+
+  links-below : Shown ws key first → Shown ws key second → linksBelow ws (x .cell) (y .cell) (second .dimension) ≡ true
+  unfolding linksBelow
+  links-below s t =
+      all-from (λ d. eqb (linkAt ws (y .cell) d) 0 || dueTo ws (x .cell) d) 0 n (λ d h l. at d (omega arith) (x .owes) refl (decLe e d))
+    where
+      b : ℕ
+      b = getD ws 3 0
+
+      D : ℕ
+      D = getD ws 0 0
+
+      n : ℕ
+      n = shared b D (x .key) (y .key)
+
+      inside : n ≤ D
+      inside = shared-le b D (x .key) (y .key)
+
+      unowed : (d : ℕ) → d < n → (x .owes && between e n d) ≡ false → (eqb (linkAt ws (y .cell) d) 0 || dueTo ws (x .cell) d) ≡ true
+      unowed d l free =
+          or-left (eqb (linkAt ws (y .cell) d) 0) (dueTo ws (x .cell) d)
+          (eq-eqb (linkAt ws (y .cell) d) 0 (t .held .link d (omega (arith, inside)) ∙ link-below d l free))
+
+      at : (d : ℕ) → d < n → (owes : Bool) → x .owes ≡ owes → Dec (e ≤ d) → (eqb (linkAt ws (y .cell) d) 0 || dueTo ws (x .cell) d) ≡ true
+      at d l false o any = unowed d l (ap (λ t. t && between e n d) o)
+      at d l true o (no h) = unowed d l (ap (λ t. t && between e n d) o ∙ ap (λ t. t && ltb d n) (lt-leb e d (omega (arith, h))))
+      at d l true o (yes h) = or-right (eqb (linkAt ws (y .cell) d) 0) (dueTo ws (x .cell) d) (due s d o h l)
+
+  -- y owes nothing
+  debt-none : Shown ws key second → y .owes ≡ false → debtRight ws (x .cell) (y .cell) (second .dimension) ≡ true
+  unfolding debtRight
+  debt-none t o =
+      let b = getD ws 3 0 in
+      let D = getD ws 0 0 in
+      let is-owed : owedAt ws (y .cell) ≡ 0 = t .held .owed ∙ ap (λ u. cond u (firstOf later .cell) 0) o in
+      rw (eq-eqb (owedAt ws (y .cell)) 0 is-owed)
+      (and-then
+      (eq-eqb (lowAt ws (y .cell)) 0 (t .held .low ∙ ap (λ u. cond u (second .dimension) 0) o))
+      (eq-eqb (highAt ws (y .cell)) 0 (t .held .high ∙ ap (λ u. cond u (shared b D (y .key) (firstOf later .key)) 0) o)))
+
+  -- if y owes, x does not
+  before-unowing : Shown ws key first → y .owes ≡ true → x .owes ≡ false
+  before-unowing s o = at (x .owes) refl
+    where
+      at : (t : Bool) → x .owes ≡ t → x .owes ≡ false
+      at false q = q
+      at true q = absurd (let u = s .debt q .unowing in let z : _≡_ {A = ℕ} 0 1 = cc in omega arith)
+
+  -- the only link of a y that owes is link high, to the owed cell
+  link-owing : 0 < getD ws 3 0 → Shown ws key second → x .owes ≡ false → y .owes ≡ true →
+      (c : Entry) (rest : List Entry) → later ≡ c ∷ rest → (d : ℕ) →
+      link (getD ws 3 0) (getD ws 0 0) second d ≡ cond (eqb d (shared (getD ws 3 0) (getD ws 0 0) (y .key) (c .key))) (c .cell) 0
+  unfolding link
+  link-owing pos t unowing owing c rest is d =
+      ap (λ u.
+      cond (u && between e m d) (firstSharing b D (x .key) d (y ∷ later))
+      (cond (y .owes && between (low second) (high b D second) d) 0 (settledLink b D second d))) unowing
+      ∙ ap (λ u. cond (u && between (cond u m 0) (cond u (shared b D (y .key) (firstOf later .key)) 0) d) 0 (settledLink b D second d)) owing
+      ∙ ap (λ r. cond (between m (shared b D (y .key) (firstOf r .key)) d) 0 (cond (leb m d) (firstSharing b D (y .key) d r) 0)) is
+      ∙ at (decLt d m) (decLt d n) (ℕ-discrete d n)
+    where
+      b : ℕ
+      b = getD ws 3 0
+
+      D : ℕ
+      D = getD ws 0 0
+
+      m : ℕ
+      m = second .dimension
+
+      n : ℕ
+      n = shared b D (y .key) (c .key)
+
+      lower : m < n
+      lower = let l = t .debt owing .lower in let q = ap (λ r. shared b D (y .key) (firstOf r .key)) is in omega arith
+
+      asc : Asc (y .key) (c ∷ rest)
+      asc = subst (Asc (y .key)) is (t .ascends)
+
+      at : Dec (d < m) → Dec (d < n) → Dec (d ≡ n) →
+          cond (between m n d) 0 (cond (leb m d) (firstSharing b D (y .key) d (c ∷ rest)) 0) ≡ cond (eqb d n) (c .cell) 0
+      at (yes l) any other = rw (lt-leb m d l, ne-eqb d n (λ z. omega (arith, lower, l))) refl
+      at (no k) (yes l) other = rw (between-is m n d (omega (arith, k)) l, ne-eqb d n (λ z. omega (arith, l))) refl
+      at (no k) (no l) (yes z) =
+          rw (between-not m n d (omega (arith, l)), le-leb m d (omega (arith, k)), eq-eqb d n z)
+          (sharing-here b D (y .key) d c rest (sym z))
+      at (no k) (no l) (no z) =
+          rw (between-not m n d (omega (arith, l)), le-leb m d (omega (arith, k)), ne-eqb d n z)
+          (sharing-none b D (y .key) d (c ∷ rest) (
+            omega (arith, l, z),
+            all-map (λ w h. omega (arith, l, z)) rest
+                (sharing-falls b D pos (y .key) c rest (let h = asc .0 in omega arith) (asc .1)),
+          ))
+
+  -- y owes
+  debt-some : 0 < getD ws 3 0 → 0 < getD ws 0 0 → Shown ws key first → Shown ws key second → y .owes ≡ true →
+      debtRight ws (x .cell) (y .cell) (second .dimension) ≡ true
+  unfolding debtRight
+  debt-some pos some s t o = at later refl (t .ascends) (t .later)
+    where
+      at : (l : List Entry) → later ≡ l → Asc (y .key) l → All (λ z. (0 < z .cell) × (z .cell < getD ws 2 0)) l →
+          debtRight ws (x .cell) (y .cell) (second .dimension) ≡ true
+      at [] is asc range = absurd (let n = ap length is in let m = t .debt o .later in omega arith)
+      at (c ∷ rest) is asc range =
+          let b = getD ws 3 0 in
+          let D = getD ws 0 0 in
+          let n = shared b D (y .key) (c .key) in
+          let rise = asc .0 in
+          let positive = range .0 .0 in
+          let inside = range .0 .1 in
+          let lower = t .debt o .lower in
+          let unowing = before-unowing s o in
+          let is-n : shared b D (y .key) (firstOf later .key) ≡ n = ap (λ r. shared b D (y .key) (firstOf r .key)) is in
+          let is-owed : owedAt ws (y .cell) ≡ c .cell =
+          t .held .owed ∙ ap (λ u. cond u (firstOf later .cell) 0) o ∙ ap (λ r. firstOf r .cell) is in
+          let is-low : lowAt ws (y .cell) ≡ second .dimension = t .held .low ∙ ap (λ u. cond u (second .dimension) 0) o in
+          let is-high : highAt ws (y .cell) ≡ n = t .held .high ∙ ap (λ u. cond u (shared b D (y .key) (firstOf later .key)) 0) o ∙ is-n in
+          rw (ne-eqb (owedAt ws (y .cell)) 0 (λ z. omega arith))
+          (and-then (eq-eqb (owedAt ws (x .cell)) 0 (s .held .owed ∙ ap (λ u. cond u (y .cell) 0) unowing))
+          (and-then (eq-eqb (lowAt ws (y .cell)) (second .dimension) is-low)
+          (and-then (lt-ltb (second .dimension) (highAt ws (y .cell)) (omega arith))
+          (and-then (lt-ltb (highAt ws (y .cell)) D (omega (arith, shared-less b D (y .key) (c .key) some (λ z. omega arith))))
+          (and-then (lt-ltb (owedAt ws (y .cell)) (getD ws 2 0) (omega arith))
+          (all-from (λ d. eqb (linkAt ws (y .cell) d) (cond (eqb d (highAt ws (y .cell))) (owedAt ws (y .cell)) 0)) 0 D (λ d h l.
+          eq-eqb (linkAt ws (y .cell) d) (cond (eqb d (highAt ws (y .cell))) (owedAt ws (y .cell)) 0)
+          (t .held .link d (omega arith) ∙ link-owing pos t unowing o c rest is d
+          ∙ sym (ap₂ (λ h z. cond (eqb d h) z 0) is-high is-owed)))))))))
+
+  debt-right : 0 < getD ws 3 0 → 0 < getD ws 0 0 → Shown ws key first → Shown ws key second →
+      debtRight ws (x .cell) (y .cell) (second .dimension) ≡ true
+  debt-right pos some s t = at (y .owes) refl
+    where
+      at : (owes : Bool) → y .owes ≡ owes → debtRight ws (x .cell) (y .cell) (second .dimension) ≡ true
+      at false o = debt-none t o
+      at true o = debt-some pos some s t o
+
+  -- where y is the position, all path words agree
+  position-agreed : 0 < getD ws 3 0 → 0 < getD ws 0 0 → Shown ws key second →
+      (not (eqb (y .cell) (positionWord ws))
+      || eqb (agreedAt ws (y .cell) (second .dimension) (shared (getD ws 3 0) (getD ws 0 0) (x .key) key)) (getD ws 0 0)) ≡ true
+  position-agreed pos some t = at (ℕ-discrete (y .key) key)
+    where
+      b : ℕ
+      b = getD ws 3 0
+
+      D : ℕ
+      D = getD ws 0 0
+
+      agreed : ℕ
+      agreed = agreedAt ws (y .cell) (second .dimension) (shared b D (x .key) key)
+
+      at : Dec (y .key ≡ key) → (not (eqb (y .cell) (positionWord ws)) || eqb agreed D) ≡ true
+      at (yes e) =
+          or-right (not (eqb (y .cell) (positionWord ws))) (eqb agreed D)
+          (eq-eqb agreed D (agreed-is ws b key second (t .path) pos (x .key) refl
+          ∙ ap (λ k. shared b D (y .key) k) (sym e) ∙ shared-same b D (y .key)))
+      at (no ne) =
+          or-left (not (eqb (y .cell) (positionWord ws))) (eqb agreed D)
+          (ap not (ne-eqb (y .cell) (positionWord ws) (position-apart ws b key second (t .path) some ne)))
+
+  -- the position has been read, up to y
+  passed-next : 0 < getD ws 0 0 → Shown ws key first → Shown ws key second → (key ≤ x .key) ⊎ (y .key ≤ key) →
+      (leb key (x .key) || eqb (y .cell) (positionWord ws)) ≡ leb key (y .key)
+  passed-next some s t (inl h) =
+      let rise = s .ascends .0 in
+      or-left (leb key (x .key)) (eqb (y .cell) (positionWord ws)) (le-leb key (x .key) h) ∙ sym (le-leb key (y .key) (omega arith))
+  passed-next some s t (inr h) = at (ℕ-discrete (y .key) key)
+    where
+      b : ℕ
+      b = getD ws 3 0
+
+      D : ℕ
+      D = getD ws 0 0
+
+      rise : x .key < y .key
+      rise = s .ascends .0
+
+      at : Dec (y .key ≡ key) → (leb key (x .key) || eqb (y .cell) (positionWord ws)) ≡ leb key (y .key)
+      at (yes e) =
+          or-right (leb key (x .key)) (eqb (y .cell) (positionWord ws))
+          (eq-eqb (y .cell) (positionWord ws)
+          (position-here ws b key second (t .path) some (shared-less b D (x .key) (y .key) some (λ z. omega (arith, rise))) e))
+          ∙ sym (le-leb key (y .key) (omega (arith, e)))
+      at (no ne) =
+          rw (
+            lt-leb key (x .key) (omega (arith, rise, h)),
+            lt-leb key (y .key) (omega (arith, ne, h)),
+            ne-eqb (y .cell) (positionWord ws) (position-apart ws b key second (t .path) some ne),
+          ) refl
+
+  cell-right : (free : ℕ) → 0 < getD ws 3 0 → 0 < getD ws 0 0 → Shown ws key first → Shown ws key second →
+      (key ≤ x .key) ⊎ (y .key ≤ key) →
+      cellRight ws (y .cell) (second .dimension) (seenBefore (getD ws 3 0) (getD ws 0 0) key free second) ≡ true
+  unfolding cellRight
+  cell-right free pos some s t gap =
+      and-then (lt-ltb 0 (suc (length later) + free) (omega arith))
+      (and-then (lt-ltb (y .cell) (getD ws 2 0) (t .cell))
+      (and-then (cell-follows pos s t)
+      (and-then (writes-key ws key second pos t)
+      (and-then (entry-right ws key second t gap)
+      (and-then (links-below s t)
+      (and-then (debt-right pos some s t) (position-agreed pos some t)))))))
+
+  pub enters-after : (free : ℕ) → 0 < getD ws 3 0 → 0 < getD ws 0 0 → Shown ws key first → Shown ws key second →
+      (key ≤ x .key) ⊎ (y .key ≤ key) →
+      entered ws (y .cell) (second .dimension) (seenBefore (getD ws 3 0) (getD ws 0 0) key free second)
+      ≡ seenAt (getD ws 3 0) (getD ws 0 0) key free second
+  unfolding entered
+  enters-after free pos some s t gap =
+      let b = getD ws 3 0 in
+      let D = getD ws 0 0 in
+      let fewer : suc (length later) + free - 1 ≡ length later + free = omega arith in
+      let agreed = agreed-is ws b key second (t .path) pos (x .key) refl in
+      let passed = passed-next some s t gap in
+      rw (cell-right free pos some s t gap)
+      (λ i. record { right = true; left = fewer i; last = y .cell; agreed = agreed i; passed = passed i })

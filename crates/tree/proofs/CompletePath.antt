@@ -1,0 +1,213 @@
+-- The path words and the way down: from a cell's dimension on, the way down to it is that cell, and a path word is that cell just if
+-- the cell shares more coordinates with the position than the word's number. So the path words agree with the way down to a cell in
+-- as many leading ones as the cell shares coordinates with the position.
+use mathlib.Core.Path.{_≡_, refl, sym, _∙_, ap}
+use mathlib.Core.Bool.{cond}
+use mathlib.Core.List.{List, [], _∷_, map}
+use mathlib.Core.Logic.{_⊎_, inl, inr}
+use Prim.Native.Nat.{ℕ, zero, suc, _+_, _-_, _≤_, _<_}
+use native.Mathlib.Decide.{decLt, ℕ-discrete}
+use native.Mathlib.Omega.{arith}
+use lib.Dec.{eqb, ltb}
+use lib.ListN.{getD}
+use borrow.Author.Tests.{lt-ltb, le-ltb, eq-eqb, ne-eqb}
+use Rattle.settings.specs.Numbers.{headerWords}
+use Rattle.meaning.specs.Keys.{shared}
+use Rattle.meaning.specs.Row.{Entry, headEntry, Place, headPlace, placesAfter, places}
+use Rattle.meaning.specs.Picture.{firstWith}
+use Rattle.meaning.proofs.Order.{All, Asc, all-map}
+use Rattle.meaning.proofs.Keys.{shared-same, shared-sym, shared-le, shared-less, ultra, triangle}
+use Rattle.meaning.proofs.Cells.{Distinct, all-of-map, all-zip}
+use Rattle.tree.specs.Tree.{pathRun, agreedAt, positionWord}
+
+-- a key that an entry has
+abbrev pub Stands : ℕ → List Entry → Type 0
+Stands key [] = ⊥
+Stands key (x ∷ row) = (x .key ≡ key) ⊎ Stands key row
+
+-- The first entry that shares n coordinates with a key
+
+module _ (b D : ℕ) where
+  first-past : (key n : ℕ) (x : Entry) (row : List Entry) → shared b D (x .key) key < n → firstWith b D key n (x ∷ row) ≡ firstWith b D key n row
+  unfolding firstWith
+  first-past key n x row h = rw (lt-ltb (shared b D (x .key) key) n h) refl
+
+  first-here : (key n : ℕ) (x : Entry) (row : List Entry) → n ≤ shared b D (x .key) key → firstWith b D key n (x ∷ row) ≡ x .cell
+  unfolding firstWith
+  first-here key n x row h = rw (le-ltb (shared b D (x .key) key) n h) refl
+
+  -- it is the same for keys that share n coordinates
+  first-same : 0 < b → (key other n : ℕ) → n ≤ shared b D key other → (row : List Entry) → firstWith b D key n row ≡ firstWith b D other n row
+  unfolding firstWith
+  first-same pos key other n h [] = refl
+  first-same pos key other n h (x ∷ row) = rw (alike (decLt (shared b D (x .key) key) n), first-same pos key other n h row) refl
+    where
+      alike : Dec (shared b D (x .key) key < n) → ltb (shared b D (x .key) key) n ≡ ltb (shared b D (x .key) other) n
+      alike (yes l) =
+          lt-ltb (shared b D (x .key) key) n l
+          ∙ sym (lt-ltb (shared b D (x .key) other) n (omega (arith, l, h, triangle b D (x .key) other key pos, shared-sym b D key other)))
+      alike (no l) =
+          le-ltb (shared b D (x .key) key) n (omega (arith, l))
+          ∙ sym (le-ltb (shared b D (x .key) other) n (omega (arith, l, h, triangle b D (x .key) key other pos)))
+
+  -- it is not a cell c if what has that cell shares less
+  first-other : (key n c : ℕ) → n ≤ D → (row : List Entry) → Stands key row → All (λ x. x .cell ≡ c → shared b D (x .key) key < n) row →
+      firstWith b D key n row ≡ c → ⊥
+  first-other key n c h [] stands less is = stands
+  first-other key n c h (x ∷ row) stands less is = at (decLt (shared b D (x .key) key) n) stands (first-other key n c h row)
+    where
+      at : Dec (shared b D (x .key) key < n) → Stands key (x ∷ row) →
+          (Stands key row → All (λ y. y .cell ≡ c → shared b D (y .key) key < n) row → firstWith b D key n row ≡ c → ⊥) → ⊥
+      at (yes l) (inl e) more = omega (arith, l, h, ap (λ k. shared b D k key) e, shared-same b D key)
+      at (yes l) (inr later) more = more later (less .1) (sym (first-past key n x row l) ∙ is)
+      at (no l) any more = l (less .0 (sym (first-here key n x row (omega (arith, l))) ∙ is))
+
+-- Cells and their keys
+
+-- entries of the same cell have the same key
+distinct-keys : (row : List Entry) → Distinct (map (λ x. x .cell) row) → All (λ y. All (λ x. x .cell ≡ y .cell → x .key ≡ y .key) row) row
+distinct-keys [] d = tt
+distinct-keys (x ∷ row) d = (
+  ((λ e. refl), all-map (λ y ne e. absurd (ne (sym e))) row apart),
+  all-zip (λ y ne own. ((λ e. absurd (ne e)), own)) row apart (distinct-keys row (d .1)),
+)
+  where
+    apart : All (λ y. x .cell ≡ y .cell → ⊥) row
+    apart = all-of-map (λ c. x .cell ≡ c → ⊥) (λ y. y .cell) row (d .0)
+
+-- A cell and the path words
+
+-- Path words, from the cell's dimension on, are the cell up to what it shares with the position, whose key this is, and then not.
+pub record OnPath (ws : List ℕ) (b key : ℕ) (p : Place) : Type 0 where
+  pub here : (d : ℕ) → p .dimension ≤ d → d < shared b (getD ws 0 0) (p .entry .key) key → getD ws (headerWords + d) 0 ≡ p .entry .cell
+  pub apart : (d : ℕ) → shared b (getD ws 0 0) (p .entry .key) key ≤ d → d < getD ws 0 0 → getD ws (headerWords + d) 0 ≡ p .entry .cell → ⊥
+
+module _ (ws : List ℕ) (b key : ℕ) (all : List Entry) (pos : 0 < b) (stands : Stands key all)
+    (words : (d : ℕ) → d < getD ws 0 0 → getD ws (headerWords + d) 0 ≡ firstWith b (getD ws 0 0) key (suc d) all) where
+  -- the way down to a place is, from its dimension on, its cell
+  abbrev WayDown : Place → Type 0
+  WayDown p = (d : ℕ) → p .dimension ≤ d → d < getD ws 0 0 → firstWith b (getD ws 0 0) (p .entry .key) (suc d) all ≡ p .entry .cell
+
+  -- nothing up to x shares n coordinates with a larger key with which x does not
+  abbrev Past : Entry → List Entry → Type 0
+  Past x later =
+      (k n : ℕ) → x .key ≤ k → shared b (getD ws 0 0) (x .key) k < n → firstWith b (getD ws 0 0) k n all ≡ firstWith b (getD ws 0 0) k n later
+
+  -- what has y's cell has y's key
+  abbrev Own : Entry → Type 0
+  Own y = All (λ x. x .cell ≡ y .cell → x .key ≡ y .key) all
+
+  on-path : (p : Place) → WayDown p → Own (p .entry) → OnPath ws b key p
+  on-path p way own =
+      let D = getD ws 0 0 in
+      record {
+        here = λ d h l.
+            let le = shared-le b D (p .entry .key) key in
+            words d (omega arith)
+            ∙ sym (first-same b D pos (p .entry .key) key (suc d) l all)
+            ∙ way d h (omega arith);
+        apart = λ d h l is.
+            first-other b D key (suc d) (p .entry .cell) l all stands
+            (all-map (λ x f e. let q = ap (λ k. shared b D k key) (f e) in omega arith) all own)
+            (sym (words d l) ∙ is);
+      }
+
+  past-next : (x y : Entry) (later : List Entry) → x .key < y .key → Past x (y ∷ later) → Past y later
+  past-next x y later h past k n le less =
+      let D = getD ws 0 0 in
+      let u = ultra b D (x .key) (y .key) k pos (omega arith) le in
+      past k n (omega arith) (omega arith) ∙ first-past b D k n y later less
+
+  way-next : (x y : Entry) (e : ℕ) (later : List Entry) → x .key < y .key → Past x (y ∷ later) →
+      WayDown (record { entry = y; dimension = shared b (getD ws 0 0) (x .key) (y .key); before = x; beforeDimension = e; later = later })
+  way-next x y e later h past d le less =
+      let D = getD ws 0 0 in
+      past (y .key) (suc d) (omega arith) (omega arith) ∙ first-here b D (y .key) (suc d) y later (omega (arith, shared-same b D (y .key)))
+
+  after-on-path : (x : Entry) (e : ℕ) (later : List Entry) → Asc (x .key) later → Past x later → All Own later →
+      All (OnPath ws b key) (placesAfter b (getD ws 0 0) x e later)
+  unfolding placesAfter
+  after-on-path x e [] asc past own = tt
+  after-on-path x e (y ∷ later) asc past own = (
+    on-path _ (way-next x y e later (asc .0) past) (own .0),
+    after-on-path y (shared b (getD ws 0 0) (x .key) (y .key)) later (asc .1) (past-next x y later (asc .0) past) (own .1),
+  )
+
+pub places-on-path : (ws : List ℕ) (b key : ℕ) (row : List Entry) → 0 < b → Asc 0 row → Distinct (0 ∷ map (λ x. x .cell) row) →
+    Stands key (headEntry ∷ row) →
+    ((d : ℕ) → d < getD ws 0 0 → getD ws (headerWords + d) 0 ≡ firstWith b (getD ws 0 0) key (suc d) (headEntry ∷ row)) →
+    All (OnPath ws b key) (places b (getD ws 0 0) row)
+unfolding places
+places-on-path ws b key row pos asc distinct stands words =
+    let D = getD ws 0 0 in
+    let all : List Entry = headEntry ∷ row in
+    let own = distinct-keys all distinct in (
+      on-path ws b key all pos stands words (headPlace row)
+          (λ d h l. first-here b D 0 (suc d) headEntry row (omega (arith, shared-same b D 0))) (own .0),
+      after-on-path ws b key all pos stands words headEntry 0 row asc (λ k n le less. first-past b D k n headEntry row less) (own .1),
+    )
+
+-- How many path words agree
+
+run-is : (ws : List ℕ) (y d n m : ℕ) → d ≤ m → m ≤ d + n → ((i : ℕ) → d ≤ i → i < m → getD ws (headerWords + i) 0 ≡ y) →
+    (m < d + n → getD ws (headerWords + m) 0 ≡ y → ⊥) → pathRun ws y d n ≡ m
+unfolding pathRun
+run-is ws y d zero m low high same other = omega arith
+run-is ws y d (suc n) m low high same other = at (ℕ-discrete d m) (run-is ws y (suc d) n m)
+  where
+    at : Dec (d ≡ m) → (suc d ≤ m → m ≤ suc d + n → ((i : ℕ) → suc d ≤ i → i < m → getD ws (headerWords + i) 0 ≡ y) →
+        (m < suc d + n → getD ws (headerWords + m) 0 ≡ y → ⊥) → pathRun ws y (suc d) n ≡ m) →
+        cond (eqb (getD ws (headerWords + d) 0) y) (pathRun ws y (suc d) n) d ≡ m
+    at (yes e) more =
+        ap (λ t. cond t (pathRun ws y (suc d) n) d)
+        (ne-eqb (getD ws (headerWords + d) 0) y (λ q. other (omega (arith, e)) (ap (λ i. getD ws (headerWords + i) 0) (sym e) ∙ q)))
+        ∙ e
+    at (no ne) more =
+        ap (λ t. cond t (pathRun ws y (suc d) n) d) (eq-eqb (getD ws (headerWords + d) 0) y (same d (omega arith) (omega (arith, ne, low))))
+        ∙ more (omega (arith, ne, low)) (omega (arith, high)) (λ i k l. same i (omega (arith, k)) l) (λ k. other (omega (arith, k)))
+
+module _ (ws : List ℕ) (b key : ℕ) (p : Place) (on : OnPath ws b key p) where
+  -- from p's dimension on, the words that are p's cell run up to what it shares with the position
+  pub run-agreed : (d : ℕ) → p .dimension ≤ d → d ≤ shared b (getD ws 0 0) (p .entry .key) key →
+      pathRun ws (p .entry .cell) d (getD ws 0 0 - d) ≡ shared b (getD ws 0 0) (p .entry .key) key
+  run-agreed d h l =
+      let D = getD ws 0 0 in
+      let le = shared-le b D (p .entry .key) key in
+      run-is ws (p .entry .cell) d (D - d) (shared b D (p .entry .key) key) l (omega arith)
+      (λ i k m. on .here i (omega arith) m) (λ k. on .apart (shared b D (p .entry .key) key) (omega arith) (omega arith))
+
+  -- how many path words agree once p is met, after a key x with which it shares as many coordinates as its dimension
+  pub agreed-is : 0 < b → (x : ℕ) → p .dimension ≡ shared b (getD ws 0 0) x (p .entry .key) →
+      agreedAt ws (p .entry .cell) (p .dimension) (shared b (getD ws 0 0) x key) ≡ shared b (getD ws 0 0) (p .entry .key) key
+  unfolding agreedAt
+  agreed-is pos x is = at (decLt (shared b D x key) (p .dimension))
+    where
+      D : ℕ
+      D = getD ws 0 0
+
+      y : ℕ
+      y = p .entry .key
+
+      at : Dec (shared b D x key < p .dimension) →
+          cond (ltb (shared b D x key) (p .dimension)) (shared b D x key) (pathRun ws (p .entry .cell) (p .dimension) (D - p .dimension))
+          ≡ shared b D y key
+      at (yes l) =
+          rw (lt-ltb (shared b D x key) (p .dimension) l)
+          (omega (arith, l, is, triangle b D x y key pos, triangle b D y x key pos, shared-sym b D x y))
+      at (no l) =
+          rw (le-ltb (shared b D x key) (p .dimension) (omega (arith, l)))
+          (run-agreed (p .dimension) (omega arith) (omega (arith, l, is, triangle b D y x key pos, shared-sym b D x y)))
+
+  -- p is the position just if its key is the position's
+  pub position-here : 0 < getD ws 0 0 → p .dimension < getD ws 0 0 → p .entry .key ≡ key → p .entry .cell ≡ positionWord ws
+  position-here some h e =
+      let D = getD ws 0 0 in
+      let last : headerWords + D - 1 ≡ headerWords + (D - 1) = omega arith in
+      sym (ap (λ i. getD ws i 0) last
+      ∙ on .here (D - 1) (omega arith) (omega (arith, ap (λ k. shared b D (p .entry .key) k) (sym e), shared-same b D (p .entry .key))))
+
+  pub position-apart : 0 < getD ws 0 0 → (p .entry .key ≡ key → ⊥) → p .entry .cell ≡ positionWord ws → ⊥
+  position-apart some ne e =
+      let D = getD ws 0 0 in
+      let last : headerWords + D - 1 ≡ headerWords + (D - 1) = omega arith in
+      on .apart (D - 1) (omega (arith, shared-less b D (p .entry .key) key some ne)) (omega arith) (sym (e ∙ ap (λ i. getD ws i 0) last))

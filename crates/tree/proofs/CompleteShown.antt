@@ -1,0 +1,172 @@
+-- What the words of the picture of a state in order say of each standing cell.
+use mathlib.Core.Path.{_≡_, refl, sym, _∙_, ap}
+use mathlib.Core.Bool.{true, false}
+use mathlib.Core.List.{List, [], _∷_, map}
+use mathlib.Core.Logic.{inl, inr}
+use mathlib.Core.Option.{some}
+use Prim.Native.Nat.{ℕ, suc, _+_, _*_, _≤_, _<_}
+use native.Mathlib.Nat.{mul-le-mul-right}
+use native.Mathlib.Decide.{ℕ-discrete}
+use native.Mathlib.Omega.{arith}
+use lib.ListN.{length, getD, take, drop, length-drop}
+use lib.Seq.{length-take-le, getD-take, getD-drop, ext-getD}
+use Rattle.settings.specs.Numbers.{fieldsBeforeCoordinates, cellWords}
+use Rattle.meaning.specs.Keys.{coordinates, shared}
+use Rattle.meaning.specs.Row.{Entry, headEntry, Place, placeOf, placesAfter, places}
+use Rattle.meaning.specs.State.{State, positionKey, keyOf, occurrences}
+use Rattle.meaning.specs.Picture.{standingWords, wordsOf, picture}
+use Rattle.meaning.specs.Walk.{place, wordAt}
+use Rattle.meaning.proofs.Order.{All, Asc}
+use Rattle.meaning.proofs.Keys.{coordinates-length}
+use Rattle.meaning.proofs.State.{Debt, Sound, base-positive, base-above}
+use Rattle.meaning.proofs.Cells.{occurrences-past, distinct-left, cells-distinct, row-range}
+use Rattle.meaning.proofs.Picture.{picture-length, picture-path, picture-word, place-found, later-has}
+use Rattle.meaning.proofs.Places.{keyOf-same, keyOf-other}
+use Rattle.meaning.proofs.WalkRead.{Held, all-places, places-held}
+use Rattle.tree.specs.Tree.{coordinateWords}
+use Rattle.tree.proofs.CompletePath.{Stands, OnPath, places-on-path}
+use Rattle.tree.proofs.CompleteCell.{Shown}
+
+-- The position
+
+occurs-stands : (c : ℕ) (row : List Entry) → 0 < occurrences c (map (λ x. x .cell) row) → Stands (keyOf c row) row
+occurs-stands c [] h = absurd (unfold occurrences in omega arith)
+occurs-stands c (x ∷ row) h = at (ℕ-discrete (x .cell) c) (occurs-stands c row)
+  where
+    at : Dec (x .cell ≡ c) → (0 < occurrences c (map (λ y. y .cell) row) → Stands (keyOf c row) row) → Stands (keyOf c (x ∷ row)) (x ∷ row)
+    at (yes e) more = inl (sym (keyOf-same c x row e))
+    at (no ne) more = inr (rw (keyOf-other c x row ne) (more (rw (occurrences-past c (x .cell) (map (λ y. y .cell) row) ne) at h)))
+
+pub position-stands : (s : State) → Sound s → Stands (positionKey s) (headEntry ∷ s .row)
+position-stands s v = occurs-stands (s .position) (headEntry ∷ s .row) (v .position)
+
+-- What is known of the entries
+
+-- of the head too
+record Kept (s : State) (x : Entry) : Type 0 where
+  cell : x .cell < s .settings .cells
+  most : x .key ≤ s .settings .largest
+  worthless : x .live ≡ false → x .value ≡ 0
+  dead : x .key ≤ positionKey s → x .live ≡ false
+
+kept : (s : State) (row : List Entry) → All (λ x. (0 < x .cell) × (x .cell < s .settings .cells)) row →
+    All (λ x. x .key ≤ s .settings .largest) row →
+    All (λ x. x .live ≡ false → x .value ≡ 0) row → All (λ x. x .key ≤ positionKey s → x .live ≡ false) row → All (Kept s) row
+kept s [] range most worthless dead = tt
+kept s (x ∷ row) range most worthless dead = (
+  record { cell = range .0 .1; most = most .0; worthless = worthless .0; dead = dead .0 },
+  kept s row (range .1) (most .1) (worthless .1) (dead .1),
+)
+
+head-kept : (s : State) → Sound s → Kept s headEntry
+head-kept s v = let c = v .cells-least in record { cell = omega arith; most = omega arith; worthless = λ e. refl; dead = λ h. refl }
+
+places-kept : (s : State) → Sound s → All (λ p. Kept s (p .entry)) (places (s .settings .base) (s .settings .dimensions) (s .row))
+places-kept s v =
+    all-places (Kept s) (s .settings .base) (s .settings .dimensions) (s .row) (head-kept s v)
+    (kept s (s .row) (row-range s v) (v .keys) (v .values) (v .dead))
+
+-- what follows a place ascends
+after-ascends : (b D : ℕ) (x : Entry) (e : ℕ) (row : List Entry) → Asc (x .key) row →
+    All (λ p. Asc (p .entry .key) (p .later)) (placesAfter b D x e row)
+unfolding placesAfter
+after-ascends b D x e [] asc = tt
+after-ascends b D x e (y ∷ row) asc = (asc .1, after-ascends b D y (shared b D (x .key) (y .key)) row (asc .1))
+
+places-ascend : (b D : ℕ) (row : List Entry) → Asc 0 row → All (λ p. Asc (p .entry .key) (p .later)) (places b D row)
+unfolding places
+places-ascend b D row asc = (asc, after-ascends b D headEntry 0 row asc)
+
+places-range : (P : Entry → Type 0) (b D : ℕ) (row : List Entry) → All P row → All (λ p. All P (p .later)) (places b D row)
+unfolding places
+places-range P b D row h = (h, later-has P b D headEntry 0 row h)
+
+-- The words
+
+module _ (s : State) (v : Sound s) where
+  word-shown : (p : Place) → p .entry .cell < s .settings .cells →
+      placeOf (p .entry .cell) (places (s .settings .base) (s .settings .dimensions) (s .row)) ≡ some p →
+      (j : ℕ) → j < cellWords (s .settings .dimensions) →
+      wordAt (picture s) (p .entry .cell) j ≡ getD (standingWords (s .settings .base) (s .settings .dimensions) p) j 0
+  unfolding wordsOf
+  word-shown p h found j l =
+      picture-word s (p .entry .cell) j h l
+      ∙ ap (λ o. getD (wordsOf (s .settings .base) (s .settings .dimensions) (s .free) (p .entry .cell) o) j 0) found
+
+  coordinates-shown : (p : Place) → p .entry .cell < s .settings .cells → Held (picture s) (s .settings .base) (s .settings .dimensions) p →
+      coordinateWords (picture s) (p .entry .cell) ≡ coordinates (s .settings .base) (s .settings .dimensions) (p .entry .key)
+  unfolding picture
+  coordinates-shown p h held =
+      let b = s .settings .base in
+      let D = s .settings .dimensions in
+      let C = s .settings .cells in
+      let c = p .entry .cell in
+      let start = place D c fieldsBeforeCoordinates in
+      let room : suc c * cellWords D ≤ C * cellWords D = mul-le-mul-right (cellWords D) h in
+      let inside : start + D ≤ length (picture s) = omega (arith, picture-length s) in
+      let rest : D ≤ length (drop start (picture s)) = omega (arith, length-drop start (picture s)) in
+      let long = length-take-le D (drop start (picture s)) rest in
+      let number = coordinates-length b D (p .entry .key) in
+      ext-getD 0 (take D (drop start (picture s))) (coordinates b D (p .entry .key)) (long ∙ sym number)
+      (λ i l.
+      let less : i < D = omega arith in
+      let there : start + i ≡ place D c (fieldsBeforeCoordinates + i) = omega arith in
+      getD-take D (drop start (picture s)) i 0 less
+      ∙ getD-drop start (picture s) i 0
+      ∙ ap (λ n. getD (picture s) n 0) there ∙ held .coordinate i less)
+
+  shown : (p : Place) → placeOf (p .entry .cell) (places (s .settings .base) (s .settings .dimensions) (s .row)) ≡ some p →
+      Held (picture s) (s .settings .base) (s .settings .dimensions) p → Kept s (p .entry) →
+      (p .entry .owes ≡ true → Debt (s .settings .base) (s .settings .dimensions) p) → Asc (p .entry .key) (p .later) →
+      All (λ z. (0 < z .cell) × (z .cell < s .settings .cells)) (p .later) → OnPath (picture s) (s .settings .base) (positionKey s) p →
+      Shown (picture s) (positionKey s) p
+  unfolding picture standingWords
+  shown p found held kept debt ascends later path =
+      let most = kept .most in
+      let above = base-above s v in
+      record {
+        held = held;
+        coordinates = coordinates-shown p (kept .cell) held;
+        value = word-shown p (kept .cell) found 1 (omega arith);
+        marked = word-shown p (kept .cell) found 2 (omega arith);
+        cell = kept .cell;
+        most = most;
+        below = omega arith;
+        worthless = kept .worthless;
+        dead = kept .dead;
+        debt = debt;
+        ascends = ascends;
+        later = later;
+        path = path;
+      }
+
+  path-shown : All (OnPath (picture s) (s .settings .base) (positionKey s)) (places (s .settings .base) (s .settings .dimensions) (s .row))
+  unfolding picture
+  path-shown =
+      places-on-path (picture s) (s .settings .base) (positionKey s) (s .row) (base-positive s v) (v .ascends)
+      (distinct-left (0 ∷ map (λ x. x .cell) (s .row)) (s .free) (cells-distinct s v)) (position-stands s v) (picture-path s)
+
+  pub places-shown : All (Shown (picture s) (positionKey s)) (places (s .settings .base) (s .settings .dimensions) (s .row))
+  places-shown =
+      each standing (place-found s v) (places-held s v) (places-kept s v) (v .debts) (places-ascend b D (s .row) (v .ascends))
+      (places-range (λ z. (0 < z .cell) × (z .cell < s .settings .cells)) b D (s .row) (row-range s v)) path-shown
+    where
+      b : ℕ
+      b = s .settings .base
+
+      D : ℕ
+      D = s .settings .dimensions
+
+      standing : List Place
+      standing = places b D (s .row)
+
+      each : (ps : List Place) → All (λ p. placeOf (p .entry .cell) standing ≡ some p) ps →
+          All (Held (picture s) b D) ps → All (λ p. Kept s (p .entry)) ps →
+          All (λ p. p .entry .owes ≡ true → Debt b D p) ps → All (λ p. Asc (p .entry .key) (p .later)) ps →
+          All (λ p. All (λ z. (0 < z .cell) × (z .cell < s .settings .cells)) (p .later)) ps → All (OnPath (picture s) b (positionKey s)) ps →
+          All (Shown (picture s) (positionKey s)) ps
+      each [] found held kept debt ascends later path = tt
+      each (p ∷ ps) found held kept debt ascends later path = (
+        shown p (found .0) (held .0) (kept .0) (debt .0) (ascends .0) (later .0) (path .0),
+        each ps (found .1) (held .1) (kept .1) (debt .1) (ascends .1) (later .1) (path .1),
+      )

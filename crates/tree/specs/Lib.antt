@@ -1,0 +1,2 @@
+-- How the check reads a buffer, on the words.
+pub mod Tree

@@ -1,0 +1,168 @@
+-- The check for refusal 3 as a walk over the words: "reads the list cell by cell, each child's own children in turn". The children of
+-- a cell are met by its links from D-1 down, so the cells are read in ascending order of keys, and each is compared with the one read
+-- before it.
+use mathlib.Core.Bool.{Bool, true, false, cond, _&&_, _||_, not}
+use mathlib.Core.List.{List, [], _∷_}
+use Prim.Native.Nat.{ℕ, zero, suc, _+_, _*_, _-_, _^_}
+use lib.Dec.{eqb, leb, ltb}
+use lib.ListN.{length, getD, take, drop}
+use Rattle.settings.specs.Numbers.{headerWords, fieldsBeforeCoordinates, cellWords, lengthOf, inRange}
+use Rattle.meaning.specs.Row.{between}
+use Rattle.meaning.specs.Walk.{place, wordAt, keyAt, valueAt, markAt, owedAt, lowAt, highAt, coordinateAt, linkAt, linkRead}
+use Rattle.tree.specs.declared.Seen.{Seen}
+
+-- a test holds at each of n numbers from i on
+unfoldable pub allFrom : (ℕ → Bool) → ℕ → ℕ → Bool
+allFrom test i zero = true
+allFrom test i (suc n) = test i && allFrom test (suc i) n
+
+-- The number that coordinates write in base b, after a number already read.
+unfoldable pub written : ℕ → ℕ → List ℕ → ℕ
+written b n [] = n
+written b n (x ∷ xs) = written b (n * b + x) xs
+
+-- the coordinate words of a cell
+abbrev pub coordinateWords : List ℕ → ℕ → List ℕ
+coordinateWords ws x = take (getD ws 0 0) (drop (place (getD ws 0 0) x fieldsBeforeCoordinates) ws)
+
+unfoldable pub allBelow : ℕ → List ℕ → Bool
+allBelow b [] = true
+allBelow b (x ∷ xs) = ltb x b && allBelow b xs
+
+-- coordinate words that are a key's coordinates: each below b, and together they write the key
+unfoldable pub writesKey : List ℕ → ℕ → Bool
+writesKey ws x = allBelow (getD ws 3 0) (coordinateWords ws x) && eqb (written (getD ws 3 0) 0 (coordinateWords ws x)) (keyAt ws x)
+
+-- cell y comes after cell x in key order and shares exactly e coordinates with it
+unfoldable pub follows : List ℕ → ℕ → ℕ → ℕ → Bool
+follows ws x y e =
+    allFrom (λ d. eqb (coordinateAt ws y d) (coordinateAt ws x d)) 0 e && ltb (coordinateAt ws x e) (coordinateAt ws y e)
+
+-- key at most K; live or dead, dead as long as the position has not been read; a dead cell's value is 0
+unfoldable pub entryRight : List ℕ → ℕ → Bool → Bool
+entryRight ws y passed =
+    leb (keyAt ws y) (getD ws 1 0) && ((eqb (markAt ws y) 2 && eqb (valueAt ws y) 0) || (eqb (markAt ws y) 1 && passed))
+
+-- link d of y is one that x, read before y, owes
+abbrev pub dueTo : List ℕ → ℕ → ℕ → Bool
+dueTo ws x d = not (eqb (owedAt ws x) 0) && between (lowAt ws x) (highAt ws x) d
+
+-- links below the dimension e are 0, but for those that the cell read before owes
+unfoldable pub linksBelow : List ℕ → ℕ → ℕ → ℕ → Bool
+linksBelow ws x y e = allFrom (λ d. eqb (linkAt ws y d) 0 || dueTo ws x d) 0 e
+
+-- y owes nothing, and its low and high are 0; or y owes, the cell x read before does not, low is y's dimension e, below high, and y's
+-- only link is link high, to the owed cell
+unfoldable pub debtRight : List ℕ → ℕ → ℕ → ℕ → Bool
+debtRight ws x y e =
+    cond (eqb (owedAt ws y) 0)
+    (eqb (lowAt ws y) 0 && eqb (highAt ws y) 0)
+    (eqb (owedAt ws x) 0
+    && (eqb (lowAt ws y) e
+    && (ltb e (highAt ws y)
+    && (ltb (highAt ws y) (getD ws 0 0)
+    && (ltb (owedAt ws y) (getD ws 2 0)
+    && allFrom (λ d. eqb (linkAt ws y d) (cond (eqb d (highAt ws y)) (owedAt ws y) 0)) 0 (getD ws 0 0))))))
+
+-- how many path words from number d on, of n, are cell y
+unfoldable pub pathRun : List ℕ → ℕ → ℕ → ℕ → ℕ
+pathRun ws y d zero = d
+pathRun ws y d (suc n) = cond (eqb (getD ws (headerWords + d) 0) y) (pathRun ws y (suc d) n) d
+
+-- how many leading path words agree with the way down, once y is met by link e: from number e on the way down is y
+unfoldable pub agreedAt : List ℕ → ℕ → ℕ → ℕ → ℕ
+agreedAt ws y e agreed = cond (ltb agreed e) agreed (pathRun ws y e (getD ws 0 0 - e))
+
+-- the last path word
+abbrev pub positionWord : List ℕ → ℕ
+positionWord ws = getD ws (headerWords + getD ws 0 0 - 1) 0
+
+-- cell y, met by link e, is right after what has been seen; where it is the position, all path words agree
+unfoldable pub cellRight : List ℕ → ℕ → ℕ → Seen → Bool
+cellRight ws y e s =
+    ltb 0 (s .left)
+    && (ltb y (getD ws 2 0)
+    && (follows ws (s .last) y e
+    && (writesKey ws y
+    && (entryRight ws y (s .passed)
+    && (linksBelow ws (s .last) y e
+    && (debtRight ws (s .last) y e
+    && (not (eqb y (positionWord ws)) || eqb (agreedAt ws y e (s .agreed)) (getD ws 0 0))))))))
+
+abbrev pub wrong : Seen → Seen
+wrong s = record { right = false; left = s .left; last = s .last; agreed = s .agreed; passed = s .passed }
+
+-- what has been seen once cell y is read, met by link e
+unfoldable pub entered : List ℕ → ℕ → ℕ → Seen → Seen
+entered ws y e s =
+    cond (cellRight ws y e s)
+    (record { right = true; left = s .left - 1; last = y; agreed = agreedAt ws y e (s .agreed); passed = s .passed || eqb y (positionWord ws) })
+    (wrong s)
+
+-- The cells that hang from x by links of number e, one from the other, each after the children by higher links (`higher`) of the one
+-- before; at most `fuel` of them.
+unfoldable pub along : (ℕ → Seen → Seen) → List ℕ → ℕ → ℕ → ℕ → Seen → Seen
+along higher ws e zero x s = wrong s
+along higher ws e (suc fuel) x s =
+    let t = higher x s in
+    let y = linkRead ws x e in
+    let u = entered ws y e t in
+    cond (t .right) (cond (eqb y 0) t (cond (u .right) (along higher ws e fuel y u) u)) t
+
+-- the children of x by links D-1 down to D-n, each child's own children in turn
+unfoldable pub children : ℕ → List ℕ → ℕ → ℕ → Seen → Seen
+children fuel ws zero x s = s
+children fuel ws (suc n) x s = along (children fuel ws n) ws (getD ws 0 0 - suc n) fuel x s
+
+-- "Cell 0 is the head: key 0, value 0, dead", with coordinates 0, owing nothing
+unfoldable pub headRight : List ℕ → Bool
+headRight ws =
+    eqb (keyAt ws 0) 0
+    && (eqb (valueAt ws 0) 0
+    && (eqb (markAt ws 0) 2
+    && (eqb (owedAt ws 0) 0
+    && (eqb (lowAt ws 0) 0
+    && (eqb (highAt ws 0) 0
+    && allFrom (λ d. eqb (coordinateAt ws 0 d) 0) 0 (getD ws 0 0))))))
+
+-- what has been seen at the head: where it is the position, all path words are 0
+unfoldable pub atHead : List ℕ → Seen
+atHead ws =
+    let agreed = pathRun ws 0 0 (getD ws 0 0) in
+    record {
+      right = not (eqb (positionWord ws) 0) || eqb agreed (getD ws 0 0);
+      left = getD ws 2 0 - 1;
+      last = 0;
+      agreed = agreed;
+      passed = eqb (positionWord ws) 0;
+    }
+
+-- a free cell's words after the first are 0
+unfoldable pub freeRight : List ℕ → ℕ → Bool
+freeRight ws c = ltb c (getD ws 2 0) && allFrom (λ j. eqb (wordAt ws c j) 0) 1 (cellWords (getD ws 0 0) - 1)
+
+-- the chain from c has n cells, each free, and then ends in 0
+unfoldable pub chainRight : List ℕ → ℕ → ℕ → Bool
+chainRight ws zero c = eqb c 0
+chainRight ws (suc n) c = cond (freeRight ws c) (chainRight ws n (wordAt ws c 0)) false
+
+-- D, K and C in range, the exact length, and b the least number whose power D is above K
+unfoldable pub headerRight : List ℕ → Bool
+headerRight ws =
+    inRange (getD ws 0 0) (getD ws 1 0) (getD ws 2 0)
+    && (eqb (length ws) (lengthOf (getD ws 0 0) (getD ws 2 0))
+    && (ltb 0 (getD ws 3 0)
+    && (ltb (getD ws 1 0) (getD ws 3 0 ^ getD ws 0 0)
+    && not (ltb (getD ws 1 0) ((getD ws 3 0 - 1) ^ getD ws 0 0)))))
+
+-- what has been seen when all children of the head have been read
+abbrev pub seenAll : List ℕ → Seen
+seenAll ws = children (getD ws 2 0) ws (getD ws 0 0) 0 (atHead ws)
+
+-- The check: header, head, the tree of standing cells, the position among them, and the free chain over all cells left.
+unfoldable pub accepts : List ℕ → Bool
+accepts ws =
+    elim (headerRight ws) [
+      | true ↦ headRight ws && ((atHead ws .right && seenAll ws .right) && (seenAll ws .passed && chainRight ws (seenAll ws .left) (getD ws 4 0)))
+      | false ↦ false
+    ]

@@ -1,0 +1,74 @@
+-- `words::step` meets its contract: the code's tests on the cell's coordinate and the sought one are those of the definition.
+use mathlib.Core.Path.{sym}
+use native.Mathlib.Omega.{arith}
+use borrow.Author.Needs.{needs}
+use Rattle.words.proofs.Laws.{step-none, step-go, step-last, step-up, step-above, sought-inside}
+use Rattle.words.proofs.step.Statement.{statement}
+use Rattle.words.proofs.step.Tie as tie
+
+coordinate-requires : tie.Need-coordinate-requires
+coordinate-requires c κs = search needs
+
+mul-wanted : tie.Need-mul-wanted
+mul-wanted c = search needs
+
+shared-slice-read-wanted : tie.Need-shared-slice-read-wanted
+shared-slice-read-wanted c =
+    let s = c .before .before .before .before in
+    sought-inside (s .args .s .base) (s .args .s .dimensions) (s .args .k) (s .pre .1 .0) (s .pre .1 .1 .1 .0)
+
+link-read-requires : tie.Need-link-read-requires
+link-read-requires c κs = search needs
+
+returns : tie.Need-returns
+returns c =
+    let s = c .before .before .before .before .before .before .before in
+    sym
+    (step-none (s .pre .0) (s .args .k) (s .args .x) (s .args .d) (s .pre .1 .0) (c .before .before .before .before .coordinate .ensures)
+    (c .before .before .if1 .taken) (c .before .link-read .ensures) (c .if2 .taken))
+
+returns-2 : tie.Need-returns-2
+returns-2 c =
+    let s = c .before .before .before .before .before .before .before in
+    sym
+    (step-go (s .pre .0) (s .args .k) (s .args .x) (s .args .d) (s .pre .1 .0) (c .before .before .before .before .coordinate .ensures)
+    (c .before .before .if1 .taken) (c .before .link-read .ensures) (c .if2 .left))
+
+add-if4 : tie.Need-add-if4
+add-if4 c = search needs
+
+returns-3 : tie.Need-returns-3
+returns-3 c =
+    let s = c .before .before .before .before .before .before .before .before in
+    sym
+    (step-last (s .pre .0) (s .args .k) (s .args .x) (s .args .d) (s .pre .1 .0) (c .before .before .before .before .before .coordinate .ensures)
+    (c .before .before .if3 .taken) (c .if4 .taken))
+
+returns-4 : tie.Need-returns-4
+returns-4 c =
+    let s = c .before .before .before .before .before .before .before .before in
+    sym
+    (step-up (s .pre .0) (s .args .k) (s .args .x) (s .args .d) (s .pre .1 .0) (c .before .before .before .before .before .coordinate .ensures)
+    (c .before .before .if3 .taken) (c .if4 .left))
+
+returns-5 : tie.Need-returns-5
+returns-5 c =
+    let s = c .before .before .before .before .before .before in
+    sym
+    (step-above (s .pre .0) (s .args .k) (s .args .x) (s .args .d) (s .pre .1 .0) (c .before .before .before .coordinate .ensures)
+    (omega arith))
+
+pub step-spec : {M : Type 1} → statement M
+step-spec =
+    tie.close
+    (tie.spec
+    coordinate-requires
+    mul-wanted
+    shared-slice-read-wanted
+    link-read-requires
+    returns
+    returns-2
+    add-if4
+    returns-3
+    returns-4
+    returns-5)
