@@ -35,4 +35,10 @@ pub mod ConversePlaces
 pub mod ConverseState
 pub mod ConverseLinks
 pub mod Converse
+pub mod Ascending
+pub mod Outcomes
+pub mod BookRow
+pub mod BookCalls
+pub mod Book
+pub mod BookPresent
 pub mod Promises

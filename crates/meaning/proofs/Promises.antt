@@ -1,27 +1,36 @@
 -- The promises of specs/Promises.antt, each proved: the laws of states, carried to lists.
-use mathlib.Core.Path.{_≡_, _∙_, sym, ap, subst}
-use mathlib.Core.Bool.{true}
+use mathlib.Core.Path.{_≡_, refl, _∙_, sym, ap, ap₂, subst}
+use mathlib.Core.Bool.{Bool, true, false, true≢false}
+use mathlib.Core.Logic.{_⊎_, inl, inr}
+use mathlib.Core.Option.{Option, none, some}
 use mathlib.Core.List.{List, map}
-use Prim.Native.Nat.{ℕ, _*_, _-_, _^_, _≤_, _<_}
+use Prim.Native.Nat.{ℕ, zero, suc, _*_, _-_, _^_, _≤_, _<_}
+use native.Mathlib.Decide.{decLe}
+use native.Mathlib.Nat.{lt-of-not-le}
 use native.Mathlib.Omega.{arith}
 use lib.ListN.{length}
+use Rattle.settings.specs.Numbers.{baseOf}
 use Rattle.meaning.specs.State.{State}
+use Rattle.meaning.specs.Row.{Entry, entryAt}
 use Rattle.meaning.specs.Picture.{picture}
 use Rattle.meaning.specs.Reading.{read, isList}
+use Rattle.meaning.specs.Refusals.{Outcome, badKey, refused}
+use Rattle.meaning.specs.Operations.{looked, insertOut, findOut}
+use Rattle.meaning.specs.Calls.{outcome}
 use Rattle.meaning.specs.Rule.{rule}
 use Rattle.meaning.specs.Walk.{keyAt, walk, walkFrom, ends}
 use Rattle.meaning.specs.Sentences.{dimensionsAt, largestAt, baseAt}
 use Rattle.meaning.specs.Book.{standingKeys}
-use Rattle.meaning.specs.Promises.{SharedMeansLeading, ListMeansSentences, WalkIsRule, WalkBounded, WalkEnds, OrderIsLexicographic, OneOutcome}
+use Rattle.meaning.specs.Promises.{ListsStayLists, CallsKeepLists, RefusedAltersNothing, Looks, answersLooked, LookedIsWalk, PresentMeansThatKey, TakesInTurn, TakesEnd, CallsAreBooked, SharedMeansLeading, ListMeansSentences, WalkIsRule, WalkBounded, WalkEnds, WalkByKeysAlone, OrderIsLexicographic, OneOutcome}
 use Rattle.meaning.proofs.Keys.{shared-agreed, lexicographic, coordinates-determine}
+use Rattle.meaning.proofs.Ascending.{asc-rising, rising-equal}
 use Rattle.meaning.proofs.State.{Sound, base-positive, base-above}
-use Rattle.meaning.proofs.Reading.{list-is-picture, list-sound, read-of-picture}
-use Rattle.meaning.proofs.Walk.{walk-is-rule, walk-bounded, walk-ends, walk-more}
+use Rattle.meaning.proofs.Reading.{list-sound, picture-is-list, read-of-picture}
+use Rattle.meaning.proofs.Outcomes.{on-lists, refused-alters-nothing, insert-outcome-bad-key, insert-outcome-live, insert-outcome-dead, insert-outcome-full, insert-outcome-new, find-outcome-bad-key, find-outcome-absent, find-outcome-dead, find-outcome-live}
+use Rattle.meaning.proofs.Book.{calls-keep-lists, lists-stay-lists, calls-are-booked, takes-in-turn, takes-end}
+use Rattle.meaning.proofs.BookPresent.{present-means-that-key}
+use Rattle.meaning.proofs.Walk.{walk-is-rule, walk-bounded, walk-ends, walk-more, walk-looked}
 use Rattle.meaning.proofs.Converse.{list-just-if}
-
--- What holds of the picture of every state in order holds of every list.
-pub on-lists : (P : List ℕ → Type 0) → ((s : State) → Sound s → P (picture s)) → (ws : List ℕ) → isList ws ≡ true → P ws
-on-lists P f ws e = subst P (list-is-picture ws e) (f (read ws) (list-sound ws e))
 
 -- keys up to K are below b to the power D
 pub list-keys : (ws : List ℕ) → isList ws ≡ true → (0 < baseAt ws) × (largestAt ws < baseAt ws ^ dimensionsAt ws)
@@ -57,6 +66,21 @@ walk-comes-to-its-end =
     → (ends (dimensionsAt ws * baseAt ws) ws k 0 0 ≡ true) × ((fuel : ℕ) → dimensionsAt ws * baseAt ws ≤ fuel → walkFrom fuel ws k 0 0 ≡ walk ws k))
     (λ s v k h l. (walk-ends s v k h l, walk-more s v k h l))
 
+-- the base of a list follows from its dimensions and its largest key
+list-base : (ws : List ℕ) → isList ws ≡ true → baseAt ws ≡ baseOf (dimensionsAt ws) (largestAt ws)
+unfolding picture
+list-base = on-lists (λ ws. baseAt ws ≡ baseOf (dimensionsAt ws) (largestAt ws)) (λ s v. v .base)
+
+pub walk-by-keys-alone : WalkByKeysAlone
+walk-by-keys-alone ws vs e f d l same k h m =
+    let b : baseAt ws ≡ baseAt vs = list-base ws e ∙ (ap₂ baseOf d l ∙ sym (list-base vs f)) in
+    let keys : standingKeys ws ≡ standingKeys vs =
+    rising-equal 0 (standingKeys ws) (standingKeys vs) (asc-rising 0 (read ws .row) (list-sound ws e .ascends)) (asc-rising 0 (read vs .row) (list-sound vs f .ascends)) same in
+    walk-and-rule ws e k h m
+    ∙ (ap (λ t. rule t (dimensionsAt ws) (standingKeys ws) k) b
+    ∙ (ap (λ t. rule (baseAt vs) t (standingKeys ws) k) d
+    ∙ (ap (λ t. rule (baseAt vs) (dimensionsAt vs) t k) keys ∙ sym (walk-and-rule vs f k h (subst (λ t. k ≤ t) l m)))))
+
 pub order-is-lexicographic : OrderIsLexicographic
 order-is-lexicographic ws e x y hx hy =
     let k = list-keys ws e in
@@ -65,3 +89,105 @@ order-is-lexicographic ws e x y hx hy =
 
 pub one-outcome : OneOutcome
 one-outcome call before r s ws vs m n = (m .answered ∙ sym (n .answered), m .words ∙ sym (n .words))
+
+-- The counts of insert and find, where they answer looked.
+
+in-range-or-not : (key most : ℕ) → ((1 ≤ key) × (key ≤ most)) ⊎ (1 ≤ key → most < key)
+in-range-or-not key most = go (decLe 1 key) (decLe key most)
+  where
+    go : Dec (1 ≤ key) → Dec (key ≤ most) → ((1 ≤ key) × (key ≤ most)) ⊎ (1 ≤ key → most < key)
+    go (yes h) (yes k) = inl (h, k)
+    go (yes h) (no n) = inr (λ z. lt-of-not-le n)
+    go (no n) d = inr (λ h. absurd (n h))
+
+-- an outcome on a list that answers looked has a key in range, and answers looked
+pub record Counts (s : State) (key : ℕ) (o : Outcome) : Type 0 where
+  pub least : 1 ≤ key
+  pub most : key ≤ s .settings .largest
+  pub count : o .answered .count ≡ looked s key
+
+counted-by : (s : State) (key : ℕ) (o p : Outcome) → 1 ≤ key → key ≤ s .settings .largest → o ≡ p → p .answered .count ≡ looked s key → Counts s key o
+counted-by s key o p h l e c = record { least = h; most = l; count = ap (λ (t : Outcome). t .answered .count) e ∙ c }
+
+-- a key out of range answers no looked
+not-looked : (s : State) (key : ℕ) (o : Outcome) → o ≡ refused badKey (picture s) → answersLooked (o .answered .refusal) ≡ true → Counts s key o
+not-looked s key o e l = absurd (let z : true ≡ false = sym l ∙ ap (λ (t : Outcome). answersLooked (t .answered .refusal)) e in true≢false z)
+
+insert-counts : (s : State) → Sound s → (key value : ℕ) → answersLooked (insertOut (picture s) key value .answered .refusal) ≡ true → Counts s key (insertOut (picture s) key value)
+insert-counts s v key value e = go (in-range-or-not key (s .settings .largest))
+  where
+    new : 1 ≤ key → key ≤ s .settings .largest → entryAt key (s .row) ≡ none → (n : ℕ) → length (s .free) ≡ n → Counts s key (insertOut (picture s) key value)
+    new h l a zero f = counted-by s key (insertOut (picture s) key value) _ h l (insert-outcome-full s v key value h l a f) refl
+    new h l a (suc n) f = counted-by s key (insertOut (picture s) key value) _ h l (insert-outcome-new s v key value h l a (omega (arith, f))) refl
+
+    old : 1 ≤ key → key ≤ s .settings .largest → (x : Entry) → entryAt key (s .row) ≡ some x → (t : Bool) → x .live ≡ t → Counts s key (insertOut (picture s) key value)
+    old h l x a true q = counted-by s key (insertOut (picture s) key value) _ h l (insert-outcome-live s v key value h l x a q) refl
+    old h l x a false q = counted-by s key (insertOut (picture s) key value) _ h l (insert-outcome-dead s v key value h l x a q) refl
+
+    found : 1 ≤ key → key ≤ s .settings .largest → (o : Option Entry) → entryAt key (s .row) ≡ o → Counts s key (insertOut (picture s) key value)
+    found h l none a = new h l a (length (s .free)) refl
+    found h l (some x) a = old h l x a (x .live) refl
+
+    go : ((1 ≤ key) × (key ≤ s .settings .largest)) ⊎ (1 ≤ key → s .settings .largest < key) → Counts s key (insertOut (picture s) key value)
+    go (inl k) = found (k .0) (k .1) (entryAt key (s .row)) refl
+    go (inr n) = not-looked s key (insertOut (picture s) key value) (insert-outcome-bad-key s v key value n) e
+
+find-counts : (s : State) → Sound s → (key : ℕ) → answersLooked (findOut (picture s) key .answered .refusal) ≡ true → Counts s key (findOut (picture s) key)
+find-counts s v key e = go (in-range-or-not key (s .settings .largest))
+  where
+    old : 1 ≤ key → key ≤ s .settings .largest → (x : Entry) → entryAt key (s .row) ≡ some x → (t : Bool) → x .live ≡ t → Counts s key (findOut (picture s) key)
+    old h l x a true q = counted-by s key (findOut (picture s) key) _ h l (find-outcome-live s v key h l x a q) refl
+    old h l x a false q = counted-by s key (findOut (picture s) key) _ h l (find-outcome-dead s v key h l x a q) refl
+
+    found : 1 ≤ key → key ≤ s .settings .largest → (o : Option Entry) → entryAt key (s .row) ≡ o → Counts s key (findOut (picture s) key)
+    found h l none a = counted-by s key (findOut (picture s) key) _ h l (find-outcome-absent s v key h l a) refl
+    found h l (some x) a = old h l x a (x .live) refl
+
+    go : ((1 ≤ key) × (key ≤ s .settings .largest)) ⊎ (1 ≤ key → s .settings .largest < key) → Counts s key (findOut (picture s) key)
+    go (inl k) = found (k .0) (k .1) (entryAt key (s .row)) refl
+    go (inr n) = not-looked s key (findOut (picture s) key) (find-outcome-bad-key s v key n) e
+
+-- .. which is the walk's number of cells, and the rule's
+looks : (s : State) (v : Sound s) (key : ℕ) (o : Outcome) → Counts s key o → Looks (picture s) key (o .answered .count)
+unfolding picture
+looks s v key o c =
+    let n = walk-looked s v key (c .least) (c .most) in
+    record {
+      walked = c .count ∙ sym n;
+      ruled = walk-and-rule (picture s) (picture-is-list s v) key (c .least) (c .most);
+      bounded = subst (λ (t : ℕ). t ≤ s .settings .dimensions * (s .settings .base - 1)) (n ∙ sym (c .count)) (walk-bounded s v key (c .least) (c .most));
+    }
+
+pub looked-is-walk : LookedIsWalk
+unfolding outcome
+looked-is-walk ws fresh =
+    on-lists
+    (λ ws. (key value : ℕ)
+    → (answersLooked (insertOut ws key value .answered .refusal) ≡ true → Looks ws key (insertOut ws key value .answered .count))
+    × (answersLooked (findOut ws key .answered .refusal) ≡ true → Looks ws key (findOut ws key .answered .count)))
+    (λ s v key value. (λ e. looks s v key (insertOut (picture s) key value) (insert-counts s v key value e), λ e. looks s v key (findOut (picture s) key) (find-counts s v key e)))
+    ws
+    (lists-stay-lists ws fresh)
+
+-- The promises that stand with the laws they rest on.
+
+pub kept-lists : ListsStayLists
+kept-lists = lists-stay-lists
+
+pub kept-by-each-call : CallsKeepLists
+kept-by-each-call = calls-keep-lists
+
+pub unaltered-when-refused : RefusedAltersNothing
+unaltered-when-refused = refused-alters-nothing
+
+pub present-by-that-key : PresentMeansThatKey
+present-by-that-key = present-means-that-key
+
+pub taken-in-turn : TakesInTurn
+taken-in-turn = takes-in-turn
+
+pub taken-to-the-end : TakesEnd
+taken-to-the-end = takes-end
+
+pub booked-like-a-map : CallsAreBooked
+booked-like-a-map = calls-are-booked

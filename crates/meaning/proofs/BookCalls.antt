@@ -1,0 +1,363 @@
+-- What each call does to a state in order: the words after it are the picture of a state in order of the same length, and that state's
+-- live pairs and standing keys are those that an ordered map would have.
+use mathlib.Core.Path.{_≡_, refl, sym, _∙_, ap, ap₂, subst}
+use mathlib.Core.Bool.{Bool, true, false, cond, _&&_}
+use mathlib.Core.List.{List, [], _∷_, _++_, map}
+use mathlib.Core.Option.{Option, none, some}
+use Prim.Native.Nat.{ℕ, suc, _+_, _≤_, _<_}
+use native.Mathlib.Decide.{ℕ-discrete, decLe}
+use native.Mathlib.Omega.{arith}
+use lib.Dec.{eqb, leb}
+use lib.ListN.{length, drop, length-map}
+use borrow.Author.Tests.{eq-eqb, ne-eqb, lt-ltb, le-ltb, le-leb, lt-leb}
+use Rattle.settings.specs.Numbers.{inRange, lengthOf}
+use Rattle.meaning.specs.Row.{Entry, those, entryAt}
+use Rattle.meaning.specs.State.{State}
+use Rattle.meaning.specs.Picture.{picture}
+use Rattle.meaning.specs.Operations.{fresh, paid, finished, withRow, revivedEntry, revived, Slot, newEntry, slotFor, slotOwes, added, deadFront, fromLive, deadEntry, taken, swept}
+use Rattle.meaning.specs.Calls.{Call, set-up, insert-key, find-key, finish-key, take-least, sweep-dead, outcome}
+use Rattle.meaning.specs.Book.{Pair, pair, Book, hasKey, putPair, putKey, inserted, keptFrom, booked}
+use Rattle.meaning.proofs.Order.{Asc}
+use Rattle.meaning.proofs.State.{Sound}
+use Rattle.meaning.proofs.Cells.{free-length}
+use Rattle.meaning.proofs.Picture.{picture-length}
+use Rattle.meaning.proofs.Places.{asc-smaller, asc-larger, onCell, onCell-cases, keys-changed, asc-changed}
+use Rattle.meaning.proofs.Keeps.{deadFront-dead, live-split}
+use Rattle.meaning.proofs.KeepsSetUp.{fresh-sound}
+use Rattle.meaning.proofs.KeepsFinish.{paid-keeping, finished-sound}
+use Rattle.meaning.proofs.KeepsTake.{dead-keeping, taken-sound}
+use Rattle.meaning.proofs.KeepsSweep.{keptBy, paid-all-keeping, swept-sound}
+use Rattle.meaning.proofs.KeepsInsert.{entry-split, revived-keeping, revived-sound, added-sound}
+use Rattle.meaning.proofs.Outcomes.{set-up-outcome-out-of-range, set-up-outcome-wrong-length, set-up-outcome, insert-outcome-bad-key, insert-outcome-live, insert-outcome-dead, insert-outcome-full, insert-outcome-new, find-writes-nothing, finish-outcome-bad-key, finish-outcome-absent, finish-outcome-standing, take-outcome-none, take-outcome-first, sweep-outcome}
+use Rattle.meaning.proofs.BookRow.{pairsIn, keysIn, pairs-dead, pairs-past, pairs-after, pairs-changed, pairs-put, isThere, isLive, key-stands, key-lives, entry-key, changed-alone, pairs-empty, pairs-first, kept-keys, kept-pairs, absent-changed, put-pairs, put-keys}
+
+-- the largest key, the cells, the live pairs and the standing keys of a state
+abbrev pub bookIn : State → Book
+bookIn s = record { largest = s .settings .largest; cells = s .settings .cells; pairs = pairsIn (s .row); standing = keysIn (s .row) }
+
+pub record Booking (call : Call) (s : State) : Type 0 where
+  pub after : State
+  pub sound : Sound after
+  pub words : outcome call (picture s) .words ≡ picture after
+  pub long : length (picture after) ≡ length (picture s)
+  pub book : bookIn after ≡ booked call (length (picture s)) (bookIn s)
+
+-- a call that writes nothing
+still : (call : Call) (s : State) → Sound s → outcome call (picture s) .words ≡ picture s → booked call (length (picture s)) (bookIn s) ≡ bookIn s → Booking call s
+still call s v words book = record { after = s; sound = v; words = words; long = refl; book = sym book }
+
+-- the book of a state with the settings of another one
+book-is : (s t : State) (pairs : List Pair) (keys : List ℕ) → t .settings ≡ s .settings → pairsIn (t .row) ≡ pairs → keysIn (t .row) ≡ keys →
+    bookIn t ≡ record { largest = s .settings .largest; cells = s .settings .cells; pairs = pairs; standing = keys }
+book-is s t pairs keys same p k = λ i. record { largest = same i .largest; cells = same i .cells; pairs = p i; standing = k i }
+
+-- a call that keeps the settings keeps the length
+same-length : (s t : State) → t .settings ≡ s .settings → length (picture t) ≡ length (picture s)
+same-length s t e = picture-length t ∙ ap (λ n. lengthOf (n .dimensions) (n .cells)) e ∙ sym (picture-length s)
+
+-- Set up
+
+pub set-up-booked : (D K C : ℕ) (s : State) → Sound s → Booking (set-up D K C) s
+unfolding outcome booked fresh those
+set-up-booked D K C s v = at (inRange D K C) refl (ℕ-discrete (length (picture s)) (lengthOf D C))
+  where
+    long : ℕ
+    long = length (picture s)
+
+    new : Book
+    new = record { largest = K; cells = C; pairs = []; standing = [] }
+
+    at : (t : Bool) → inRange D K C ≡ t → Dec (long ≡ lengthOf D C) → Booking (set-up D K C) s
+    at false e l =
+        still (set-up D K C) s v (ap (λ o. o .words) (set-up-outcome-out-of-range D K C (picture s) e))
+        (ap (λ t. cond (t && eqb long (lengthOf D C)) new (bookIn s)) e)
+    at true e (no l) =
+        still (set-up D K C) s v (ap (λ o. o .words) (set-up-outcome-wrong-length D K C (picture s) e l))
+        (ap₂ (λ t u. cond (t && u) new (bookIn s)) e (ne-eqb long (lengthOf D C) l))
+    at true e (yes l) =
+        record {
+          after = fresh D K C;
+          sound = fresh-sound D K C e;
+          words = ap (λ o. o .words) (set-up-outcome D K C (picture s) e l);
+          long = picture-length (fresh D K C) ∙ sym l;
+          book = sym (ap₂ (λ t u. cond (t && u) new (bookIn s)) e (eq-eqb long (lengthOf D C) l));
+        }
+
+-- Insert
+
+-- a book with a pair put in, and with one more key
+abbrev withPair : ℕ → ℕ → Book → List ℕ → Book
+withPair key value k keys = record { largest = k .largest; cells = k .cells; pairs = putPair (record { key = key; value = value }) (k .pairs); standing = keys }
+
+inserted-live : (key value : ℕ) (k : Book) → hasKey key (map (λ p. p .key) (k .pairs)) ≡ true → inserted key value k ≡ k
+unfolding inserted
+inserted-live key value k e = rw e refl
+
+inserted-dead : (key value : ℕ) (k : Book) → hasKey key (map (λ p. p .key) (k .pairs)) ≡ false → hasKey key (k .standing) ≡ true →
+    inserted key value k ≡ withPair key value k (k .standing)
+unfolding inserted
+inserted-dead key value k e f = rw (e, f) refl
+
+inserted-full : (key value : ℕ) (k : Book) → hasKey key (map (λ p. p .key) (k .pairs)) ≡ false → hasKey key (k .standing) ≡ false →
+    k .cells ≤ suc (length (k .standing)) → inserted key value k ≡ k
+unfolding inserted
+inserted-full key value k e f h = rw (e, f, le-ltb (suc (length (k .standing))) (k .cells) h) refl
+
+inserted-new : (key value : ℕ) (k : Book) → hasKey key (map (λ p. p .key) (k .pairs)) ≡ false → hasKey key (k .standing) ≡ false →
+    suc (length (k .standing)) < k .cells → inserted key value k ≡ withPair key value k (putKey key (k .standing))
+unfolding inserted
+inserted-new key value k e f h = rw (e, f, lt-ltb (suc (length (k .standing))) (k .cells) h) refl
+
+-- a key in range is tried, another one is not
+booked-tried : (key value long : ℕ) (k : Book) → 1 ≤ key → key ≤ k .largest → booked (insert-key key value) long k ≡ inserted key value k
+unfolding booked
+booked-tried key value long k l h = rw (le-leb 1 key l, le-leb key (k .largest) h) refl
+
+booked-untried : (key value long : ℕ) (k : Book) → (1 ≤ key → k .largest < key) → booked (insert-key key value) long k ≡ k
+unfolding booked
+booked-untried key value long k f = at (decLe 1 key)
+  where
+    at : Dec (1 ≤ key) → cond (leb 1 key && leb key (k .largest)) (inserted key value k) k ≡ k
+    at (yes l) = rw (le-leb 1 key l, lt-leb key (k .largest) (f l)) refl
+    at (no l) = let below : key < 1 = omega arith in rw (lt-leb 1 key below) refl
+
+-- the standing keys leave as many cells as are free
+room : (s : State) → Sound s → suc (length (keysIn (s .row)) + length (s .free)) ≡ s .settings .cells
+room s v =
+    let e = free-length s v in
+    let n = length-map (s .row) (λ x. x .key) in
+    let least = v .cells-least in
+    omega arith
+
+-- finishing changes no pair and no key
+pub finished-pairs : (c : ℕ) (row : List Entry) → pairsIn (finished c row) ≡ pairsIn row
+unfolding finished
+finished-pairs c row =
+    pairs-changed (onCell c paid) (λ x. onCell-cases (λ y. pair y ≡ pair x) c paid x (λ here. refl) (λ other. refl))
+    (λ x. onCell-cases (λ y. y .live ≡ x .live) c paid x (λ here. refl) (λ other. refl)) row
+
+pub finished-keys : (c : ℕ) (row : List Entry) → keysIn (finished c row) ≡ keysIn row
+unfolding finished
+finished-keys c row = keys-changed (onCell c paid) (paid-keeping c) row
+
+-- a dead key revived is a pair more
+pub revived-pairs : (s : State) → Sound s → (key value : ℕ) (x : Entry) → entryAt key (s .row) ≡ some x → x .live ≡ false →
+    pairsIn (revived s x value .row) ≡ putPair (record { key = key; value = value }) (pairsIn (s .row))
+unfolding revived
+revived-pairs s v key value x e dead =
+    let (front, later, split) = entry-split key x (s .row) e in
+    let up : Asc 0 (front ++ (x ∷ later)) = subst (Asc 0) split (v .ascends) in
+    ap pairsIn (changed-alone s v front x later split (revivedEntry value))
+    ∙ pairs-put front (revivedEntry value x) later (asc-smaller 0 front x later up) (asc-larger 0 front x later up) refl
+    ∙ ap₂ (λ k pairs. putPair (record { key = k; value = value }) pairs) (entry-key key x (s .row) e)
+    (sym (pairs-after front (x ∷ later) later (pairs-dead x later dead)) ∙ ap pairsIn (sym split))
+
+pub revived-keys : (s : State) → Sound s → (key value : ℕ) (x : Entry) → entryAt key (s .row) ≡ some x → keysIn (revived s x value .row) ≡ keysIn (s .row)
+unfolding revived
+revived-keys s v key value x e =
+    let (front, later, split) = entry-split key x (s .row) e in
+    keys-changed (onCell (x .cell) (revivedEntry value)) (revived-keeping s x value v front later split) (s .row)
+
+-- a new key is a pair and a key more, in whatever slot
+module _ (s : State) (v : Sound s) (key value : ℕ) (t : Slot) (absent : entryAt key (s .row) ≡ none) where
+  finishedRow : List Entry
+  finishedRow = finished (t .c) (finished (t .parent) (s .row))
+
+  finishedRow-ascends : Asc 0 finishedRow
+  unfolding finishedRow finished
+  finishedRow-ascends =
+      asc-changed (onCell (t .c) paid) (paid-keeping (t .c)) 0 (finished (t .parent) (s .row))
+      (asc-changed (onCell (t .parent) paid) (paid-keeping (t .parent)) 0 (s .row) (v .ascends))
+
+  finishedRow-absent : entryAt key finishedRow ≡ none
+  unfolding finishedRow finished
+  finishedRow-absent =
+      absent-changed (onCell (t .c) paid) (paid-keeping (t .c)) key (finished (t .parent) (s .row))
+      (absent-changed (onCell (t .parent) paid) (paid-keeping (t .parent)) key (s .row) absent)
+
+  pub added-pairs : pairsIn (added s key value t .row) ≡ putPair (record { key = key; value = value }) (pairsIn (s .row))
+  unfolding added finishedRow
+  added-pairs =
+      put-pairs (newEntry (t .n) key value (slotOwes t)) finishedRow finishedRow-ascends finishedRow-absent refl
+      ∙ ap (putPair (record { key = key; value = value })) (finished-pairs (t .c) (finished (t .parent) (s .row)) ∙ finished-pairs (t .parent) (s .row))
+
+  pub added-keys : keysIn (added s key value t .row) ≡ putKey key (keysIn (s .row))
+  unfolding added finishedRow
+  added-keys =
+      put-keys (newEntry (t .n) key value (slotOwes t)) finishedRow finishedRow-ascends finishedRow-absent
+      ∙ ap (putKey key) (finished-keys (t .c) (finished (t .parent) (s .row)) ∙ finished-keys (t .parent) (s .row))
+
+module _ (s : State) (v : Sound s) (key value : ℕ) (l : 1 ≤ key) (h : key ≤ s .settings .largest) where
+  tried : booked (insert-key key value) (length (picture s)) (bookIn s) ≡ inserted key value (bookIn s)
+  tried = booked-tried key value (length (picture s)) (bookIn s) l h
+
+  lives : (o : Option Entry) → entryAt key (s .row) ≡ o → hasKey key (map (λ p. p .key) (pairsIn (s .row))) ≡ isLive o
+  lives o e = key-lives 0 key (s .row) (v .ascends) ∙ ap isLive e
+
+  stands : (o : Option Entry) → entryAt key (s .row) ≡ o → hasKey key (keysIn (s .row)) ≡ isThere o
+  stands o e = key-stands key (s .row) ∙ ap isThere e
+
+  insert-live-booked : (x : Entry) → entryAt key (s .row) ≡ some x → x .live ≡ true → Booking (insert-key key value) s
+  unfolding outcome
+  insert-live-booked x e live =
+      still (insert-key key value) s v (ap (λ o. o .words) (insert-outcome-live s v key value l h x e live))
+      (tried ∙ inserted-live key value (bookIn s) (lives (some x) e ∙ live))
+
+  insert-dead-booked : (x : Entry) → entryAt key (s .row) ≡ some x → x .live ≡ false → Booking (insert-key key value) s
+  unfolding outcome revived
+  insert-dead-booked x e dead =
+      record {
+        after = revived s x value;
+        sound = revived-sound s x value v (subst (λ k. entryAt k (s .row) ≡ some x) (sym (entry-key key x (s .row) e)) e) dead;
+        words = ap (λ o. o .words) (insert-outcome-dead s v key value l h x e dead);
+        long = same-length s (revived s x value) refl;
+        book =
+            book-is s (revived s x value) (putPair (record { key = key; value = value }) (pairsIn (s .row))) (keysIn (s .row))
+            refl (revived-pairs s v key value x e dead) (revived-keys s v key value x e)
+            ∙ sym (tried ∙ inserted-dead key value (bookIn s) (lives (some x) e ∙ dead) (stands (some x) e));
+      }
+
+  insert-full-booked : entryAt key (s .row) ≡ none → length (s .free) ≡ 0 → Booking (insert-key key value) s
+  unfolding outcome
+  insert-full-booked e full =
+      still (insert-key key value) s v (ap (λ o. o .words) (insert-outcome-full s v key value l h e full))
+      (tried ∙ inserted-full key value (bookIn s) (lives none e) (stands none e) (let n = room s v in omega arith))
+
+  insert-new-booked : entryAt key (s .row) ≡ none → 0 < length (s .free) → Booking (insert-key key value) s
+  unfolding outcome added
+  insert-new-booked e space =
+      let t = slotFor s key in
+      record {
+        after = added s key value t;
+        sound = added-sound s key value v l h e space;
+        words = ap (λ o. o .words) (insert-outcome-new s v key value l h e space);
+        long = same-length s (added s key value t) refl;
+        book =
+            book-is s (added s key value t) (putPair (record { key = key; value = value }) (pairsIn (s .row))) (putKey key (keysIn (s .row)))
+            refl (added-pairs s v key value t e) (added-keys s v key value t e)
+            ∙ sym (tried ∙ inserted-new key value (bookIn s) (lives none e) (stands none e) (let n = room s v in omega arith));
+      }
+
+pub insert-booked : (key value : ℕ) (s : State) → Sound s → Booking (insert-key key value) s
+unfolding outcome
+insert-booked key value s v = at (decLe 1 key) (decLe key (s .settings .largest))
+  where
+    bad : (1 ≤ key → s .settings .largest < key) → Booking (insert-key key value) s
+    bad f = still (insert-key key value) s v (ap (λ o. o .words) (insert-outcome-bad-key s v key value f)) (booked-untried key value (length (picture s)) (bookIn s) f)
+
+    good : (l : 1 ≤ key) (h : key ≤ s .settings .largest) (o : Option Entry) → entryAt key (s .row) ≡ o → Booking (insert-key key value) s
+    good l h none e = at (ℕ-discrete (length (s .free)) 0)
+      where
+        at : Dec (length (s .free) ≡ 0) → Booking (insert-key key value) s
+        at (yes full) = insert-full-booked s v key value l h e full
+        at (no ne) = insert-new-booked s v key value l h e (omega arith)
+    good l h (some x) e = at (x .live) refl
+      where
+        at : (t : Bool) → x .live ≡ t → Booking (insert-key key value) s
+        at true live = insert-live-booked s v key value l h x e live
+        at false dead = insert-dead-booked s v key value l h x e dead
+
+    at : Dec (1 ≤ key) → Dec (key ≤ s .settings .largest) → Booking (insert-key key value) s
+    at (yes l) (yes h) = good l h (entryAt key (s .row)) refl
+    at (yes l) (no h) = bad (λ m. omega arith)
+    at (no l) h = bad (λ m. absurd (l m))
+
+-- Find
+
+pub find-booked : (key : ℕ) (s : State) → Sound s → Booking (find-key key) s
+unfolding outcome booked
+find-booked key s v = still (find-key key) s v (find-writes-nothing (picture s) key) refl
+
+-- Finish
+
+pub finish-booked : (key : ℕ) (s : State) → Sound s → Booking (finish-key key) s
+unfolding outcome booked
+finish-booked key s v = at (decLe 1 key) (decLe key (s .settings .largest))
+  where
+    bad : (1 ≤ key → s .settings .largest < key) → Booking (finish-key key) s
+    bad f = still (finish-key key) s v (ap (λ o. o .words) (finish-outcome-bad-key s v key f)) refl
+
+    good : (l : 1 ≤ key) (h : key ≤ s .settings .largest) (o : Option Entry) → entryAt key (s .row) ≡ o → Booking (finish-key key) s
+    good l h none e = still (finish-key key) s v (ap (λ o. o .words) (finish-outcome-absent s v key l h e)) refl
+    good l h (some x) e =
+        let t = withRow s (finished (x .cell) (s .row)) in
+        record {
+          after = t;
+          sound = finished-sound s (x .cell) v;
+          words = ap (λ o. o .words) (finish-outcome-standing s v key l h x e);
+          long = same-length s t refl;
+          book = book-is s t (pairsIn (s .row)) (keysIn (s .row)) refl (finished-pairs (x .cell) (s .row)) (finished-keys (x .cell) (s .row));
+        }
+
+    at : Dec (1 ≤ key) → Dec (key ≤ s .settings .largest) → Booking (finish-key key) s
+    at (yes l) (yes h) = good l h (entryAt key (s .row)) refl
+    at (yes l) (no h) = bad (λ m. omega arith)
+    at (no l) h = bad (λ m. absurd (l m))
+
+-- Take
+
+-- the pair of the first live entry is gone, the keys are the same
+pub taken-pairs : (s : State) → Sound s → (x : Entry) (later : List Entry) → fromLive (s .row) ≡ x ∷ later → pairsIn (taken s x .row) ≡ pairsIn later
+unfolding taken
+taken-pairs s v x later e =
+    ap pairsIn (changed-alone s v (deadFront (s .row)) x later (live-split (s .row) x later e) deadEntry)
+    ∙ pairs-past (deadFront (s .row)) (deadEntry x ∷ later) (deadFront-dead (s .row))
+    ∙ pairs-dead (deadEntry x) later refl
+
+pub taken-keys : (s : State) (x : Entry) → keysIn (taken s x .row) ≡ keysIn (s .row)
+unfolding taken
+taken-keys s x = keys-changed (onCell (x .cell) deadEntry) (dead-keeping (x .cell)) (s .row)
+
+pub take-booked : (s : State) → Sound s → Booking take-least s
+unfolding outcome booked taken
+take-booked s v = at (fromLive (s .row)) refl
+  where
+    gone : List Pair → Book
+    gone pairs = record { largest = s .settings .largest; cells = s .settings .cells; pairs = drop 1 pairs; standing = keysIn (s .row) }
+
+    at : (rest : List Entry) → fromLive (s .row) ≡ rest → Booking take-least s
+    at [] e =
+        let none = pairs-empty (s .row) e in
+        still take-least s v (ap (λ o. o .words) (take-outcome-none s v e))
+        (ap gone none ∙ sym (book-is s s [] (keysIn (s .row)) refl none refl))
+    at (x ∷ later) e =
+        record {
+          after = taken s x;
+          sound = taken-sound s x later v e;
+          words = ap (λ o. o .words) (take-outcome-first s v x later e);
+          long = same-length s (taken s x) refl;
+          book =
+              book-is s (taken s x) (pairsIn later) (keysIn (s .row)) refl (taken-pairs s v x later e) (taken-keys s x)
+              ∙ sym (ap gone (pairs-first (s .row) x later e));
+        }
+
+-- Sweep
+
+pub swept-pairs : (s : State) → pairsIn (swept s .row) ≡ pairsIn (s .row)
+unfolding swept
+swept-pairs s = pairs-changed paid (λ x. refl) (λ x. refl) (keptBy (s .row)) ∙ kept-pairs (s .row)
+
+pub swept-keys : (s : State) → Sound s → keysIn (swept s .row) ≡ keptFrom (pairsIn (s .row)) (keysIn (s .row))
+unfolding swept
+swept-keys s v = keys-changed paid paid-all-keeping (keptBy (s .row)) ∙ sym (kept-keys (s .row) (v .ascends))
+
+pub sweep-booked : (s : State) → Sound s → Booking sweep-dead s
+unfolding outcome booked swept
+sweep-booked s v =
+    record {
+      after = swept s;
+      sound = swept-sound s v;
+      words = ap (λ o. o .words) (sweep-outcome s v);
+      long = same-length s (swept s) refl;
+      book = book-is s (swept s) (pairsIn (s .row)) (keptFrom (pairsIn (s .row)) (keysIn (s .row))) refl (swept-pairs s) (swept-keys s v);
+    }
+
+-- Every call
+
+pub call-booked : (call : Call) (s : State) → Sound s → Booking call s
+call-booked (set-up D K C) s v = set-up-booked D K C s v
+call-booked (insert-key key value) s v = insert-booked key value s v
+call-booked (find-key key) s v = find-booked key s v
+call-booked (finish-key key) s v = finish-booked key s v
+call-booked take-least s v = take-booked s v
+call-booked sweep-dead s v = sweep-booked s v

@@ -1,0 +1,401 @@
+-- The outcome of each operation on the picture of a state in order, case by case. The picture is a list and reads as its state, so the
+-- tests of an operation are those of the state. Refusal 9 never comes up: the owed cell of a cell that owes is the next standing one,
+-- whose mark is not 0; every other cell has the owed word 0. And, by going through each operation on any words, a refused call alters
+-- nothing.
+use mathlib.Core.Path.{_≡_, refl, ap, _∙_, subst}
+use mathlib.Core.Bool.{Bool, true, false, cond, _&&_, _||_, not}
+use mathlib.Core.List.{List, [], _∷_}
+use mathlib.Core.Option.{Option, none, some}
+use Prim.Native.Nat.{ℕ, zero, suc, _+_, _*_, _≤_, _<_}
+use native.Mathlib.Nat.{mul-le-mul-right}
+use native.Mathlib.Decide.{decLe, decLt}
+use native.Mathlib.Omega.{arith}
+use lib.Dec.{eqb, leb}
+use lib.ListN.{length, getD, getD-replicate, List·getD-eq-default}
+use borrow.Author.Tests.{eq-eqb, ne-eqb, le-leb, lt-leb}
+use Rattle.settings.specs.Numbers.{inRange, lengthOf, headerWords, cellWords}
+use Rattle.meaning.specs.Keys.{shared}
+use Rattle.meaning.specs.Row.{Entry, headEntry, firstOf, Place, placesAfter, places, owed, placeOf, entryAt}
+use Rattle.meaning.specs.State.{State, positionKey}
+use Rattle.meaning.specs.Picture.{mark, standingWords, freeWords, wordsOf, picture}
+use Rattle.meaning.specs.Reading.{read, isList}
+use Rattle.meaning.specs.Refusals.{Outcome, accepted, Refusal, outOfRange, wrongLength, notAList, badKey, keyLive, noFreeCell, nothingLive, keyNotLive, keyNotStanding, owedNotStanding, refused}
+use Rattle.meaning.specs.Walk.{markAt, owedAt}
+use Rattle.meaning.specs.Operations.{onList, onKey, owesFromFree, placesOf, looked, fresh, setUpOut, finished, withRow, due, finishAt, finishOut, findAt, findOut, revived, slotFor, added, insertNew, insertAt, insertOut, fromLive, keysAbove, keysPassed, taken, takeFrom, takeOut, freedBy, swept, someOwesFromFree, sweepOn, sweepOut}
+use Rattle.meaning.specs.Calls.{set-up, insert-key, find-key, finish-key, take-least, sweep-dead, outcome}
+use Rattle.meaning.specs.Promises.{RefusedAltersNothing}
+use Rattle.meaning.proofs.Order.{All, all-map}
+use Rattle.meaning.proofs.State.{Sound}
+use Rattle.meaning.proofs.Cells.{all-zip, row-range}
+use Rattle.meaning.proofs.Picture.{picture-length, picture-dimensions, picture-word, Told, told, first-has, later-has, place-found}
+use Rattle.meaning.proofs.Reading.{mark-stands, read-of-picture, picture-is-list, list-is-picture, list-sound}
+use Rattle.meaning.proofs.WalkRead.{all-places}
+
+-- What holds of each state in order and its picture holds of each list and the state that it holds.
+pub on-read-lists : (P : State → List ℕ → Type 0) → ((s : State) → Sound s → P s (picture s)) → (ws : List ℕ) → isList ws ≡ true → P (read ws) ws
+on-read-lists P f ws e = subst (P (read ws)) (list-is-picture ws e) (f (read ws) (list-sound ws e))
+
+pub on-lists : (P : List ℕ → Type 0) → ((s : State) → Sound s → P (picture s)) → (ws : List ℕ) → isList ws ≡ true → P ws
+on-lists P f ws e = on-read-lists (λ s. P) f ws e
+
+-- The words of a cell that the debt test reads
+
+-- what holds of the entry of each place holds of each entry of the row
+pub row-of-places : (P : Entry → Type 0) (b D : ℕ) (a : Entry) (e : ℕ) (row : List Entry) → All (λ p. P (p .entry)) (placesAfter b D a e row) → All P row
+unfolding placesAfter
+row-of-places P b D a e [] h = tt
+row-of-places P b D a e (x ∷ row) h = (h .0, row-of-places P b D x (shared b D (a .key) (x .key)) row (h .1))
+
+-- the mark of a standing cell, as its picture shows it
+pub standing-mark : (s : State) (p : Place) → p .entry .cell < s .settings .cells →
+    placeOf (p .entry .cell) (places (s .settings .base) (s .settings .dimensions) (s .row)) ≡ some p →
+    markAt (picture s) (p .entry .cell) ≡ mark (p .entry .live)
+unfolding wordsOf standingWords
+standing-mark s p h found =
+    picture-word s (p .entry .cell) 2 h (omega arith)
+    ∙ ap (λ o. getD (wordsOf (s .settings .base) (s .settings .dimensions) (s .free) (p .entry .cell) o) 2 0) found
+
+pub places-mark : (s : State) → Sound s → All (λ p. markAt (picture s) (p .entry .cell) ≡ mark (p .entry .live)) (places (s .settings .base) (s .settings .dimensions) (s .row))
+places-mark s v =
+    let b = s .settings .base in
+    let D = s .settings .dimensions in
+    all-zip (standing-mark s) (places b D (s .row))
+    (all-places (λ x. x .cell < s .settings .cells) b D (s .row) (let h = v .cells-least in omega arith) (all-map (λ x h. h .1) (s .row) (row-range s v)))
+    (place-found s v)
+
+pub row-mark : (s : State) → Sound s → All (λ x. markAt (picture s) (x .cell) ≡ mark (x .live)) (s .row)
+unfolding places
+row-mark s v = row-of-places (λ x. markAt (picture s) (x .cell) ≡ mark (x .live)) (s .settings .base) (s .settings .dimensions) headEntry 0 (s .row) (places-mark s v .1)
+
+-- a debt test fails if the owed word is 0 or names a cell whose mark is not 0
+debt-clear : (ws : List ℕ) (x o : ℕ) → owedAt ws x ≡ o → (0 < o → eqb (markAt ws o) 0 ≡ false) → owesFromFree ws x ≡ false
+unfolding owesFromFree
+debt-clear ws x o e f = ap (λ n. not (eqb n 0) && eqb (markAt ws n) 0) e ∙ at o f
+  where
+    at : (n : ℕ) → (0 < n → eqb (markAt ws n) 0 ≡ false) → (not (eqb n 0) && eqb (markAt ws n) 0) ≡ false
+    at zero g = refl
+    at (suc n) g = rw (g (omega arith), ne-eqb (suc n) 0 (λ q. omega arith)) refl
+
+owed-marked : (ws : List ℕ) (owes : Bool) (y : Entry) → (owes ≡ true → markAt ws (y .cell) ≡ mark (y .live)) →
+    0 < cond owes (y .cell) 0 → eqb (markAt ws (cond owes (y .cell) 0)) 0 ≡ false
+owed-marked ws true y f h = ap (λ n. eqb n 0) (f refl) ∙ mark-stands (y .live)
+owed-marked ws false y f h = absurd (omega arith)
+
+-- what a standing cell owes from stands
+pub places-owed : (s : State) → Sound s → All (λ p. 0 < owed p → eqb (markAt (picture s) (owed p)) 0 ≡ false) (places (s .settings .base) (s .settings .dimensions) (s .row))
+unfolding places
+places-owed s v =
+    let b = s .settings .base in
+    let D = s .settings .dimensions in
+    let marked : All (λ x. markAt (picture s) (x .cell) ≡ mark (x .live)) (s .row) = row-mark s v in
+    all-zip (λ p debt later.
+    owed-marked (picture s) (p .entry .owes) (firstOf (p .later)) (λ o. first-has (λ x. markAt (picture s) (x .cell) ≡ mark (x .live)) (p .later) later (debt o .later)))
+    (places b D (s .row)) (v .debts) (marked, later-has (λ x. markAt (picture s) (x .cell) ≡ mark (x .live)) b D headEntry 0 (s .row) marked)
+
+-- "a cell owed from is not standing": of no cell of the picture of a state in order
+pub owed-stands : (s : State) → Sound s → (x : ℕ) → x < s .settings .cells → owesFromFree (picture s) x ≡ false
+unfolding wordsOf freeWords standingWords
+owed-stands s v x h =
+    at (placeOf x (places b D (s .row))) (picture-word s x 3 h (omega arith))
+    (told (λ p. 0 < owed p → eqb (markAt (picture s) (owed p)) 0 ≡ false) x (places b D (s .row)) (places-owed s v))
+  where
+    b : ℕ
+    b = s .settings .base
+
+    D : ℕ
+    D = s .settings .dimensions
+
+    at : (o : Option Place) → owedAt (picture s) x ≡ getD (wordsOf b D (s .free) x o) 3 0 →
+        Told (λ p. 0 < owed p → eqb (markAt (picture s) (owed p)) 0 ≡ false) x o → owesFromFree (picture s) x ≡ false
+    at none word t =
+        let enough : 2 < 5 + 2 * D = omega arith in
+        debt-clear (picture s) x 0 (word ∙ getD-replicate {A = ℕ} (5 + 2 * D) 2 0 0 enough) (λ q. absurd (omega arith))
+    at (some p) word t = debt-clear (picture s) x (owed p) word (t .1)
+
+-- .. nor of a number that is no cell's
+pub owed-beyond : (s : State) (x : ℕ) → s .settings .cells ≤ x → owesFromFree (picture s) x ≡ false
+owed-beyond s x h =
+    let D = s .settings .dimensions in
+    let beyond = mul-le-mul-right (cellWords D) h in
+    let outside : length (picture s) ≤ headerWords + D + x * cellWords D + 3 = omega (arith, picture-length s) in
+    debt-clear (picture s) x 0
+    (ap (λ n. getD (picture s) (headerWords + n + x * cellWords n + 3) 0) (picture-dimensions s) ∙ List·getD-eq-default (picture s) 0 outside)
+    (λ q. absurd (omega arith))
+
+pub owed-never-free : (s : State) → Sound s → (x : ℕ) → owesFromFree (picture s) x ≡ false
+owed-never-free s v x = at (decLt x (s .settings .cells))
+  where
+    at : Dec (x < s .settings .cells) → owesFromFree (picture s) x ≡ false
+    at (yes h) = owed-stands s v x h
+    at (no h) = owed-beyond s x (omega arith)
+
+pub row-owed-never-free : (s : State) → Sound s → (row : List Entry) → someOwesFromFree (picture s) row ≡ false
+unfolding someOwesFromFree
+row-owed-never-free s v [] = refl
+row-owed-never-free s v (x ∷ row) = rw (owed-never-free s v (x .cell), row-owed-never-free s v row) refl
+
+-- Every operation but set up
+
+pub not-on-list : (ws : List ℕ) (act : State → Outcome) → isList ws ≡ false → onList ws act ≡ refused notAList ws
+unfolding onList
+not-on-list ws act e = rw (e, onList) refl
+
+pub on-picture : (s : State) → Sound s → (act : State → Outcome) → onList (picture s) act ≡ act s
+unfolding onList
+on-picture s v act = rw (picture-is-list s v, onList) (ap act (read-of-picture s v))
+
+on-good-key : (ws : List ℕ) (s : State) (key : ℕ) (done : Outcome) → 1 ≤ key → key ≤ s .settings .largest → onKey ws s key done ≡ done
+unfolding onKey
+on-good-key ws s key done l h = rw (le-leb 1 key l, le-leb key (s .settings .largest) h) refl
+
+on-bad-key : (ws : List ℕ) (s : State) (key : ℕ) (done : Outcome) → (1 ≤ key → s .settings .largest < key) → onKey ws s key done ≡ refused badKey ws
+unfolding onKey
+on-bad-key ws s key done f = at (decLe 1 key)
+  where
+    at : Dec (1 ≤ key) → cond (leb 1 key && leb key (s .settings .largest)) done (refused badKey ws) ≡ refused badKey ws
+    at (yes l) = rw (le-leb 1 key l, lt-leb key (s .settings .largest) (f l)) refl
+    at (no l) = let none : key < 1 = omega arith in rw (lt-leb 1 key none) refl
+
+on-picture-key : (s : State) → Sound s → (key : ℕ) (act : State → Outcome) → 1 ≤ key → key ≤ s .settings .largest →
+    onList (picture s) (λ t. onKey (picture s) t key (act t)) ≡ act s
+on-picture-key s v key act l h = on-picture s v (λ t. onKey (picture s) t key (act t)) ∙ on-good-key (picture s) s key (act s) l h
+
+on-picture-bad-key : (s : State) → Sound s → (key : ℕ) (act : State → Outcome) → (1 ≤ key → s .settings .largest < key) →
+    onList (picture s) (λ t. onKey (picture s) t key (act t)) ≡ refused badKey (picture s)
+on-picture-bad-key s v key act f = on-picture s v (λ t. onKey (picture s) t key (act t)) ∙ on-bad-key (picture s) s key (act s) f
+
+-- Set up
+
+pub set-up-outcome-out-of-range : (D K C : ℕ) (ws : List ℕ) → inRange D K C ≡ false → setUpOut D K C ws ≡ refused outOfRange ws
+unfolding setUpOut
+set-up-outcome-out-of-range D K C ws e = rw (e, setUpOut) refl
+
+pub set-up-outcome-wrong-length : (D K C : ℕ) (ws : List ℕ) → inRange D K C ≡ true → (length ws ≡ lengthOf D C → ⊥) → setUpOut D K C ws ≡ refused wrongLength ws
+unfolding setUpOut
+set-up-outcome-wrong-length D K C ws e ne = rw (e, setUpOut, ne-eqb (length ws) (lengthOf D C) ne, setUpOut) refl
+
+pub set-up-outcome : (D K C : ℕ) (ws : List ℕ) → inRange D K C ≡ true → length ws ≡ lengthOf D C → setUpOut D K C ws ≡ accepted 0 0 0 (picture (fresh D K C))
+unfolding setUpOut
+set-up-outcome D K C ws e l = rw (e, setUpOut, eq-eqb (length ws) (lengthOf D C) l, setUpOut) refl
+
+-- Insert
+
+pub insert-outcome-not-a-list : (ws : List ℕ) (key value : ℕ) → isList ws ≡ false → insertOut ws key value ≡ refused notAList ws
+unfolding insertOut
+insert-outcome-not-a-list ws key value e = not-on-list ws (λ s. onKey ws s key (insertAt ws s key value (entryAt key (s .row)))) e
+
+pub insert-outcome-bad-key : (s : State) → Sound s → (key value : ℕ) → (1 ≤ key → s .settings .largest < key) → insertOut (picture s) key value ≡ refused badKey (picture s)
+unfolding insertOut
+insert-outcome-bad-key s v key value f = on-picture-bad-key s v key (λ t. insertAt (picture s) t key value (entryAt key (t .row))) f
+
+insert-outcome : (s : State) → Sound s → (key value : ℕ) → 1 ≤ key → key ≤ s .settings .largest →
+    insertOut (picture s) key value ≡ insertAt (picture s) s key value (entryAt key (s .row))
+unfolding insertOut
+insert-outcome s v key value l h = on-picture-key s v key (λ t. insertAt (picture s) t key value (entryAt key (t .row))) l h
+
+pub insert-outcome-live : (s : State) → Sound s → (key value : ℕ) → 1 ≤ key → key ≤ s .settings .largest →
+    (x : Entry) → entryAt key (s .row) ≡ some x → x .live ≡ true → insertOut (picture s) key value ≡ refused (keyLive key (looked s key)) (picture s)
+unfolding insertAt
+insert-outcome-live s v key value l h x e live =
+    insert-outcome s v key value l h ∙ ap (insertAt (picture s) s key value) e
+    ∙ ap (λ t. cond t (refused (keyLive key (looked s key)) (picture s)) (accepted key 0 (looked s key) (picture (revived s x value)))) live
+
+pub insert-outcome-dead : (s : State) → Sound s → (key value : ℕ) → 1 ≤ key → key ≤ s .settings .largest →
+    (x : Entry) → entryAt key (s .row) ≡ some x → x .live ≡ false → insertOut (picture s) key value ≡ accepted key 0 (looked s key) (picture (revived s x value))
+unfolding insertAt
+insert-outcome-dead s v key value l h x e dead =
+    insert-outcome s v key value l h ∙ ap (insertAt (picture s) s key value) e
+    ∙ ap (λ t. cond t (refused (keyLive key (looked s key)) (picture s)) (accepted key 0 (looked s key) (picture (revived s x value)))) dead
+
+pub insert-outcome-full : (s : State) → Sound s → (key value : ℕ) → 1 ≤ key → key ≤ s .settings .largest →
+    entryAt key (s .row) ≡ none → length (s .free) ≡ 0 → insertOut (picture s) key value ≡ refused (noFreeCell key (looked s key)) (picture s)
+unfolding insertAt insertNew
+insert-outcome-full s v key value l h e full =
+    insert-outcome s v key value l h ∙ ap (insertAt (picture s) s key value) e ∙ rw (eq-eqb (length (s .free)) 0 full) refl
+
+pub insert-outcome-new : (s : State) → Sound s → (key value : ℕ) → 1 ≤ key → key ≤ s .settings .largest →
+    entryAt key (s .row) ≡ none → 0 < length (s .free) → insertOut (picture s) key value ≡ accepted key 0 (looked s key) (picture (added s key value (slotFor s key)))
+unfolding insertAt insertNew
+insert-outcome-new s v key value l h e room =
+    insert-outcome s v key value l h ∙ ap (insertAt (picture s) s key value) e
+    ∙ rw (ne-eqb (length (s .free)) 0 (λ q. omega arith), owed-never-free s v (slotFor s key .parent), owed-never-free s v (slotFor s key .c)) refl
+
+-- Find
+
+pub find-outcome-not-a-list : (ws : List ℕ) (key : ℕ) → isList ws ≡ false → findOut ws key ≡ refused notAList ws
+unfolding findOut
+find-outcome-not-a-list ws key e = not-on-list ws (λ s. onKey ws s key (findAt ws s key (entryAt key (s .row)))) e
+
+pub find-outcome-bad-key : (s : State) → Sound s → (key : ℕ) → (1 ≤ key → s .settings .largest < key) → findOut (picture s) key ≡ refused badKey (picture s)
+unfolding findOut
+find-outcome-bad-key s v key f = on-picture-bad-key s v key (λ t. findAt (picture s) t key (entryAt key (t .row))) f
+
+find-outcome : (s : State) → Sound s → (key : ℕ) → 1 ≤ key → key ≤ s .settings .largest → findOut (picture s) key ≡ findAt (picture s) s key (entryAt key (s .row))
+unfolding findOut
+find-outcome s v key l h = on-picture-key s v key (λ t. findAt (picture s) t key (entryAt key (t .row))) l h
+
+pub find-outcome-absent : (s : State) → Sound s → (key : ℕ) → 1 ≤ key → key ≤ s .settings .largest →
+    entryAt key (s .row) ≡ none → findOut (picture s) key ≡ refused (keyNotLive key (looked s key)) (picture s)
+unfolding findAt
+find-outcome-absent s v key l h e = find-outcome s v key l h ∙ ap (findAt (picture s) s key) e
+
+pub find-outcome-dead : (s : State) → Sound s → (key : ℕ) → 1 ≤ key → key ≤ s .settings .largest →
+    (x : Entry) → entryAt key (s .row) ≡ some x → x .live ≡ false → findOut (picture s) key ≡ refused (keyNotLive key (looked s key)) (picture s)
+unfolding findAt
+find-outcome-dead s v key l h x e dead =
+    find-outcome s v key l h ∙ ap (findAt (picture s) s key) e
+    ∙ ap (λ t. cond t (accepted key (x .value) (looked s key) (picture s)) (refused (keyNotLive key (looked s key)) (picture s))) dead
+
+pub find-outcome-live : (s : State) → Sound s → (key : ℕ) → 1 ≤ key → key ≤ s .settings .largest →
+    (x : Entry) → entryAt key (s .row) ≡ some x → x .live ≡ true → findOut (picture s) key ≡ accepted key (x .value) (looked s key) (picture s)
+unfolding findAt
+find-outcome-live s v key l h x e live =
+    find-outcome s v key l h ∙ ap (findAt (picture s) s key) e
+    ∙ ap (λ t. cond t (accepted key (x .value) (looked s key) (picture s)) (refused (keyNotLive key (looked s key)) (picture s))) live
+
+-- Finish
+
+pub finish-outcome-not-a-list : (ws : List ℕ) (key : ℕ) → isList ws ≡ false → finishOut ws key ≡ refused notAList ws
+unfolding finishOut
+finish-outcome-not-a-list ws key e = not-on-list ws (λ s. onKey ws s key (finishAt ws s key (entryAt key (s .row)))) e
+
+pub finish-outcome-bad-key : (s : State) → Sound s → (key : ℕ) → (1 ≤ key → s .settings .largest < key) → finishOut (picture s) key ≡ refused badKey (picture s)
+unfolding finishOut
+finish-outcome-bad-key s v key f = on-picture-bad-key s v key (λ t. finishAt (picture s) t key (entryAt key (t .row))) f
+
+finish-outcome : (s : State) → Sound s → (key : ℕ) → 1 ≤ key → key ≤ s .settings .largest → finishOut (picture s) key ≡ finishAt (picture s) s key (entryAt key (s .row))
+unfolding finishOut
+finish-outcome s v key l h = on-picture-key s v key (λ t. finishAt (picture s) t key (entryAt key (t .row))) l h
+
+pub finish-outcome-absent : (s : State) → Sound s → (key : ℕ) → 1 ≤ key → key ≤ s .settings .largest →
+    entryAt key (s .row) ≡ none → finishOut (picture s) key ≡ refused (keyNotStanding key) (picture s)
+unfolding finishAt
+finish-outcome-absent s v key l h e = finish-outcome s v key l h ∙ ap (finishAt (picture s) s key) e
+
+pub finish-outcome-standing : (s : State) → Sound s → (key : ℕ) → 1 ≤ key → key ≤ s .settings .largest →
+    (x : Entry) → entryAt key (s .row) ≡ some x →
+    finishOut (picture s) key ≡ accepted key 0 (due s (placeOf (x .cell) (placesOf s (s .row)))) (picture (withRow s (finished (x .cell) (s .row))))
+unfolding finishAt
+finish-outcome-standing s v key l h x e =
+    finish-outcome s v key l h ∙ ap (finishAt (picture s) s key) e ∙ rw (owed-never-free s v (x .cell)) refl
+
+-- Take
+
+pub take-outcome-not-a-list : (ws : List ℕ) → isList ws ≡ false → takeOut ws ≡ refused notAList ws
+unfolding takeOut
+take-outcome-not-a-list ws e = not-on-list ws (λ s. takeFrom ws s (fromLive (s .row))) e
+
+take-outcome : (s : State) → Sound s → takeOut (picture s) ≡ takeFrom (picture s) s (fromLive (s .row))
+unfolding takeOut
+take-outcome s v = on-picture s v (λ t. takeFrom (picture s) t (fromLive (t .row)))
+
+pub take-outcome-none : (s : State) → Sound s → fromLive (s .row) ≡ [] → takeOut (picture s) ≡ refused (nothingLive (keysAbove (positionKey s) (s .row))) (picture s)
+unfolding takeFrom
+take-outcome-none s v e = take-outcome s v ∙ ap (takeFrom (picture s) s) e
+
+pub take-outcome-first : (s : State) → Sound s → (x : Entry) (later : List Entry) → fromLive (s .row) ≡ x ∷ later →
+    takeOut (picture s) ≡ accepted (x .key) (x .value) (keysPassed (positionKey s) (x .key) (s .row)) (picture (taken s x))
+unfolding takeFrom
+take-outcome-first s v x later e = take-outcome s v ∙ ap (takeFrom (picture s) s) e
+
+-- Sweep
+
+pub sweep-outcome-not-a-list : (ws : List ℕ) → isList ws ≡ false → sweepOut ws ≡ refused notAList ws
+unfolding sweepOut
+sweep-outcome-not-a-list ws e = not-on-list ws (sweepOn ws) e
+
+pub sweep-outcome : (s : State) → Sound s → sweepOut (picture s) ≡ accepted 0 0 (length (freedBy (s .row))) (picture (swept s))
+unfolding sweepOut sweepOn
+sweep-outcome s v = on-picture s v (sweepOn (picture s)) ∙ rw (row-owed-never-free s v (s .row)) refl
+
+-- What holds of each end of an operation, on any words, holds of its outcome
+
+cond-has : (P : Outcome → Type 0) (t : Bool) (done other : Outcome) → P done → P other → P (cond t done other)
+cond-has P true done other p q = p
+cond-has P false done other p q = q
+
+onList-has : (P : Outcome → Type 0) (ws : List ℕ) (act : State → Outcome) → P (refused notAList ws) → ((s : State) → P (act s)) → P (onList ws act)
+unfolding onList
+onList-has P ws act p q = at (isList ws)
+  where
+    at : (t : Bool) → P (elim t [ true ↦ act (read ws) | false ↦ refused notAList ws ])
+    at true = q (read ws)
+    at false = p
+
+onKey-has : (P : Outcome → Type 0) (ws : List ℕ) (s : State) (key : ℕ) (done : Outcome) → P (refused badKey ws) → P done → P (onKey ws s key done)
+unfolding onKey
+onKey-has P ws s key done p q = cond-has P (leb 1 key && leb key (s .settings .largest)) done (refused badKey ws) q p
+
+-- P holds of every refusal of the words, and of what each operation accepts
+module _ (P : Outcome → Type 0) (ws : List ℕ) (turned : (r : Refusal) → P (refused r ws)) where
+  set-up-has : (D K C : ℕ) → P (accepted 0 0 0 (picture (fresh D K C))) → P (setUpOut D K C ws)
+  unfolding setUpOut
+  set-up-has D K C done = at (inRange D K C) (eqb (length ws) (lengthOf D C))
+    where
+      at : (t u : Bool) → P (elim t [
+        | true ↦ elim u [ true ↦ accepted 0 0 0 (picture (fresh D K C)) | false ↦ refused wrongLength ws ]
+        | false ↦ refused outOfRange ws
+      ])
+      at true true = done
+      at true false = turned wrongLength
+      at false u = turned outOfRange
+
+  keyed-has : (key : ℕ) (act : State → Outcome) → ((s : State) → P (act s)) → P (onList ws (λ s. onKey ws s key (act s)))
+  keyed-has key act done = onList-has P ws (λ s. onKey ws s key (act s)) (turned notAList) (λ s. onKey-has P ws s key (act s) (turned badKey) (done s))
+
+  insert-has : (key value : ℕ) → ((count : ℕ) (s : State) → P (accepted key 0 count (picture s))) → P (insertOut ws key value)
+  unfolding insertOut insertAt insertNew
+  insert-has key value done = keyed-has key (λ s. insertAt ws s key value (entryAt key (s .row))) (λ s. at s (entryAt key (s .row)))
+    where
+      at : (s : State) (o : Option Entry) → P (insertAt ws s key value o)
+      at s none =
+          let t = slotFor s key in
+          cond-has P (eqb (length (s .free)) 0) _ _ (turned (noFreeCell key (looked s key)))
+          (cond-has P (owesFromFree ws (t .parent) || owesFromFree ws (t .c)) _ _ (turned owedNotStanding) (done (looked s key) (added s key value t)))
+      at s (some x) = cond-has P (x .live) _ _ (turned (keyLive key (looked s key))) (done (looked s key) (revived s x value))
+
+  find-has : (key : ℕ) → ((value count : ℕ) → P (accepted key value count ws)) → P (findOut ws key)
+  unfolding findOut findAt
+  find-has key done = keyed-has key (λ s. findAt ws s key (entryAt key (s .row))) (λ s. at s (entryAt key (s .row)))
+    where
+      at : (s : State) (o : Option Entry) → P (findAt ws s key o)
+      at s none = turned (keyNotLive key (looked s key))
+      at s (some x) = cond-has P (x .live) _ _ (done (x .value) (looked s key)) (turned (keyNotLive key (looked s key)))
+
+  finish-has : (key : ℕ) → ((count : ℕ) (s : State) → P (accepted key 0 count (picture s))) → P (finishOut ws key)
+  unfolding finishOut finishAt
+  finish-has key done = keyed-has key (λ s. finishAt ws s key (entryAt key (s .row))) (λ s. at s (entryAt key (s .row)))
+    where
+      at : (s : State) (o : Option Entry) → P (finishAt ws s key o)
+      at s none = turned (keyNotStanding key)
+      at s (some x) = cond-has P (owesFromFree ws (x .cell)) _ _ (turned owedNotStanding) (done (due s (placeOf (x .cell) (placesOf s (s .row)))) (withRow s (finished (x .cell) (s .row))))
+
+  take-has : ((key value count : ℕ) (s : State) → P (accepted key value count (picture s))) → P (takeOut ws)
+  unfolding takeOut takeFrom
+  take-has done = onList-has P ws (λ s. takeFrom ws s (fromLive (s .row))) (turned notAList) (λ s. at s (fromLive (s .row)))
+    where
+      at : (s : State) (row : List Entry) → P (takeFrom ws s row)
+      at s [] = turned (nothingLive (keysAbove (positionKey s) (s .row)))
+      at s (x ∷ later) = done (x .key) (x .value) (keysPassed (positionKey s) (x .key) (s .row)) (taken s x)
+
+  sweep-has : ((count : ℕ) (s : State) → P (accepted 0 0 count (picture s))) → P (sweepOut ws)
+  unfolding sweepOut sweepOn
+  sweep-has done = onList-has P ws (sweepOn ws) (turned notAList) (λ s. cond-has P (someOwesFromFree ws (s .row)) _ _ (turned owedNotStanding) (done (length (freedBy (s .row))) (swept s)))
+
+-- A refused call alters nothing
+
+abbrev Kept : List ℕ → Outcome → Type 0
+Kept ws o = (o .answered .refusal ≡ 0 → ⊥) → o .words ≡ ws
+
+pub refused-alters-nothing : RefusedAltersNothing
+unfolding outcome
+refused-alters-nothing (set-up D K C) ws = set-up-has (Kept ws) ws (λ r ne. refl) D K C (λ ne. absurd (ne refl))
+refused-alters-nothing (insert-key key value) ws = insert-has (Kept ws) ws (λ r ne. refl) key value (λ count s ne. absurd (ne refl))
+refused-alters-nothing (find-key key) ws = find-has (Kept ws) ws (λ r ne. refl) key (λ value count ne. refl)
+refused-alters-nothing (finish-key key) ws = finish-has (Kept ws) ws (λ r ne. refl) key (λ count s ne. absurd (ne refl))
+refused-alters-nothing take-least ws = take-has (Kept ws) ws (λ r ne. refl) (λ key value count s ne. absurd (ne refl))
+refused-alters-nothing sweep-dead ws = sweep-has (Kept ws) ws (λ r ne. refl) (λ count s ne. absurd (ne refl))
+
+-- "writes nothing"
+pub find-writes-nothing : (ws : List ℕ) (key : ℕ) → findOut ws key .words ≡ ws
+find-writes-nothing ws key = find-has (λ o. o .words ≡ ws) ws (λ r. refl) key (λ value count. refl)
