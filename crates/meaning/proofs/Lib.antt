@@ -1,6 +1,7 @@
 -- The laws of the definitions in specs/, each file beside the definition of the same name.
 pub mod Computing
 pub mod Fourteen
+pub mod AgainstSlips
 pub mod Order
 pub mod Keys
 pub mod State
@@ -23,6 +24,10 @@ pub mod KeepsSweep
 pub mod Parent
 pub mod Slot
 pub mod KeepsInsert
+pub mod Stores
+pub mod Changed
+pub mod FinishWords
+pub mod TakeWords
 pub mod SentencesNumbers
 pub mod SentencesRow
 pub mod SentencesCells
