@@ -28,6 +28,11 @@ pub mod Stores
 pub mod Changed
 pub mod FinishWords
 pub mod TakeWords
+pub mod PathWithin
+pub mod Path
+pub mod PathNext
+pub mod PathTake
+pub mod PathWalk
 pub mod SentencesNumbers
 pub mod SentencesRow
 pub mod SentencesCells

@@ -8,6 +8,7 @@ pub mod Refusals
 pub mod Operations
 pub mod Rule
 pub mod Walk
+pub mod Paths
 pub mod Calls
 pub mod Fourteen
 pub mod Sentences
