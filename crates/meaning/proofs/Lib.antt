@@ -51,4 +51,5 @@ pub mod BookRow
 pub mod BookCalls
 pub mod Book
 pub mod BookPresent
+pub mod Serves
 pub mod Promises

@@ -4,10 +4,11 @@
 -- nothing.
 use mathlib.Core.Path.{_≡_, refl, ap, _∙_, subst}
 use mathlib.Core.Bool.{Bool, true, false, cond, _&&_, _||_, not}
+use mathlib.Core.Logic.{_⊎_, inl, inr}
 use mathlib.Core.List.{List, [], _∷_}
 use mathlib.Core.Option.{Option, none, some}
 use Prim.Native.Nat.{ℕ, zero, suc, _+_, _*_, _≤_, _<_}
-use native.Mathlib.Nat.{mul-le-mul-right}
+use native.Mathlib.Nat.{mul-le-mul-right, lt-of-not-le}
 use native.Mathlib.Decide.{decLe, decLt}
 use native.Mathlib.Omega.{arith}
 use lib.Dec.{eqb, leb}
@@ -399,3 +400,12 @@ refused-alters-nothing sweep-dead ws = sweep-has (Kept ws) ws (λ r ne. refl) (�
 -- "writes nothing"
 pub find-writes-nothing : (ws : List ℕ) (key : ℕ) → findOut ws key .words ≡ ws
 find-writes-nothing ws key = find-has (λ o. o .words ≡ ws) ws (λ r. refl) key (λ value count. refl)
+
+-- a key is in range or not
+pub in-range-or-not : (key most : ℕ) → ((1 ≤ key) × (key ≤ most)) ⊎ (1 ≤ key → most < key)
+in-range-or-not key most = go (decLe 1 key) (decLe key most)
+  where
+    go : Dec (1 ≤ key) → Dec (key ≤ most) → ((1 ≤ key) × (key ≤ most)) ⊎ (1 ≤ key → most < key)
+    go (yes h) (yes k) = inl (h, k)
+    go (yes h) (no n) = inr (λ z. lt-of-not-le n)
+    go (no n) d = inr (λ h. absurd (n h))

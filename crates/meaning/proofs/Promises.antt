@@ -5,8 +5,6 @@ use mathlib.Core.Logic.{_⊎_, inl, inr}
 use mathlib.Core.Option.{Option, none, some}
 use mathlib.Core.List.{List, map}
 use Prim.Native.Nat.{ℕ, zero, suc, _*_, _-_, _^_, _≤_, _<_}
-use native.Mathlib.Decide.{decLe}
-use native.Mathlib.Nat.{lt-of-not-le}
 use native.Mathlib.Omega.{arith}
 use lib.ListN.{length}
 use Rattle.settings.specs.Numbers.{baseOf}
@@ -21,13 +19,14 @@ use Rattle.meaning.specs.Rule.{rule}
 use Rattle.meaning.specs.Walk.{keyAt, walk, walkFrom, ends}
 use Rattle.meaning.specs.Sentences.{dimensionsAt, largestAt, baseAt}
 use Rattle.meaning.specs.Book.{standingKeys}
-use Rattle.meaning.specs.Promises.{ListsStayLists, CallsKeepLists, RefusedAltersNothing, Looks, answersLooked, LookedIsWalk, PresentMeansThatKey, TakesInTurn, TakesEnd, CallsAreBooked, SharedMeansLeading, ListMeansSentences, WalkIsRule, WalkBounded, WalkEnds, WalkByKeysAlone, OrderIsLexicographic, OneOutcome}
+use Rattle.meaning.specs.Promises.{ListsStayLists, CallsKeepLists, RefusedAltersNothing, Looks, answersLooked, LookedIsWalk, PresentMeansThatKey, TakesInTurn, TakesEnd, CallsAreBooked, EachCellOnce, SweptCellsFirst, InsertUsesFirst, SharedMeansLeading, ListMeansSentences, WalkIsRule, WalkBounded, WalkEnds, WalkByKeysAlone, OrderIsLexicographic, OneOutcome}
 use Rattle.meaning.proofs.Keys.{shared-agreed, lexicographic, coordinates-determine}
 use Rattle.meaning.proofs.Ascending.{asc-rising, rising-equal}
 use Rattle.meaning.proofs.State.{Sound, base-positive, base-above}
 use Rattle.meaning.proofs.Reading.{list-sound, picture-is-list, read-of-picture}
-use Rattle.meaning.proofs.Outcomes.{on-lists, refused-alters-nothing, insert-outcome-bad-key, insert-outcome-live, insert-outcome-dead, insert-outcome-full, insert-outcome-new, find-outcome-bad-key, find-outcome-absent, find-outcome-dead, find-outcome-live}
+use Rattle.meaning.proofs.Outcomes.{on-lists, in-range-or-not, refused-alters-nothing, insert-outcome-bad-key, insert-outcome-live, insert-outcome-dead, insert-outcome-full, insert-outcome-new, find-outcome-bad-key, find-outcome-absent, find-outcome-dead, find-outcome-live}
 use Rattle.meaning.proofs.Book.{calls-keep-lists, lists-stay-lists, calls-are-booked, takes-in-turn, takes-end}
+use Rattle.meaning.proofs.Serves.{each-cell-once, swept-cells-first, insert-uses-first}
 use Rattle.meaning.proofs.BookPresent.{present-means-that-key}
 use Rattle.meaning.proofs.Walk.{walk-is-rule, walk-bounded, walk-ends, walk-more, walk-looked}
 use Rattle.meaning.proofs.Converse.{list-just-if}
@@ -91,14 +90,6 @@ pub one-outcome : OneOutcome
 one-outcome call before r s ws vs m n = (m .answered ∙ sym (n .answered), m .words ∙ sym (n .words))
 
 -- The counts of insert and find, where they answer looked.
-
-in-range-or-not : (key most : ℕ) → ((1 ≤ key) × (key ≤ most)) ⊎ (1 ≤ key → most < key)
-in-range-or-not key most = go (decLe 1 key) (decLe key most)
-  where
-    go : Dec (1 ≤ key) → Dec (key ≤ most) → ((1 ≤ key) × (key ≤ most)) ⊎ (1 ≤ key → most < key)
-    go (yes h) (yes k) = inl (h, k)
-    go (yes h) (no n) = inr (λ z. lt-of-not-le n)
-    go (no n) d = inr (λ h. absurd (n h))
 
 -- an outcome on a list that answers looked has a key in range, and answers looked
 pub record Counts (s : State) (key : ℕ) (o : Outcome) : Type 0 where
@@ -188,6 +179,15 @@ taken-in-turn = takes-in-turn
 
 pub taken-to-the-end : TakesEnd
 taken-to-the-end = takes-end
+
+pub cells-once : EachCellOnce
+cells-once = each-cell-once
+
+pub freed-cells-first : SweptCellsFirst
+freed-cells-first = swept-cells-first
+
+pub first-cell-used : InsertUsesFirst
+first-cell-used = insert-uses-first
 
 pub booked-like-a-map : CallsAreBooked
 booked-like-a-map = calls-are-booked

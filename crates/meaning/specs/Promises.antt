@@ -2,20 +2,23 @@
 -- in range at once.
 use mathlib.Core.Path.{_≡_}
 use mathlib.Core.Bool.{Bool, true, false, _||_}
-use mathlib.Core.List.{List, [], _∷_, map}
+use mathlib.Core.List.{List, [], _∷_, map, reverseAux}
 use mathlib.Core.Logic.{_↔_}
-use Prim.Native.Nat.{ℕ, zero, suc, _*_, _-_, _≤_, _<_}
+use mathlib.Core.Option.{none, some}
+use Prim.Native.Nat.{ℕ, zero, suc, _+_, _*_, _-_, _≤_, _<_}
 use lib.Dec.{eqb}
-use lib.ListN.{length}
+use lib.ListN.{length, drop}
 use Rattle.meaning.specs.declared.Answer.{Answer}
 use Rattle.meaning.specs.Keys.{coordinates, shared}
 use Rattle.meaning.specs.State.{occurrences}
-use Rattle.meaning.specs.Reading.{isList}
+use Rattle.meaning.specs.Row.{Entry, entryAt}
+use Rattle.meaning.specs.Picture.{firstNumber}
+use Rattle.meaning.specs.Reading.{read, isList}
 use Rattle.meaning.specs.Refusals.{Meets}
 use Rattle.meaning.specs.Rule.{rule}
 use Rattle.meaning.specs.Walk.{keyAt, markAt, walk, walkFrom, ends}
-use Rattle.meaning.specs.Operations.{takeOut}
-use Rattle.meaning.specs.Calls.{Call, set-up, insert-key, find-key, outcome, afterCalls}
+use Rattle.meaning.specs.Operations.{takeOut, freedBy}
+use Rattle.meaning.specs.Calls.{Call, set-up, insert-key, find-key, sweep-dead, outcome, afterCalls}
 use Rattle.meaning.specs.Sentences.{agreed, precedes, dimensionsAt, largestAt, countAt, baseAt, AList}
 use Rattle.meaning.specs.Book.{Pair, livePairs, standingKeys, bookOf, bookedAll}
 
@@ -128,6 +131,30 @@ TakesEnd = (ws : List ℕ) → isList ws ≡ true → (takeOut ws .answered .ref
 abbrev pub CallsAreBooked : Type 0
 CallsAreBooked =
     (calls : List Call) (ws : List ℕ) → isList ws ≡ true → bookOf (afterCalls calls ws) ≡ bookedAll calls (length ws) (bookOf ws)
+
+-- 10. A cell freed by a sweep serves again: each cell but the head stands or is free, exactly one of the two, in every list;
+abbrev pub EachCellOnce : Type 0
+EachCellOnce =
+    (ws : List ℕ) → isList ws ≡ true → (x : ℕ) → 0 < x → x < countAt ws
+    → occurrences x (map (λ e. e .cell) (read ws .row)) + occurrences x (read ws .free) ≡ 1
+
+-- .. after a sweep the freed cells are at the front of the chain, greatest key first;
+abbrev pub SweptCellsFirst : Type 0
+SweptCellsFirst =
+    (ws : List ℕ) → isList ws ≡ true
+    → read (outcome sweep-dead ws .words) .free ≡ reverseAux (map (λ e. e .cell) (freedBy (read ws .row))) (read ws .free)
+
+-- .. and an insert of a key that does not stand uses the first cell of the chain.
+pub record UsesFirst (ws after : List ℕ) (key : ℕ) : Type 0 where
+  pub entry : Entry
+  pub stands : entryAt key (read after .row) ≡ some entry
+  pub cell : entry .cell ≡ firstNumber (read ws .free)
+  pub free : read after .free ≡ drop 1 (read ws .free)
+
+abbrev pub InsertUsesFirst : Type 0
+InsertUsesFirst =
+    (ws : List ℕ) → isList ws ≡ true → (key value : ℕ) → entryAt key (read ws .row) ≡ none
+    → outcome (insert-key key value) ws .answered .refusal ≡ 0 → UsesFirst ws (outcome (insert-key key value) ws .words) key
 
 -- 11. Key order is the lexicographic order of the coordinates; a key's coordinates determine it.
 abbrev pub OrderIsLexicographic : Type 0

@@ -1,0 +1,101 @@
+-- A cell freed by a sweep serves again: cells are counted, a sweep puts the freed ones first, and an insert uses the first.
+use mathlib.Core.Path.{_≡_, refl, _∙_, sym, ap, subst}
+use mathlib.Core.Logic.{_⊎_, inl, inr}
+use mathlib.Core.List.{List, _∷_, map, reverseAux}
+use mathlib.Core.Option.{none, some}
+use Prim.Native.Nat.{ℕ, zero, suc, _+_, _≤_, _<_}
+use native.Mathlib.Omega.{arith}
+use lib.ListN.{length, drop}
+use Rattle.meaning.specs.Row.{Entry, entryAt}
+use Rattle.meaning.specs.State.{State, occurrences}
+use Rattle.meaning.specs.Picture.{picture, firstNumber}
+use Rattle.meaning.specs.Reading.{read}
+use Rattle.meaning.specs.Refusals.{Outcome, refused, badKey, noFreeCell}
+use Rattle.meaning.specs.Operations.{sweepOut, insertOut, swept, freedBy, added, slotFor, slotOwes, newEntry, finished, looked}
+use Rattle.meaning.specs.Calls.{outcome}
+use Rattle.meaning.specs.Sentences.{countAt}
+use Rattle.meaning.specs.Promises.{EachCellOnce, SweptCellsFirst, UsesFirst, InsertUsesFirst}
+use Rattle.meaning.proofs.Order.{All, all-map}
+use Rattle.meaning.proofs.State.{Sound, cellsIn}
+use Rattle.meaning.proofs.Cells.{cells-distinct}
+use Rattle.meaning.proofs.Places.{occurrences-append, all-at}
+use Rattle.meaning.proofs.SentencesNumbers.{distinct-covers, occurs-has}
+use Rattle.meaning.proofs.Reading.{read-of-picture}
+use Rattle.meaning.proofs.Ascending.{member-past}
+use Rattle.meaning.proofs.Slot.{gap, slot-is}
+use Rattle.meaning.proofs.KeepsSweep.{swept-sound}
+use Rattle.meaning.proofs.KeepsInsert.{added-sound, added-row}
+use Rattle.meaning.proofs.BookRow.{entry-found}
+use Rattle.meaning.proofs.Outcomes.{on-read-lists, in-range-or-not, sweep-outcome, insert-outcome-bad-key, insert-outcome-full, insert-outcome-new}
+
+cell-once : (s : State) → Sound s → (x : ℕ) → 0 < x → x < s .settings .cells → occurrences x (map (λ e. e .cell) (s .row)) + occurrences x (s .free) ≡ 1
+cell-once s v x h l =
+    let least = v .cells-least in
+    let count = v .count in
+    let cells : List ℕ = 0 ∷ cellsIn s in
+    let range : All (λ c. c < s .settings .cells) cells = (omega arith, all-map (λ c r. r .1) (cellsIn s) (v .range)) in
+    let long : length cells ≡ s .settings .cells = omega arith in
+    let there = member-past x 0 (cellsIn s) (λ e. omega arith) (distinct-covers (s .settings .cells) cells (cells-distinct s v) range long x l) in
+    sym (occurrences-append x (map (λ e. e .cell) (s .row)) (s .free)) ∙ occurs-has (λ c. occurrences c (cellsIn s) ≡ 1) x (cellsIn s) there (v .once)
+
+pub each-cell-once : EachCellOnce
+unfolding picture
+each-cell-once =
+    on-read-lists (λ s ws. (x : ℕ) → 0 < x → x < countAt ws → occurrences x (map (λ e. e .cell) (s .row)) + occurrences x (s .free) ≡ 1) cell-once
+
+pub swept-cells-first : SweptCellsFirst
+unfolding outcome swept
+swept-cells-first =
+    on-read-lists
+    (λ s ws. read (sweepOut ws .words) .free ≡ reverseAux (map (λ e. e .cell) (freedBy (s .row))) (s .free))
+    (λ s v. ap (λ (o : Outcome). read (o .words) .free) (sweep-outcome s v) ∙ ap (λ (t : State). t .free) (read-of-picture (swept s) (swept-sound s v)))
+
+-- the new cell of an insert
+new-uses-first : (s : State) → Sound s → (key value : ℕ) → 1 ≤ key → key ≤ s .settings .largest → entryAt key (s .row) ≡ none → 0 < length (s .free) →
+    (e : Entry) × (entryAt key (added s key value (slotFor s key) .row) ≡ some e) × (e .cell ≡ firstNumber (s .free))
+new-uses-first s v key value h l a f =
+    let g = gap key 0 (s .row) (v .ascends) a in
+    let t = slotFor s key in
+    let i = slot-is s v key h g f in
+    let e = newEntry (t .n) key value (slotOwes t) in
+    let sound = added-sound s key value v h l a f in
+    let found =
+    all-at (λ x. entryAt (x .key) (added s key value t .row) ≡ some x) (finished (t .c) (finished (t .parent) (g .pre))) e (finished (t .c) (finished (t .parent) (g .post)))
+    (subst (All (λ x. entryAt (x .key) (added s key value t .row) ≡ some x)) (added-row s v key value h g f t i) (entry-found 0 (added s key value t .row) (sound .ascends))) in
+    (e, found, i .n-is)
+
+-- an outcome that is a refusal is not accepted
+refused-not : (o p : Outcome) (n : ℕ) → o ≡ p → p .answered .refusal ≡ suc n → o .answered .refusal ≡ 0 → ⊥
+refused-not o p n e q z = let t = ap (λ (w : Outcome). w .answered .refusal) e in omega arith
+
+made-uses-first : (s : State) → Sound s → (key value : ℕ) → 1 ≤ key → key ≤ s .settings .largest → entryAt key (s .row) ≡ none → 0 < length (s .free) → UsesFirst (picture s) (insertOut (picture s) key value .words) key
+unfolding added
+made-uses-first s v key value h l a f =
+    let new = new-uses-first s v key value h l a f in
+    let t = added s key value (slotFor s key) in
+    let back : read (insertOut (picture s) key value .words) ≡ t =
+    ap (λ (o : Outcome). read (o .words)) (insert-outcome-new s v key value h l a f) ∙ read-of-picture t (added-sound s key value v h l a f) in
+    record {
+      entry = new .0;
+      stands = ap (λ (w : State). entryAt key (w .row)) back ∙ new .1;
+      cell = new .2 ∙ ap (λ (w : State). firstNumber (w .free)) (sym (read-of-picture s v));
+      free = ap (λ (w : State). w .free) back ∙ ap (λ (w : State). drop 1 (w .free)) (sym (read-of-picture s v));
+    }
+
+uses-first : (s : State) → Sound s → (key value : ℕ) → entryAt key (s .row) ≡ none → insertOut (picture s) key value .answered .refusal ≡ 0 → UsesFirst (picture s) (insertOut (picture s) key value .words) key
+uses-first s v key value a z = go (in-range-or-not key (s .settings .largest))
+  where
+    room : 1 ≤ key → key ≤ s .settings .largest → (n : ℕ) → length (s .free) ≡ n → UsesFirst (picture s) (insertOut (picture s) key value .words) key
+    room h l zero f = absurd (refused-not (insertOut (picture s) key value) (refused (noFreeCell key (looked s key)) (picture s)) 5 (insert-outcome-full s v key value h l a f) refl z)
+    room h l (suc n) f = made-uses-first s v key value h l a (omega (arith, f))
+
+    go : ((1 ≤ key) × (key ≤ s .settings .largest)) ⊎ (1 ≤ key → s .settings .largest < key) → UsesFirst (picture s) (insertOut (picture s) key value .words) key
+    go (inl k) = room (k .0) (k .1) (length (s .free)) refl
+    go (inr n) = absurd (refused-not (insertOut (picture s) key value) (refused badKey (picture s)) 3 (insert-outcome-bad-key s v key value n) refl z)
+
+pub insert-uses-first : InsertUsesFirst
+unfolding outcome
+insert-uses-first =
+    on-read-lists
+    (λ s ws. (key value : ℕ) → entryAt key (s .row) ≡ none → insertOut ws key value .answered .refusal ≡ 0 → UsesFirst ws (insertOut ws key value .words) key)
+    uses-first
