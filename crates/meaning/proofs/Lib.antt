@@ -28,6 +28,11 @@ pub mod Stores
 pub mod Changed
 pub mod FinishWords
 pub mod TakeWords
+pub mod InsertLinks
+pub mod InsertSlot
+pub mod InsertPut
+pub mod InsertPath
+pub mod InsertWords
 pub mod PathWithin
 pub mod Path
 pub mod PathNext

@@ -1,0 +1,271 @@
+-- What the slot of a key that does not stand says: where its parent stands, whether the new entry owes, which link it has; that
+-- finishing debts does not move it; and that, where neither its parent nor c owes, nothing is owed that the new entry touches.
+use mathlib.Core.Path.{_≡_, refl, sym, _∙_, ap, ap₂, subst}
+use mathlib.Core.Bool.{Bool, true, false, cond, _&&_, not}
+use mathlib.Core.List.{List, [], _∷_, _++_, map}
+use mathlib.Core.Option.{none}
+use Prim.Native.Nat.{ℕ, _≤_, _<_}
+use native.Mathlib.Omega.{arith}
+use native.Mathlib.Decide.{ℕ-discrete, decLe}
+use lib.Dec.{eqb, leb, ltb}
+use lib.ListN.{length, getD, set, drop, replicate, length-set, length-replicate, getD-replicate}
+use lib.Seq.{getD-set-same, getD-set-other}
+use borrow.Author.Tests.{eq-eqb, ne-eqb, le-leb, lt-leb, le-ltb}
+use Rattle.meaning.specs.Keys.{shared}
+use Rattle.meaning.specs.Row.{Entry, headEntry, firstOf, Place, headPlace, places, placeOf}
+use Rattle.meaning.specs.State.{State, occurrences}
+use Rattle.meaning.specs.Picture.{firstNumber, nextFree, picture}
+use Rattle.meaning.specs.Walk.{wordAt}
+use Rattle.meaning.specs.Operations.{withRow, Slot, newEntry, slotOwes}
+use Rattle.meaning.proofs.Order.{All, Asc, all-left, all-right, all-append}
+use Rattle.meaning.proofs.Keys.{shared-less}
+use Rattle.meaning.proofs.State.{Sound, base-positive}
+use Rattle.meaning.proofs.Cells.{occurrences-here, free-range}
+use Rattle.meaning.proofs.Picture.{first-has, free-found}
+use Rattle.meaning.proofs.Places.{all-splits, asc-left, lastFrom, Keeping, firstOf-changed}
+use Rattle.meaning.proofs.Keeps.{cells-positive, cell-stands}
+use Rattle.meaning.proofs.Parent.{dimensionAfter, Without, Apart, all-last, apart-left, first-place}
+use Rattle.meaning.proofs.Slot.{Gap, sound-apart, free-apart, first-free-all, dimensions-positive, slotCell, SlotIs, last-changed, parent-changed}
+use Rattle.meaning.proofs.SentencesCells.{placesIn, Placed, placed-entry, placed-cell, head-placed, occurs-placed, free-cell-first}
+use Rattle.meaning.proofs.KeepsInsert.{slot-first, owing-parent}
+use Rattle.meaning.proofs.InsertLinks.{newOwes, newLink, NextUnowing, Cleared}
+
+-- Finishing debts does not move the slot
+
+module _ (f : Entry → Entry) (k : Keeping f) (b D key : ℕ) where
+  pub dimension-changed : (pre : List Entry) → dimensionAfter b D headEntry (map f pre) key ≡ dimensionAfter b D headEntry pre key
+  dimension-changed pre = ap (λ i. shared b D i key) (ap (λ y. y .key) (last-changed f k pre) ∙ k .key (lastFrom headEntry pre))
+
+  slotCell-changed : (p : ℕ) (post : List Entry) → slotCell b D key p (map f post) ≡ slotCell b D key p post
+  slotCell-changed p [] = refl
+  slotCell-changed p (z ∷ rest) = ap₂ (λ i c. cond (leb p (shared b D key i)) c 0) (k .key z) (k .cell z)
+
+pub slot-changed :
+    (s : State) (f : Entry → Entry) → Keeping f → (key : ℕ) (pre post : List Entry) (t : Slot) → SlotIs s key pre post t →
+    (row : List Entry) → SlotIs (withRow s row) key (map f pre) (map f post) t
+slot-changed s f k key pre post t i row =
+    let b = s .settings .base in
+    let D = s .settings .dimensions in
+    let same = dimension-changed f k b D key pre in
+    record {
+      n-is = i .n-is;
+      p-is = i .p-is ∙ sym same;
+      parent-is = i .parent-is ∙ sym (parent-changed f k b D pre key);
+      c-is = i .c-is ∙ sym (ap (λ p. slotCell b D key p (map f post)) same ∙ slotCell-changed f k b D key (dimensionAfter b D headEntry pre key) post);
+      q-is = λ held. i .q-is held ∙ sym (ap (shared b D key) (ap (λ y. y .key) (firstOf-changed f k post) ∙ k .key (firstOf post)));
+    }
+
+-- The next larger entry by the slot
+
+-- it is c if it shares at least p coordinates with the key; else there is no c
+module _ (b D key p : ℕ) (z : Entry) (rest : List Entry) where
+  slot-held : p ≤ shared b D key (z .key) → slotCell b D key p (z ∷ rest) ≡ z .cell
+  slot-held h = ap (λ t. cond t (z .cell) 0) (le-leb p (shared b D key (z .key)) h)
+
+  slot-empty : shared b D key (z .key) < p → slotCell b D key p (z ∷ rest) ≡ 0
+  slot-empty h = ap (λ t. cond t (z .cell) 0) (lt-leb p (shared b D key (z .key)) h)
+
+-- the links of a new cell, as they are written
+abbrev pub slotLinks : ℕ → Slot → List ℕ
+slotLinks D t = cond (eqb (t .c) 0) (replicate D 0) (set (replicate D 0) (t .q) (t .c))
+
+pub slotLinks-length : (D : ℕ) (t : Slot) → length (slotLinks D t) ≡ D
+slotLinks-length D t = at (eqb (t .c) 0)
+  where
+    at : (r : Bool) → length (cond r (replicate D 0) (set (replicate D 0) (t .q) (t .c))) ≡ D
+    at true = length-replicate {A = ℕ} D 0
+    at false = length-set (replicate D 0) (t .q) (t .c) ∙ length-replicate {A = ℕ} D 0
+
+-- all 0 but link q, which is c, where there is a c
+pub slotLinks-none : (D d : ℕ) (t : Slot) → d < D → t .c ≡ 0 → getD (slotLinks D t) d 0 ≡ 0
+slotLinks-none D d t h e = ap (λ r. getD (cond r (replicate D 0) (set (replicate D 0) (t .q) (t .c))) d 0) (eq-eqb (t .c) 0 e) ∙ getD-replicate {A = ℕ} D d 0 0 h
+
+pub slotLinks-other : (D d : ℕ) (t : Slot) → d < D → (d ≡ t .q → ⊥) → getD (slotLinks D t) d 0 ≡ 0
+slotLinks-other D d t h ne = at (eqb (t .c) 0)
+  where
+    at : (r : Bool) → getD (cond r (replicate D 0) (set (replicate D 0) (t .q) (t .c))) d 0 ≡ 0
+    at true = getD-replicate {A = ℕ} D d 0 0 h
+    at false = getD-set-other (replicate D 0) (t .q) d (t .c) 0 ne ∙ getD-replicate {A = ℕ} D d 0 0 h
+
+pub slotLinks-here : (D d : ℕ) (t : Slot) → d < D → (t .c ≡ 0 → ⊥) → d ≡ t .q → getD (slotLinks D t) d 0 ≡ t .c
+slotLinks-here D d t h held e =
+    ap (λ r. getD (cond r (replicate D 0) (set (replicate D 0) (t .q) (t .c))) d 0) (ne-eqb (t .c) 0 held)
+    ∙ subst (λ j. getD (set (replicate D 0) (t .q) (t .c)) j 0 ≡ t .c) (sym e)
+    (getD-set-same (replicate D 0) (t .q) (t .c) 0 (omega (arith, length-replicate {A = ℕ} D 0)))
+
+module _ (b D key : ℕ) (t : Slot) where
+  owes-at :
+      (post : List Entry) → All (λ z. 0 < z .cell) post → t .c ≡ slotCell b D key (t .p) post → ((t .c ≡ 0 → ⊥) → t .q ≡ shared b D key (firstOf post .key)) →
+      slotOwes t ≡ newOwes b D key (t .p) post
+  owes-at [] stands c q = ap (λ r. not r && ltb (t .p) (t .q)) (eq-eqb (t .c) 0 c)
+  owes-at (z ∷ rest) stands c q = at (decLe (t .p) (shared b D key (z .key)))
+    where
+      at : Dec (t .p ≤ shared b D key (z .key)) → slotOwes t ≡ ltb (t .p) (shared b D key (z .key))
+      at (yes h) =
+          let is = slot-held b D key (t .p) z rest h in
+          let held : t .c ≡ 0 → ⊥ = λ e. let s = stands .0 in omega arith in
+          ap (λ r. not r && ltb (t .p) (t .q)) (ne-eqb (t .c) 0 held) ∙ ap (ltb (t .p)) (q held)
+      at (no h) =
+          let is = slot-empty b D key (t .p) z rest (omega arith) in
+          ap (λ r. not r && ltb (t .p) (t .q)) (eq-eqb (t .c) 0 (c ∙ is)) ∙ sym (le-ltb (t .p) (shared b D key (z .key)) (omega arith))
+
+  link-at :
+      (post : List Entry) → All (λ z. 0 < z .cell) post → t .c ≡ slotCell b D key (t .p) post → ((t .c ≡ 0 → ⊥) → t .q ≡ shared b D key (firstOf post .key)) →
+      (d : ℕ) → d < D → getD (slotLinks D t) d 0 ≡ newLink b D key (t .p) post d
+  link-at [] stands c q d h = slotLinks-none D d t h c
+  link-at (z ∷ rest) stands c q d h = at (decLe (t .p) (shared b D key (z .key))) (ℕ-discrete d (shared b D key (z .key)))
+    where
+      at : Dec (t .p ≤ shared b D key (z .key)) → Dec (d ≡ shared b D key (z .key)) → getD (slotLinks D t) d 0 ≡ cond (leb (t .p) (shared b D key (z .key)) && eqb d (shared b D key (z .key))) (z .cell) 0
+      at (yes l) (yes e) =
+          let is = slot-held b D key (t .p) z rest l in
+          let held : t .c ≡ 0 → ⊥ = λ n. let s = stands .0 in omega arith in
+          rw (le-leb (t .p) (shared b D key (z .key)) l, eq-eqb d (shared b D key (z .key)) e) (slotLinks-here D d t h held (e ∙ sym (q held)) ∙ c ∙ is)
+      at (yes l) (no ne) =
+          let is = slot-held b D key (t .p) z rest l in
+          let held : t .c ≡ 0 → ⊥ = λ n. let s = stands .0 in omega arith in
+          rw (le-leb (t .p) (shared b D key (z .key)) l, ne-eqb d (shared b D key (z .key)) ne) (slotLinks-other D d t h (λ e. ne (e ∙ q held)))
+      at (no l) e =
+          let m : shared b D key (z .key) < t .p = omega arith in
+          rw (lt-leb (t .p) (shared b D key (z .key)) m) (slotLinks-none D d t h (c ∙ slot-empty b D key (t .p) z rest m))
+
+-- a cell that has a place is the head or in the row
+pub placed-occurs : {s : State} {x : ℕ} {p : Place} → Placed s x p → 0 < occurrences x (0 ∷ map (λ y. y .cell) (s .row))
+placed-occurs {s} {x} {p} here =
+    subst (λ c. 0 < occurrences c (0 ∷ map (λ y. y .cell) (s .row))) (placed-cell here)
+    (placed-entry here (λ y. 0 < occurrences (y .cell) (0 ∷ map (λ z. z .cell) (s .row)))
+    (omega (arith, occurrences-here 0 0 (map (λ y. y .cell) (s .row)) refl))
+    (all-splits (λ y. 0 < occurrences (y .cell) (0 ∷ map (λ z. z .cell) (s .row))) (s .row) (cell-stands s)))
+
+-- where the chain leads from its first cell
+first-next : (free : List ℕ) → nextFree (firstNumber free) free ≡ firstNumber (drop 1 free)
+unfolding nextFree
+first-next [] = refl
+first-next (n ∷ free) = ap (λ t. cond t (firstNumber free) (nextFree n free)) (eq-eqb n n refl)
+
+-- The slot in a state in order
+
+module _ (s : State) (v : Sound s) (key : ℕ) (positive : 0 < key) (g : Gap key (s .row)) (f : 0 < length (s .free)) (t : Slot) (i : SlotIs s key (g .pre) (g .post) t) where
+  abbrev b : ℕ
+  b = s .settings .base
+
+  abbrev D : ℕ
+  D = s .settings .dimensions
+
+  last-below : lastFrom headEntry (g .pre) .key < key
+  last-below = all-last (λ z. z .key < key) headEntry (g .pre) positive (g .below)
+
+  -- p is the number of a link, and n of a cell
+  pub slot-number : t .p < s .settings .dimensions
+  slot-number = rw (i .p-is) (shared-less b D (lastFrom headEntry (g .pre) .key) key (dimensions-positive s v) (omega (arith, last-below)))
+
+  pub slot-below : t .n < s .settings .cells
+  slot-below = rw (i .n-is) (first-free-all (λ c. (0 < c) × (c < s .settings .cells)) (s .free) f (free-range s v) .1)
+
+  -- the new cell is none that stands
+  pub slot-new : Without (t .n) (headEntry ∷ s .row)
+  slot-new = subst (λ c. Without c (headEntry ∷ s .row)) (sym (i .n-is)) (first-free-all (λ c. Without c (headEntry ∷ s .row)) (s .free) f (free-apart s v))
+
+  pub slot-parent-placed : (p : Place) × Placed s (t .parent) p
+  unfolding places
+  slot-parent-placed =
+      let found =
+      first-place b D (base-positive s v) (dimensions-positive s v) (dimensionAfter b D headEntry (g .pre) key) headEntry 0 headEntry 0 (g .pre) (g .post)
+      (asc-left 0 (g .pre) (g .post) (subst (Asc 0) (g .splits) (v .ascends)))
+      (apart-left (headEntry ∷ g .pre) (g .post) (subst (λ r. Apart (headEntry ∷ r)) (g .splits) (sound-apart s v)))
+      (shared-less b D (lastFrom headEntry (g .pre) .key) key (dimensions-positive s v) (omega (arith, last-below))) (λ q. omega arith) in
+      (found .0, record { found = ap₂ (λ c r. placeOf c (places b D r)) (i .parent-is) (g .splits) ∙ found .1 })
+
+  pub slot-apart : t .n ≡ t .parent → ⊥
+  slot-apart e =
+      let here = slot-parent-placed .1 in
+      placed-entry here (λ y. y .cell ≡ t .n → ⊥) (slot-new .0) (slot-new .1) (placed-cell here ∙ sym e)
+
+  -- the new cell's first word leads on in the chain
+  pub slot-next : wordAt (picture s) (t .n) 0 ≡ firstNumber (drop 1 (s .free))
+  slot-next =
+      free-cell-first s (t .n) slot-below (subst (λ c. placeOf c (placesIn s) ≡ none) (sym (i .n-is)) (first-free-all (λ c. placeOf c (placesIn s) ≡ none) (s .free) f (free-found s v)))
+      ∙ ap (λ c. nextFree c (s .free)) (i .n-is) ∙ first-next (s .free)
+
+  -- c stands, or is 0, the head
+  pub slot-c-placed : (q : Place) × Placed s (t .c) q
+  slot-c-placed = at (g .post) refl
+    where
+      stands : (c : ℕ) → t .c ≡ c → (q : Place) × Placed s c q → (q : Place) × Placed s (t .c) q
+      stands c e found = (found .0, subst (λ y. Placed s y (found .0)) (sym e) (found .1))
+
+      at : (post : List Entry) → g .post ≡ post → (q : Place) × Placed s (t .c) q
+      at [] e = stands 0 (i .c-is ∙ ap (slotCell b D key (dimensionAfter b D headEntry (g .pre) key)) e) (headPlace (s .row), head-placed s)
+      at (z ∷ rest) e = choose (decLe p (shared b D key (z .key)))
+        where
+          p : ℕ
+          p = dimensionAfter b D headEntry (g .pre) key
+
+          is : t .c ≡ slotCell b D key p (z ∷ rest)
+          is = i .c-is ∙ ap (slotCell b D key p) e
+
+          choose : Dec (p ≤ shared b D key (z .key)) → (q : Place) × Placed s (t .c) q
+          choose (yes h) =
+              stands (z .cell) (is ∙ slot-held b D key p z rest h)
+              (occurs-placed s (z .cell) (cell-stands s (g .pre) z rest (g .splits ∙ ap (λ r. g .pre ++ r) e)))
+          choose (no h) = stands 0 (is ∙ slot-empty b D key p z rest (omega arith)) (headPlace (s .row), head-placed s)
+
+  pub slot-c-apart : t .n ≡ t .c → ⊥
+  slot-c-apart e =
+      let here = slot-c-placed .1 in
+      placed-entry here (λ y. y .cell ≡ t .n → ⊥) (slot-new .0) (slot-new .1) (placed-cell here ∙ sym e)
+
+  -- n and c share less than all coordinates
+  pub slot-shares : (t .c ≡ 0 → ⊥) → t .q < s .settings .dimensions
+  slot-shares held =
+      let first = slot-first b D key (dimensionAfter b D headEntry (g .pre) key) (g .post) (λ e. held (i .c-is ∙ e)) in
+      let above = first-has (λ y. key < y .key) (g .post) (g .above) (first .0) in
+      rw (i .q-is held) (shared-less b D key (firstOf (g .post) .key) (dimensions-positive s v) (omega arith))
+
+  above-stand : All (λ z. 0 < z .cell) (g .post)
+  above-stand = all-right (λ z. 0 < z .cell) (g .pre) (g .post) (subst (All (λ z. 0 < z .cell)) (g .splits) (cells-positive s v))
+
+  held-by : t .c ≡ slotCell b D key (t .p) (g .post)
+  held-by = i .c-is ∙ ap (λ p. slotCell b D key p (g .post)) (sym (i .p-is))
+
+  pub slot-owes : slotOwes t ≡ newOwes (s .settings .base) (s .settings .dimensions) key (t .p) (g .post)
+  slot-owes = owes-at b D key t (g .post) above-stand held-by (i .q-is)
+
+  pub slot-link : (d : ℕ) → d < s .settings .dimensions → getD (slotLinks (s .settings .dimensions) t) d 0 ≡ newLink (s .settings .base) (s .settings .dimensions) key (t .p) (g .post) d
+  slot-link = link-at b D key t (g .post) above-stand held-by (i .q-is)
+
+  module _ (value : ℕ) (parent-paid : All (λ y. y .cell ≡ t .parent → y .owes ≡ false) (s .row)) (c-paid : All (λ y. y .cell ≡ t .c → y .owes ≡ false) (s .row)) where
+    abbrev Paid : Entry → Type 0
+    Paid y = y .cell ≡ t .parent → y .owes ≡ false
+
+    -- if the entry before the key owed, it would be the parent
+    last-unowing : lastFrom headEntry (g .pre) .owes ≡ false
+    last-unowing = at (lastFrom headEntry (g .pre) .owes) refl
+      where
+        paid : Paid (lastFrom headEntry (g .pre))
+        paid = all-last Paid headEntry (g .pre) (λ e. refl) (all-left Paid (g .pre) (g .post) (subst (All Paid) (g .splits) parent-paid))
+
+        at : (o : Bool) → lastFrom headEntry (g .pre) .owes ≡ o → lastFrom headEntry (g .pre) .owes ≡ false
+        at true e = paid (sym (owing-parent s v key positive g e) ∙ sym (i .parent-is))
+        at false e = e
+
+    next-unowing : (post : List Entry) → t .c ≡ slotCell b D key (t .p) post → All (λ y. y .cell ≡ t .c → y .owes ≡ false) post → NextUnowing b D key (t .p) post
+    next-unowing [] is paid = tt
+    next-unowing (z ∷ rest) is paid = λ h. paid .0 (sym (is ∙ slot-held b D key (t .p) z rest h))
+
+    -- nothing is owed that the new entry touches
+    pub slot-cleared : Cleared (s .settings .base) (s .settings .dimensions) (g .pre) (newEntry (t .n) key value (slotOwes t)) (g .post)
+    slot-cleared =
+        let row-paid = subst (All Paid) (g .splits) parent-paid in
+        record {
+          last = last-unowing;
+          parent =
+              subst (λ c. All (λ y. y .cell ≡ c → y .owes ≡ false) (headEntry ∷ (g .pre ++ newEntry (t .n) key value (slotOwes t) ∷ g .post))) (i .parent-is) (
+                λ e. refl,
+                all-append Paid (g .pre) (newEntry (t .n) key value (slotOwes t) ∷ g .post) (all-left Paid (g .pre) (g .post) row-paid)
+                    (λ e. absurd (slot-apart e), all-right Paid (g .pre) (g .post) row-paid),
+              );
+          next =
+              subst (λ p. NextUnowing b D key p (g .post)) (i .p-is)
+              (next-unowing (g .post) held-by (all-right (λ y. y .cell ≡ t .c → y .owes ≡ false) (g .pre) (g .post) (subst (All (λ y. y .cell ≡ t .c → y .owes ≡ false)) (g .splits) c-paid)));
+          own = slot-owes ∙ ap (λ p. newOwes b D key p (g .post)) (i .p-is);
+        }

@@ -1,0 +1,365 @@
+-- What an insert of a key that does not stand writes, word by word: the words after the debts of the parent and of c are finished, with
+-- the new cell written, taken off the free chain and set as link p of the parent. Finishing does not move the slot, so the new entry
+-- comes into the row of the state with both debts paid, where it changes only those words.
+use mathlib.Core.Path.{_≡_, refl, sym, _∙_, ap, subst}
+use mathlib.Core.Bool.{Bool, true, false, cond, _&&_, not}
+use mathlib.Core.List.{List, _∷_, map}
+use mathlib.Core.Option.{none}
+use Prim.Native.Nat.{ℕ, zero, suc, _≤_, _<_}
+use native.Mathlib.Decide.{ℕ-discrete, decLt}
+use native.Mathlib.Omega.{arith}
+use lib.Dec.{eqb, ltb}
+use lib.ListN.{length, getD, drop}
+use borrow.Author.Tests.{eq-eqb, ne-eqb, lt-ltb, le-ltb, le-leb, lt-leb}
+use Rattle.settings.specs.Numbers.{fieldsBeforeCoordinates, cellWords}
+use Rattle.meaning.specs.Keys.{coordinate}
+use Rattle.meaning.specs.Row.{Entry, Place, entryAt}
+use Rattle.meaning.specs.State.{State, occurrences, positionKey}
+use Rattle.meaning.specs.Picture.{path, picture}
+use Rattle.meaning.specs.Operations.{paid, finished, withRow, Slot, newEntry, slotFor, slotOwes, added}
+use Rattle.meaning.specs.Walk.{wordAt, keyAt, valueAt, markAt, owedAt, lowAt, highAt, coordinateAt, linkAt}
+use Rattle.meaning.specs.Stores.{linkField, finishWords, writePath, newWords, insertWords}
+use Rattle.meaning.proofs.Order.{All, and-both, all-map}
+use Rattle.meaning.proofs.State.{Sound}
+use Rattle.meaning.proofs.Cells.{all-each}
+use Rattle.meaning.proofs.Places.{all-mapped, cells-changed, keys-changed, keyOf-head-changed, onCell, onCell-cases}
+use Rattle.meaning.proofs.KeepsFinish.{paid-keeping, finished-sound}
+use Rattle.meaning.proofs.Slot.{Gap, gap, SlotIs, slot-is, gap-changed}
+use Rattle.meaning.proofs.KeepsInsert.{added-row, added-position, added-sound-at}
+use Rattle.meaning.proofs.SentencesCells.{Placed, head-placed, placed-below, place-word, place-key, place-value, place-mark, place-owed, place-coordinate, place-link}
+use Rattle.meaning.proofs.Stores.{finishWords-none}
+use Rattle.meaning.proofs.Changed.{path-unmoved}
+use Rattle.meaning.proofs.FinishWords.{finish-words, OwesNothing, OwesSame, finish-own, finish-others, finish-finished, finish-nothing}
+use Rattle.meaning.proofs.InsertLinks.{and-none}
+use Rattle.meaning.proofs.InsertSlot.{slot-changed, slotLinks, slotLinks-none, slotLinks-other, slotLinks-here, placed-occurs, slot-new, slot-parent-placed, slot-apart, slot-next, slot-c-placed, slot-c-apart, slot-shares}
+use Rattle.meaning.proofs.InsertPut.{withNew, newPlace, writeNew, put-new, put-link, put-new-words, put-elsewhere, put-parent, put-words}
+use Rattle.meaning.proofs.InsertPath.{put-path}
+
+-- the state with what the parent owes finished, and then what c owes
+abbrev pub parentPaid : State → Slot → State
+parentPaid s t = withRow s (finished (t .parent) (s .row))
+
+abbrev pub bothPaid : State → Slot → State
+bothPaid s t = withRow (parentPaid s t) (finished (t .c) (finished (t .parent) (s .row)))
+
+-- Word j of cell x is none that finishing cell n changes: if n owes, none of its owed, low and high, and no link low to high-1 of n or of
+-- its owed cell.
+abbrev pub Unmoved : List ℕ → ℕ → ℕ → ℕ → Type 0
+Unmoved ws n x j =
+    0 < owedAt ws n → (x ≡ n → 3 ≤ j → j < fieldsBeforeCoordinates → ⊥) ×
+    ((d : ℕ) → lowAt ws n ≤ d → d < highAt ws n → j ≡ linkField (getD ws 0 0) d → (x ≡ n → ⊥) × (x ≡ owedAt ws n → ⊥))
+
+-- An insert of a key k that does not stand, with value v, into slot t: us are the words ws afterwards.
+pub record Inserted (ws us : List ℕ) (k v : ℕ) (t : Slot) : Type 0 where
+  -- "puts a new cell n in the first free cell"
+  pub free : t .n ≡ getD ws 4 0
+  pub next-free : getD us 4 0 ≡ wordAt ws (t .n) 0
+  pub key : keyAt us (t .n) ≡ k
+  pub value : valueAt us (t .n) ≡ v
+  pub live : markAt us (t .n) ≡ 1
+  pub coordinates : (d : ℕ) → d < getD ws 0 0 → coordinateAt us (t .n) d ≡ coordinate (getD ws 3 0) (getD ws 0 0) k d
+  -- "as link p of its parent"
+  pub parent : linkAt us (t .parent) (t .p) ≡ t .n
+  -- "c becomes link q of n"
+  pub given : (t .c ≡ 0 → ⊥) → linkAt us (t .n) (t .q) ≡ t .c
+  pub other-links : (d : ℕ) → d < getD ws 0 0 → (d ≡ t .q → t .c ≡ 0) → linkAt us (t .n) d ≡ 0
+  -- "If p < q, then n owes: owed c, low p, high q", and only so
+  pub owes : (t .c ≡ 0 → ⊥) → t .p < t .q → (owedAt us (t .n) ≡ t .c) × (lowAt us (t .n) ≡ t .p) × (highAt us (t .n) ≡ t .q)
+  pub owes-nothing : ((t .c ≡ 0 → ⊥) → t .q ≤ t .p) → OwesNothing us (t .n)
+  -- "an insert finishes what the parent owes, then what c owes, and nothing else"
+  pub parent-paid : OwesNothing us (t .parent)
+  pub c-paid : OwesNothing us (t .c)
+  pub others-owe : (x : ℕ) → x < getD ws 2 0 → (x ≡ t .n → ⊥) → (x ≡ t .parent → ⊥) → (x ≡ t .c → ⊥) → OwesSame ws us x
+  -- every other word of the header and of the cells is as before
+  pub header : (i : ℕ) → i < 4 → getD us i 0 ≡ getD ws i 0
+  pub other : (x j : ℕ) → x < getD ws 2 0 → j < cellWords (getD ws 0 0) → (x ≡ t .n → ⊥) → (x ≡ t .parent → j ≡ linkField (getD ws 0 0) (t .p) → ⊥) →
+      Unmoved ws (t .parent) x j → Unmoved ws (t .c) x j → wordAt us x j ≡ wordAt ws x j
+
+finish-unmoved : (s : State) (v : Sound s) (n : ℕ) → 0 < occurrences n (0 ∷ map (λ y. y .cell) (s .row)) → (x j : ℕ) → j < cellWords (s .settings .dimensions) → Unmoved (picture s) n x j →
+    wordAt (picture (withRow s (finished n (s .row)))) x j ≡ wordAt (picture s) x j
+unfolding picture
+finish-unmoved s v n stands x j h unmoved = at (decLt 0 (owedAt (picture s) n))
+  where
+    at : Dec (0 < owedAt (picture s) n) → wordAt (picture (withRow s (finished n (s .row)))) x j ≡ wordAt (picture s) x j
+    at (yes o) = finish-finished s v n stands o .other x j h (unmoved o .0) (unmoved o .1)
+    at (no o) = ap (λ ws. wordAt ws x j) (finish-nothing s v n stands (omega arith))
+
+module _ (s : State) (v : Sound s) (key value : ℕ) (positive : 0 < key) (g : Gap key (s .row)) (f : 0 < length (s .free)) (t : Slot) (i : SlotIs s key (g .pre) (g .post) t) where
+  abbrev b : ℕ
+  b = s .settings .base
+
+  abbrev D : ℕ
+  D = s .settings .dimensions
+
+  abbrev one : State
+  one = parentPaid s t
+
+  abbrev two : State
+  two = bothPaid s t
+
+  -- Both debts finished
+
+  one-sound : Sound one
+  one-sound = finished-sound s (t .parent) v
+
+  two-sound : Sound two
+  two-sound = finished-sound one (t .c) one-sound
+
+  parent-stands : 0 < occurrences (t .parent) (0 ∷ map (λ y. y .cell) (s .row))
+  parent-stands = placed-occurs (slot-parent-placed s v key positive g f t i .1)
+
+  c-stands : 0 < occurrences (t .c) (0 ∷ map (λ y. y .cell) (one .row))
+  unfolding finished
+  c-stands =
+      subst (λ cs. 0 < occurrences (t .c) (0 ∷ cs)) (sym (cells-changed (onCell (t .parent) paid) (paid-keeping (t .parent)) (s .row)))
+      (placed-occurs (slot-c-placed s v key positive g f t i .1))
+
+  pub both-words :
+      cond (eqb (t .c) 0) (finishWords (s .settings .dimensions) (picture s) (t .parent)) (finishWords (s .settings .dimensions) (finishWords (s .settings .dimensions) (picture s) (t .parent)) (t .c))
+      ≡ picture (bothPaid s t)
+  both-words = at (ℕ-discrete (t .c) 0)
+    where
+      first : finishWords D (picture s) (t .parent) ≡ picture one
+      first = sym (finish-words s v (t .parent) parent-stands)
+
+      second : finishWords D (picture one) (t .c) ≡ picture two
+      second = sym (finish-words one one-sound (t .c) c-stands)
+
+      -- the head owes nothing
+      head : t .c ≡ 0 → finishWords D (picture one) (t .c) ≡ picture one
+      head e = ap (finishWords D (picture one)) e ∙ finishWords-none D (picture one) 0 (place-owed one-sound (head-placed one))
+
+      at : Dec (t .c ≡ 0) → cond (eqb (t .c) 0) (finishWords D (picture s) (t .parent)) (finishWords D (finishWords D (picture s) (t .parent)) (t .c)) ≡ picture two
+      at (yes e) = rw (eq-eqb (t .c) 0 e) (first ∙ sym (head e) ∙ second)
+      at (no ne) = rw (ne-eqb (t .c) 0 ne) (ap (λ ws. finishWords D ws (t .c)) first ∙ second)
+
+  -- the slot is the same
+  two-gap : Gap key (two .row)
+  unfolding finished
+  two-gap =
+      gap-changed (onCell (t .c) paid) (paid-keeping (t .c)) key (finished (t .parent) (s .row))
+      (gap-changed (onCell (t .parent) paid) (paid-keeping (t .parent)) key (s .row) g)
+
+  two-slot : SlotIs two key (two-gap .pre) (two-gap .post) t
+  unfolding finished two-gap gap-changed
+  two-slot =
+      slot-changed one (onCell (t .c) paid) (paid-keeping (t .c)) key (map (onCell (t .parent) paid) (g .pre)) (map (onCell (t .parent) paid) (g .post)) t
+      (slot-changed s (onCell (t .parent) paid) (paid-keeping (t .parent)) key (g .pre) (g .post) t i (finished (t .parent) (s .row)))
+      (finished (t .c) (finished (t .parent) (s .row)))
+
+  -- and neither the parent nor c owes
+  c-unowing : All (λ y. y .cell ≡ t .c → y .owes ≡ false) (two .row)
+  unfolding finished
+  c-unowing =
+      all-mapped (λ y. y .cell ≡ t .c → y .owes ≡ false) (onCell (t .c) paid) (finished (t .parent) (s .row))
+      (all-each (λ y. onCell-cases (λ z. z .cell ≡ t .c → z .owes ≡ false) (t .c) paid y (λ here e. refl) (λ other e. absurd (other e))) (finished (t .parent) (s .row)))
+
+  parent-unowing : All (λ y. y .cell ≡ t .parent → y .owes ≡ false) (two .row)
+  unfolding finished
+  parent-unowing =
+      all-mapped Unowing (onCell (t .c) paid) (map (onCell (t .parent) paid) (s .row))
+      (all-map (λ y h. onCell-cases Unowing (t .c) paid y (λ here e. refl) (λ other. h)) (map (onCell (t .parent) paid) (s .row))
+      (all-mapped Unowing (onCell (t .parent) paid) (s .row)
+      (all-each (λ y. onCell-cases Unowing (t .parent) paid y (λ here e. refl) (λ other e. absurd (other e))) (s .row))))
+    where
+      Unowing : Entry → Type 0
+      Unowing y = y .cell ≡ t .parent → y .owes ≡ false
+
+  -- The path
+
+  two-cells : map (λ y. y .cell) (two .row) ≡ map (λ y. y .cell) (s .row)
+  unfolding finished
+  two-cells =
+      cells-changed (onCell (t .c) paid) (paid-keeping (t .c)) (finished (t .parent) (s .row))
+      ∙ cells-changed (onCell (t .parent) paid) (paid-keeping (t .parent)) (s .row)
+
+  two-keys : map (λ y. y .key) (two .row) ≡ map (λ y. y .key) (s .row)
+  unfolding finished
+  two-keys =
+      keys-changed (onCell (t .c) paid) (paid-keeping (t .c)) (finished (t .parent) (s .row))
+      ∙ keys-changed (onCell (t .parent) paid) (paid-keeping (t .parent)) (s .row)
+
+  two-position : positionKey two ≡ positionKey s
+  unfolding finished
+  two-position =
+      keyOf-head-changed (onCell (t .c) paid) (paid-keeping (t .c)) (s .position) (finished (t .parent) (s .row))
+      ∙ keyOf-head-changed (onCell (t .parent) paid) (paid-keeping (t .parent)) (s .position) (s .row)
+
+  abbrev now : State
+  now = withNew two (two-gap .pre) (newEntry (t .n) key value (slotOwes t)) (two-gap .post) (added s key value t .position)
+
+  added-is : added s key value t ≡ now
+  unfolding added finished two-gap gap-changed
+  added-is =
+      let position = added s key value t .position in
+      ap {B = State} (λ r. record { settings = s .settings; row = r; free = drop 1 (s .free); position = position }) (added-row s v key value positive g f t i)
+
+  -- "If the key is at or below the position's, the position becomes the parent of that cell in the settled shape"
+  pub added-position-lowered : key ≤ positionKey s → added s key value t .position ≡ t .parent
+  added-position-lowered h = added-position s v key value positive g f t i ∙ ap (λ r. cond r (t .parent) (s .position)) (le-leb key (positionKey s) h)
+
+  pub added-position-kept : positionKey s < key → added s key value t .position ≡ s .position
+  added-position-kept h = added-position s v key value positive g f t i ∙ ap (λ r. cond r (t .parent) (s .position)) (lt-leb key (positionKey s) h)
+
+  pub added-path-at : positionKey s < key → path (added s key value t) ≡ path s
+  added-path-at h =
+      let x = newEntry (t .n) key value (slotOwes t) in
+      ap path added-is
+      ∙ ap (λ p. path (withNew two (two-gap .pre) x (two-gap .post) p)) (added-position-kept h)
+      ∙ put-path two two-sound x two-gap (slot-new two two-sound key positive two-gap f t two-slot) (subst (λ k. k < key) (sym two-position) h)
+      ∙ path-unmoved two s refl refl two-cells two-keys
+
+  -- Who owes, and what is moved, after both are finished
+
+  two-c : OwesNothing (picture two) (t .c)
+  two-c = finish-own one one-sound (t .c) c-stands
+
+  two-parent : OwesNothing (picture two) (t .parent)
+  two-parent = at (ℕ-discrete (t .parent) (t .c))
+    where
+      at : Dec (t .parent ≡ t .c) → OwesNothing (picture two) (t .parent)
+      at (yes e) = subst (OwesNothing (picture two)) (sym e) two-c
+      at (no ne) =
+          let same = finish-others one one-sound (t .c) c-stands (t .parent) ne in
+          let own = finish-own s v (t .parent) parent-stands in
+          (same .0 ∙ own .0, same .1 ∙ own .1, same .2 ∙ own .2)
+
+  two-others : (x : ℕ) → (x ≡ t .parent → ⊥) → (x ≡ t .c → ⊥) → OwesSame (picture s) (picture two) x
+  two-others x not-parent not-c =
+      let second = finish-others one one-sound (t .c) c-stands x not-c in
+      let first = finish-others s v (t .parent) parent-stands x not-parent in
+      (second .0 ∙ first .0, second .1 ∙ first .1, second .2 ∙ first .2)
+
+  -- finishing the parent does not touch what c owes; if c is the parent, it is the head
+  c-unmoved : (x j : ℕ) → Unmoved (picture s) (t .c) x j → Unmoved (picture one) (t .c) x j
+  unfolding picture
+  c-unmoved x j unmoved o = at (ℕ-discrete (t .c) (t .parent))
+    where
+      at : Dec (t .c ≡ t .parent) → (x ≡ t .c → 3 ≤ j → j < fieldsBeforeCoordinates → ⊥) ×
+          ((d : ℕ) → lowAt (picture one) (t .c) ≤ d → d < highAt (picture one) (t .c) → j ≡ linkField D d → (x ≡ t .c → ⊥) × (x ≡ owedAt (picture one) (t .c) → ⊥))
+      at (yes e) = absurd (omega (arith, o, ap (owedAt (picture one)) e, finish-own s v (t .parent) parent-stands .0))
+      at (no ne) =
+          let same = finish-others s v (t .parent) parent-stands (t .c) ne in
+          let owed-same = same .0 in
+          let low-same = same .1 in
+          let high-same = same .2 in
+          let before = unmoved (omega (arith, o, owed-same)) in
+          (before .0, λ d l h e. let apart = before .1 d (omega arith) (omega arith) e in (apart .0, λ q. apart .1 (q ∙ owed-same)))
+
+  two-unmoved : (x j : ℕ) → j < cellWords D → Unmoved (picture s) (t .parent) x j → Unmoved (picture s) (t .c) x j → wordAt (picture two) x j ≡ wordAt (picture s) x j
+  two-unmoved x j h parent c = finish-unmoved one one-sound (t .c) c-stands x j h (c-unmoved x j c) ∙ finish-unmoved s v (t .parent) parent-stands x j h parent
+
+  -- The new entry
+
+  module _ (most : key ≤ s .settings .largest) where
+    now-sound : Sound now
+    now-sound = subst Sound added-is (added-sound-at s v key value positive g f t i most)
+
+    pub added-words-at : picture (added s key value t) ≡ writePath (insertWords (s .settings .base) (s .settings .dimensions) (picture s) key value t) (path (added s key value t))
+    unfolding insertWords
+    added-words-at =
+        ap picture added-is
+        ∙ put-words two two-sound key value positive two-gap f t two-slot parent-unowing c-unowing (added s key value t .position) now-sound
+        ∙ ap (λ z. writePath (writeNew b D (picture two) key value t) (path z)) (sym added-is)
+        ∙ ap (λ ws. writePath (writeNew b D ws key value t) (path (added s key value t))) (sym both-words)
+
+    abbrev new : Place
+    new = newPlace b D (two-gap .pre) (newEntry (t .n) key value (slotOwes t)) (two-gap .post)
+
+    here : Placed now (t .n) new
+    here = put-new two two-sound key value positive two-gap f t two-slot parent-unowing c-unowing (added s key value t .position) now-sound
+
+    new-word : (j : ℕ) → j < cellWords D → wordAt (picture now) (t .n) j ≡ getD (newWords b D key value t) j 0
+    new-word j h =
+        place-word now-sound here j h
+        ∙ ap (λ ws. getD ws j 0) (sym (put-new-words two two-sound key value positive two-gap f t two-slot parent-unowing c-unowing (added s key value t .position) now-sound))
+
+    new-link : (d : ℕ) → d < D → linkAt (picture now) (t .n) d ≡ getD (slotLinks D t) d 0
+    new-link d h = place-link now-sound here d h ∙ put-link two two-sound key value positive two-gap f t two-slot parent-unowing c-unowing (added s key value t .position) now-sound d h
+
+    elsewhere : (x j : ℕ) → x < s .settings .cells → j < cellWords D → (x ≡ t .n → ⊥) → (x ≡ t .parent → j ≡ linkField D (t .p) → ⊥) → wordAt (picture now) x j ≡ wordAt (picture two) x j
+    elsewhere x j below h not-n = put-elsewhere two two-sound key value positive two-gap f t two-slot parent-unowing c-unowing (added s key value t .position) now-sound x j below h (λ e. not-n (sym e))
+
+    owes-as-paid : (x : ℕ) → x < s .settings .cells → (x ≡ t .n → ⊥) → OwesSame (picture two) (picture now) x
+    unfolding picture
+    owes-as-paid x below not-n = (elsewhere x 3 below (omega arith) not-n (λ e q. omega arith), elsewhere x 4 below (omega arith) not-n (λ e q. omega arith), elsewhere x 5 below (omega arith) not-n (λ e q. omega arith))
+
+    nothing-as-paid : (x : ℕ) → x < s .settings .cells → (x ≡ t .n → ⊥) → OwesNothing (picture two) x → OwesNothing (picture now) x
+    nothing-as-paid x below not-n paid = let same = owes-as-paid x below not-n in (same .0 ∙ paid .0, same .1 ∙ paid .1, same .2 ∙ paid .2)
+
+    new-debt : (o : Bool) → slotOwes t ≡ o → (owedAt (picture now) (t .n) ≡ cond o (t .c) 0) × (lowAt (picture now) (t .n) ≡ cond o (t .p) 0) × (highAt (picture now) (t .n) ≡ cond o (t .q) 0)
+    unfolding picture newWords
+    new-debt o e = (
+      new-word 3 (omega arith) ∙ ap (λ r. cond r (t .c) 0) e,
+      new-word 4 (omega arith) ∙ ap (λ r. cond r (t .p) 0) e,
+      new-word 5 (omega arith) ∙ ap (λ r. cond r (t .q) 0) e,
+    )
+
+    now-inserted : Inserted (picture s) (picture now) key value t
+    unfolding picture
+    now-inserted =
+        record {
+          free = i .n-is;
+          next-free = sym (slot-next s v key positive g f t i);
+          key = place-key now-sound here;
+          value = place-value now-sound here;
+          live = place-mark now-sound here;
+          coordinates = λ d h. place-coordinate now-sound here d h;
+          parent = put-parent two two-sound key value positive two-gap f t two-slot parent-unowing c-unowing (added s key value t .position) now-sound;
+          given = λ held. let inside = slot-shares s v key positive g f t i held in new-link (t .q) inside ∙ slotLinks-here D (t .q) t inside held refl;
+          other-links = λ d h other. new-link d h ∙ other-link d h other (ℕ-discrete (t .c) 0);
+          owes = λ held less. new-debt true (and-both (not (eqb (t .c) 0)) (ltb (t .p) (t .q)) (ap not (ne-eqb (t .c) 0 held)) (lt-ltb (t .p) (t .q) less));
+          owes-nothing = λ more. new-debt false (unowing more (ℕ-discrete (t .c) 0));
+          parent-paid = nothing-as-paid (t .parent) (placed-below v (slot-parent-placed s v key positive g f t i .1)) (λ e. slot-apart s v key positive g f t i (sym e)) two-parent;
+          c-paid = nothing-as-paid (t .c) (placed-below v (slot-c-placed s v key positive g f t i .1)) (λ e. slot-c-apart s v key positive g f t i (sym e)) two-c;
+          others-owe = λ x below not-n not-parent not-c.
+              let now-same = owes-as-paid x below not-n in
+              let two-same = two-others x not-parent not-c in
+              (now-same .0 ∙ two-same .0, now-same .1 ∙ two-same .1, now-same .2 ∙ two-same .2);
+          header = header;
+          other = λ x j below h not-n not-link parent c. elsewhere x j below h not-n not-link ∙ two-unmoved x j h parent c;
+        }
+      where
+        other-link : (d : ℕ) → d < D → (d ≡ t .q → t .c ≡ 0) → Dec (t .c ≡ 0) → getD (slotLinks D t) d 0 ≡ 0
+        other-link d h other (yes e) = slotLinks-none D d t h e
+        other-link d h other (no ne) = slotLinks-other D d t h (λ e. ne (other e))
+
+        unowing : ((t .c ≡ 0 → ⊥) → t .q ≤ t .p) → Dec (t .c ≡ 0) → slotOwes t ≡ false
+        unowing more (yes e) = ap (λ r. not r && ltb (t .p) (t .q)) (eq-eqb (t .c) 0 e)
+        unowing more (no ne) = ap (λ r. not (eqb (t .c) 0) && r) (le-ltb (t .p) (t .q) (more ne)) ∙ and-none (not (eqb (t .c) 0))
+
+        header : (k : ℕ) → k < 4 → getD (picture now) k 0 ≡ getD (picture s) k 0
+        header zero h = refl
+        header (suc zero) h = refl
+        header (suc (suc zero)) h = refl
+        header (suc (suc (suc zero))) h = refl
+        header (suc (suc (suc (suc k)))) h = absurd (omega arith)
+
+    pub added-inserted-at : Inserted (picture s) (picture (added s key value t)) key value t
+    added-inserted-at = subst (λ z. Inserted (picture s) (picture z) key value t) (sym added-is) now-inserted
+
+-- A key that does not stand, and a free cell
+
+module _ (s : State) (v : Sound s) (key value : ℕ) (positive : 1 ≤ key) (most : key ≤ s .settings .largest) (absent : entryAt key (s .row) ≡ none) (f : 0 < length (s .free)) where
+  abbrev around : Gap key (s .row)
+  around = gap key 0 (s .row) (v .ascends) absent
+
+  slot : SlotIs s key (around .pre) (around .post) (slotFor s key)
+  slot = slot-is s v key positive around f
+
+  -- every word after the call
+  pub added-words :
+      picture (added s key value (slotFor s key))
+      ≡ writePath (insertWords (s .settings .base) (s .settings .dimensions) (picture s) key value (slotFor s key)) (path (added s key value (slotFor s key)))
+  added-words = added-words-at s v key value positive around f (slotFor s key) slot most
+
+  -- which words change, and which cells owe
+  pub added-inserted : Inserted (picture s) (picture (added s key value (slotFor s key))) key value (slotFor s key)
+  added-inserted = added-inserted-at s v key value positive around f (slotFor s key) slot most
+
+  -- a key above the position's leaves the path, and any other makes the parent the position
+  pub added-path : positionKey s < key → path (added s key value (slotFor s key)) ≡ path s
+  added-path = added-path-at s v key value positive around f (slotFor s key) slot
+
+  pub added-position-parent : key ≤ positionKey s → added s key value (slotFor s key) .position ≡ slotFor s key .parent
+  added-position-parent = added-position-lowered s v key value positive around f (slotFor s key) slot

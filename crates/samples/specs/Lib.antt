@@ -1,0 +1,2 @@
+-- Sample buffers, made by calls.
+pub mod Samples

@@ -1,0 +1,75 @@
+-- Sample buffers, made by calls from a fresh list: with debts, a position, dead cells and freed ones.
+use mathlib.Core.Bool.{Bool, true, false, cond, _&&_}
+use mathlib.Core.List.{List, [], _∷_, map}
+use Prim.Native.Nat.{ℕ, zero, suc, _+_}
+use lib.Dec.{eqb}
+use lib.ListN.{length, getD, set, replicate}
+use Rattle.settings.specs.Numbers.{lengthOf, headerWords, cellWords}
+use Rattle.meaning.specs.Row.{those}
+use Rattle.meaning.specs.Reading.{read, isList}
+use Rattle.meaning.specs.Calls.{Call, set-up, insert-key, finish-key, take-least, sweep-dead, outcome, afterCalls}
+use Rattle.meaning.specs.Walk.{place, markAt}
+
+-- a fresh list with D, K and C
+abbrev pub freshWith : ℕ → ℕ → ℕ → List ℕ
+freshWith D K C = outcome (set-up D K C) (replicate (lengthOf D C) 0) .words
+
+abbrev pub inserts : List ℕ → List Call
+inserts [] = []
+inserts (key ∷ keys) = insert-key key (key + 1000) ∷ inserts keys
+
+unfoldable pub joined : List (List Call) → List Call
+joined [] = []
+joined ([] ∷ parts) = joined parts
+joined ((call ∷ calls) ∷ parts) = call ∷ joined (calls ∷ parts)
+
+-- D = 3, K = 63, C = 40, so b = 4
+unfoldable pub larger : List ℕ
+larger =
+    afterCalls
+    (joined
+    (inserts (1 ∷ 2 ∷ 3 ∷ 5 ∷ 9 ∷ 20 ∷ 21 ∷ 22 ∷ 26 ∷ 27 ∷ 30 ∷ 31 ∷ 37 ∷ 38 ∷ 41 ∷ 50 ∷ 51 ∷ 60 ∷ [])
+    ∷ replicate 9 take-least
+    ∷ (sweep-dead ∷ [])
+    ∷ inserts (62 ∷ 61 ∷ 33 ∷ 32 ∷ 17 ∷ 16 ∷ [])
+    ∷ (take-least ∷ finish-key 61 ∷ take-least ∷ take-least ∷ insert-key 17 7 ∷ [])
+    ∷ []))
+    (freshWith 3 63 40)
+
+-- D = 2, K = 15, C = 10, so b = 4
+unfoldable pub smaller : List ℕ
+smaller =
+    afterCalls
+    (joined
+    (inserts (1 ∷ 2 ∷ 5 ∷ 6 ∷ 9 ∷ [])
+    ∷ replicate 4 take-least
+    ∷ (sweep-dead ∷ [])
+    ∷ inserts (13 ∷ 12 ∷ [])
+    ∷ (take-least ∷ [])
+    ∷ []))
+    (freshWith 2 15 10)
+
+-- how many cells owe, are live, stand, are free; the position; the first two of the free chain
+abbrev pub figures : List ℕ → List ℕ
+figures ws =
+    length (those (λ x. x .owes) (read ws .row))
+    ∷ length (those (λ x. x .live) (read ws .row))
+    ∷ length (read ws .row)
+    ∷ length (read ws .free)
+    ∷ read ws .position
+    ∷ getD (read ws .free) 0 0
+    ∷ getD (read ws .free) 1 0
+    ∷ []
+
+-- the buffer with word i altered to the next number
+abbrev pub raised : List ℕ → ℕ → List ℕ
+raised ws i = set ws i (getD ws i 0 + 1)
+
+-- the buffer with word i altered to 0; to 1 if it is 0
+abbrev pub lowered : List ℕ → ℕ → List ℕ
+lowered ws i = set ws i (cond (eqb (getD ws i 0) 0) 1 0)
+
+-- Of n words from number i on, how many make no list when altered.
+unfoldable pub refusedFrom : (List ℕ → ℕ → List ℕ) → List ℕ → ℕ → ℕ → ℕ
+refusedFrom alter ws i zero = 0
+refusedFrom alter ws i (suc n) = cond (isList (alter ws i)) (refusedFrom alter ws (suc i) n) (suc (refusedFrom alter ws (suc i) n))
