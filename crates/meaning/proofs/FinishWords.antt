@@ -17,6 +17,7 @@ use Rattle.meaning.specs.Row.{Entry, firstOf, Place, settledLink, betwee
 use Rattle.meaning.specs.State.{State, occurrences}
 use Rattle.meaning.specs.Picture.{picture}
 use Rattle.meaning.specs.Operations.{paid, finished, withRow, placesOf, due}
+use Rattle.meaning.specs.Leaves.{Finished, OwesNothing, OwesSame}
 use Rattle.meaning.specs.Walk.{wordAt, owedAt, lowAt, highAt}
 use Rattle.meaning.specs.Stores.{linkField, finishWords}
 use Rattle.meaning.proofs.Order.{Asc}
@@ -31,7 +32,7 @@ use Rattle.meaning.proofs.SentencesRow.Led.{head, led}
 use Rattle.meaning.proofs.SentencesCells.{placesIn, Placed, placed-has, placed-cell, head-placed, occurs-placed, placed-below, place-owed, place-low, place-high}
 use Rattle.meaning.proofs.SentencesShape.{NextIn, LedIn, placed-ascends, placed-led, place-after}
 use Rattle.meaning.proofs.Changed.{wordsBy, by-coordinate, by-link, placed-word, changed-word, changed-free, changed-header, changed-path}
-use Rattle.meaning.proofs.Stores.{wordIn, picture-exact, words-equal, field-cases, exact-finished, Finished, finishWords-finished, finishWords-none, finishWords-below, Owing, finishWords-debt, finishWords-given, finishWords-cleared, finishWords-cell, finishWords-field, finishWords-before, finishWords-after}
+use Rattle.meaning.proofs.Stores.{wordIn, picture-exact, words-equal, field-cases, exact-finished, finishWords-finished, finishWords-none, finishWords-below, Owing, finishWords-debt, finishWords-given, finishWords-cleared, finishWords-cell, finishWords-field, finishWords-before, finishWords-after}
 
 -- a cell has one place
 placed-once : {s : State} {x : ℕ} {p q : Place} → Placed s x p → Placed s x q → p ≡ q
@@ -373,14 +374,6 @@ module _ {s : State} (v : Sound s) {n : ℕ} {p : Place} (here : Placed s n p) w
         at x j h k (no a) (no c) = other-word x j h k a c
 
 -- Any standing cell
-
--- "A cell that owes nothing has owed, low and high 0."
-abbrev pub OwesNothing : List ℕ → ℕ → Type 0
-OwesNothing ws n = (owedAt ws n ≡ 0) × (lowAt ws n ≡ 0) × (highAt ws n ≡ 0)
-
--- cell x owes in the words us what it owes in ws
-abbrev pub OwesSame : List ℕ → List ℕ → ℕ → Type 0
-OwesSame ws us x = (owedAt us x ≡ owedAt ws x) × (lowAt us x ≡ lowAt ws x) × (highAt us x ≡ highAt ws x)
 
 module _ {s : State} (v : Sound s) {n : ℕ} {p : Place} (here : Placed s n p) where
   place-unowing : p .entry .owes ≡ false → OwesNothing (picture s) n

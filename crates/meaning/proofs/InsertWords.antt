@@ -17,6 +17,7 @@ use Rattle.meaning.specs.Row.{Entry, Place, entryAt}
 use Rattle.meaning.specs.State.{State, occurrences, positionKey}
 use Rattle.meaning.specs.Picture.{path, picture}
 use Rattle.meaning.specs.Operations.{paid, finished, withRow, Slot, newEntry, slotFor, slotOwes, added}
+use Rattle.meaning.specs.Leaves.{Unmoved, OwesNothing, OwesSame, Inserted}
 use Rattle.meaning.specs.Walk.{wordAt, keyAt, valueAt, markAt, owedAt, lowAt, highAt, coordinateAt, linkAt}
 use Rattle.meaning.specs.Stores.{linkField, finishWords, writePath, newWords, insertWords}
 use Rattle.meaning.proofs.Order.{All, and-both, all-map}
@@ -29,7 +30,7 @@ use Rattle.meaning.proofs.KeepsInsert.{added-row, added-position, added
 use Rattle.meaning.proofs.SentencesCells.{Placed, head-placed, placed-below, place-word, place-key, place-value, place-mark, place-owed, place-coordinate, place-link}
 use Rattle.meaning.proofs.Stores.{finishWords-none}
 use Rattle.meaning.proofs.Changed.{path-unmoved}
-use Rattle.meaning.proofs.FinishWords.{finish-words, OwesNothing, OwesSame, finish-own, finish-others, finish-finished, finish-nothing}
+use Rattle.meaning.proofs.FinishWords.{finish-words, finish-own, finish-others, finish-finished, finish-nothing}
 use Rattle.meaning.proofs.InsertLinks.{and-none}
 use Rattle.meaning.proofs.InsertSlot.{slot-changed, slotLinks, slotLinks-none, slotLinks-other, slotLinks-here, placed-occurs, slot-new, slot-parent-placed, slot-apart, slot-next, slot-c-placed, slot-c-apart, slot-shares}
 use Rattle.meaning.proofs.InsertPut.{withNew, newPlace, writeNew, put-new, put-link, put-new-words, put-elsewhere, put-parent, put-words}
@@ -41,39 +42,6 @@ parentPaid s t = withRow s (finished (t .parent) (s .row))
 
 abbrev pub bothPaid : State → Slot → State
 bothPaid s t = withRow (parentPaid s t) (finished (t .c) (finished (t .parent) (s .row)))
-
--- Word j of cell x is none that finishing cell n changes: if n owes, none of its owed, low and high, and no link low to high-1 of n or of
--- its owed cell.
-abbrev pub Unmoved : List ℕ → ℕ → ℕ → ℕ → Type 0
-Unmoved ws n x j =
-    0 < owedAt ws n → (x ≡ n → 3 ≤ j → j < fieldsBeforeCoordinates → ⊥) ×
-    ((d : ℕ) → lowAt ws n ≤ d → d < highAt ws n → j ≡ linkField (getD ws 0 0) d → (x ≡ n → ⊥) × (x ≡ owedAt ws n → ⊥))
-
--- An insert of a key k that does not stand, with value v, into slot t: us are the words ws afterwards.
-pub record Inserted (ws us : List ℕ) (k v : ℕ) (t : Slot) : Type 0 where
-  -- "puts a new cell n in the first free cell"
-  pub free : t .n ≡ getD ws 4 0
-  pub next-free : getD us 4 0 ≡ wordAt ws (t .n) 0
-  pub key : keyAt us (t .n) ≡ k
-  pub value : valueAt us (t .n) ≡ v
-  pub live : markAt us (t .n) ≡ 1
-  pub coordinates : (d : ℕ) → d < getD ws 0 0 → coordinateAt us (t .n) d ≡ coordinate (getD ws 3 0) (getD ws 0 0) k d
-  -- "as link p of its parent"
-  pub parent : linkAt us (t .parent) (t .p) ≡ t .n
-  -- "c becomes link q of n"
-  pub given : (t .c ≡ 0 → ⊥) → linkAt us (t .n) (t .q) ≡ t .c
-  pub other-links : (d : ℕ) → d < getD ws 0 0 → (d ≡ t .q → t .c ≡ 0) → linkAt us (t .n) d ≡ 0
-  -- "If p < q, then n owes: owed c, low p, high q", and only so
-  pub owes : (t .c ≡ 0 → ⊥) → t .p < t .q → (owedAt us (t .n) ≡ t .c) × (lowAt us (t .n) ≡ t .p) × (highAt us (t .n) ≡ t .q)
-  pub owes-nothing : ((t .c ≡ 0 → ⊥) → t .q ≤ t .p) → OwesNothing us (t .n)
-  -- "an insert finishes what the parent owes, then what c owes, and nothing else"
-  pub parent-paid : OwesNothing us (t .parent)
-  pub c-paid : OwesNothing us (t .c)
-  pub others-owe : (x : ℕ) → x < getD ws 2 0 → (x ≡ t .n → ⊥) → (x ≡ t .parent → ⊥) → (x ≡ t .c → ⊥) → OwesSame ws us x
-  -- every other word of the header and of the cells is as before
-  pub header : (i : ℕ) → i < 4 → getD us i 0 ≡ getD ws i 0
-  pub other : (x j : ℕ) → x < getD ws 2 0 → j < cellWords (getD ws 0 0) → (x ≡ t .n → ⊥) → (x ≡ t .parent → j ≡ linkField (getD ws 0 0) (t .p) → ⊥) →
-      Unmoved ws (t .parent) x j → Unmoved ws (t .c) x j → wordAt us x j ≡ wordAt ws x j
 
 finish-unmoved : (s : State) (v : Sound s) (n : ℕ) → 0 < occurrences n (0 ∷ map (λ y. y .cell) (s .row)) → (x j : ℕ) → j < cellWords (s .settings .dimensions) → Unmoved (picture s) n x j →
     wordAt (picture (withRow s (finished n (s .row)))) x j ≡ wordAt (picture s) x j

@@ -1,6 +1,7 @@
 -- The laws of the definitions in specs/, each file beside the definition of the same name.
 pub mod Computing
 pub mod Fourteen
+pub mod Examples
 pub mod AgainstSlips
 pub mod Order
 pub mod Keys
@@ -57,4 +58,5 @@ pub mod BookCalls
 pub mod Book
 pub mod BookPresent
 pub mod Serves
+pub mod Leaves
 pub mod Promises

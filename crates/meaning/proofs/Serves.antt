@@ -65,7 +65,7 @@ new-uses-first s v key value h l a f =
     (e, found, i .n-is)
 
 -- an outcome that is a refusal is not accepted
-refused-not : (o p : Outcome) (n : ℕ) → o ≡ p → p .answered .refusal ≡ suc n → o .answered .refusal ≡ 0 → ⊥
+pub refused-not : (o p : Outcome) (n : ℕ) → o ≡ p → p .answered .refusal ≡ suc n → o .answered .refusal ≡ 0 → ⊥
 refused-not o p n e q z = let t = ap (λ (w : Outcome). w .answered .refusal) e in omega arith
 
 made-uses-first : (s : State) → Sound s → (key value : ℕ) → 1 ≤ key → key ≤ s .settings .largest → entryAt key (s .row) ≡ none → 0 < length (s .free) → UsesFirst (picture s) (insertOut (picture s) key value .words) key

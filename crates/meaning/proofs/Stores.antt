@@ -15,6 +15,7 @@ use borrow.Author.Tests.{eq-eqb, ne-eqb}
 use Rattle.settings.specs.Numbers.{headerWords, fieldsBeforeCoordinates, cellWords, lengthOf}
 use Rattle.meaning.specs.State.{State}
 use Rattle.meaning.specs.Picture.{picture}
+use Rattle.meaning.specs.Leaves.{Finished}
 use Rattle.meaning.specs.Walk.{place, wordAt, owedAt, lowAt, highAt, linkAt}
 use Rattle.meaning.specs.Stores.{store, linkField, moveLinks, clearDebt, finishWords, writePath}
 use Rattle.meaning.proofs.Picture.{picture-length}
@@ -409,21 +410,6 @@ module _ {D C : ℕ} {ws : List ℕ} (exact : Exact D C ws) (n : ℕ) (debt : Ow
   pub finishWords-after : (j : ℕ) → fieldsBeforeCoordinates ≤ j → j < cellWords D → ((i : ℕ) → lowAt ws n ≤ i → i < highAt ws n → j ≡ linkField D i → ⊥) →
       wordIn D (finishWords D ws n) n j ≡ wordIn D ws n j
   finishWords-after j l h other = finishWords-other n j h (λ e m u. omega arith) (λ i m u e. absurd (other i m u e))
-
--- Finishing, in document 01's words: us are the words ws after cell n is finished.
-pub record Finished (ws us : List ℕ) (n : ℕ) : Type 0 where
-  -- "moves those links from c to n"
-  pub given : (d : ℕ) → lowAt ws n ≤ d → d < highAt ws n → linkAt us n d ≡ linkAt ws (owedAt ws n) d
-  -- "puts 0 in c"
-  pub cleared : (d : ℕ) → lowAt ws n ≤ d → d < highAt ws n → linkAt us (owedAt ws n) d ≡ 0
-  -- "and clears the three words"
-  pub owed : owedAt us n ≡ 0
-  pub low : lowAt us n ≡ 0
-  pub high : highAt us n ≡ 0
-  -- and every other word is as before: of header and path, and of every cell
-  pub below : (i : ℕ) → i < headerWords + getD ws 0 0 → getD us i 0 ≡ getD ws i 0
-  pub other : (x j : ℕ) → j < cellWords (getD ws 0 0) → (x ≡ n → 3 ≤ j → j < fieldsBeforeCoordinates → ⊥) →
-      ((d : ℕ) → lowAt ws n ≤ d → d < highAt ws n → j ≡ linkField (getD ws 0 0) d → (x ≡ n → ⊥) × (x ≡ owedAt ws n → ⊥)) → wordAt us x j ≡ wordAt ws x j
 
 -- a word read by the dimensions that the words say
 pub wordAt-in : (D : ℕ) (ws : List ℕ) → getD ws 0 0 ≡ D → (x j : ℕ) → wordAt ws x j ≡ wordIn D ws x j

@@ -13,5 +13,6 @@ pub mod Calls
 pub mod Fourteen
 pub mod Sentences
 pub mod Stores
+pub mod Leaves
 pub mod Book
 pub mod Promises

@@ -16,9 +16,10 @@ use Rattle.meaning.specs.Picture.{firstNumber}
 use Rattle.meaning.specs.Reading.{read, isList}
 use Rattle.meaning.specs.Refusals.{Meets}
 use Rattle.meaning.specs.Rule.{rule}
-use Rattle.meaning.specs.Walk.{keyAt, markAt, walk, walkFrom, ends}
-use Rattle.meaning.specs.Operations.{takeOut, freedBy}
-use Rattle.meaning.specs.Calls.{Call, set-up, insert-key, find-key, sweep-dead, outcome, afterCalls}
+use Rattle.meaning.specs.Walk.{keyAt, markAt, owedAt, lowAt, highAt, walk, walkFrom, ends}
+use Rattle.meaning.specs.Operations.{takeOut, freedBy, slotFor}
+use Rattle.meaning.specs.Leaves.{OwesNothing, OwesSame, Finished, Inserted, Marked}
+use Rattle.meaning.specs.Calls.{Call, set-up, insert-key, find-key, finish-key, take-least, sweep-dead, outcome, afterCalls}
 use Rattle.meaning.specs.Sentences.{agreed, precedes, dimensionsAt, largestAt, countAt, baseAt, AList}
 use Rattle.meaning.specs.Book.{Pair, livePairs, standingKeys, bookOf, bookedAll}
 
@@ -131,6 +132,43 @@ TakesEnd = (ws : List ℕ) → isList ws ≡ true → (takeOut ws .answered .ref
 abbrev pub CallsAreBooked : Type 0
 CallsAreBooked =
     (calls : List Call) (ws : List ℕ) → isList ws ≡ true → bookOf (afterCalls calls ws) ≡ bookedAll calls (length ws) (bookOf ws)
+
+-- 9. What a call leaves alone. A find writes nothing.
+abbrev pub FindWritesNothing : Type 0
+FindWritesNothing = (ws : List ℕ) (key : ℕ) → outcome (find-key key) ws .words ≡ ws
+
+-- A take writes the taken cell's value 0 and mark 2, and the path: "Links are untouched."
+abbrev pub TakeWrites : Type 0
+TakeWrites =
+    (ws : List ℕ) → isList ws ≡ true → outcome take-least ws .answered .refusal ≡ 0
+    → Marked ws (outcome take-least ws .words) (outcome take-least ws .answered .key) 0 2
+
+-- A revived key gets the new value and mark 1, "with no link changed and nothing finished"; and the path.
+abbrev pub ReviveWrites : Type 0
+ReviveWrites =
+    (ws : List ℕ) → isList ws ≡ true → (key value : ℕ) → (entryAt key (read ws .row) ≡ none → ⊥)
+    → outcome (insert-key key value) ws .answered .refusal ≡ 0 → Marked ws (outcome (insert-key key value) ws .words) key value 1
+
+-- An insert of a key that does not stand: the parent, p, c, q and the links moved; every other word of a cell as before.
+abbrev pub InsertWrites : Type 0
+InsertWrites =
+    (ws : List ℕ) → isList ws ≡ true → (key value : ℕ) → entryAt key (read ws .row) ≡ none
+    → outcome (insert-key key value) ws .answered .refusal ≡ 0 → Inserted ws (outcome (insert-key key value) ws .words) key value (slotFor (read ws) key)
+
+-- A finish of a key that stands: its cell's debt is finished and no other.
+pub record Finishes (ws us : List ℕ) (k count : ℕ) : Type 0 where
+  pub cell : ℕ
+  pub same : keyAt ws cell ≡ k
+  pub moved : count ≡ highAt ws cell - lowAt ws cell
+  pub paid : OwesNothing us cell
+  pub others : (x : ℕ) → (x ≡ cell → ⊥) → OwesSame ws us x
+  pub nothing : owedAt ws cell ≡ 0 → us ≡ ws
+  pub finished : 0 < owedAt ws cell → Finished ws us cell
+
+abbrev pub FinishWrites : Type 0
+FinishWrites =
+    (ws : List ℕ) → isList ws ≡ true → (key : ℕ) → outcome (finish-key key) ws .answered .refusal ≡ 0
+    → Finishes ws (outcome (finish-key key) ws .words) key (outcome (finish-key key) ws .answered .count)
 
 -- 10. A cell freed by a sweep serves again: each cell but the head stands or is free, exactly one of the two, in every list;
 abbrev pub EachCellOnce : Type 0

@@ -1,0 +1,60 @@
+-- A list after a few calls, with one debt, a dead key and a position, computed: the premises of the promises are met by it.
+use mathlib.Core.Path.{_≡_, refl}
+use mathlib.Core.Bool.{true}
+use mathlib.Core.List.{List, [], _∷_, map}
+use mathlib.Core.Option.{none}
+use Prim.Native.Nat.{ℕ}
+use native.Mathlib.Omega.{arith}
+use lib.ListN.{replicate}
+use Rattle.settings.specs.Numbers.{lengthOf}
+use Rattle.meaning.specs.Row.{entryAt}
+use Rattle.meaning.specs.State.{positionKey}
+use Rattle.meaning.specs.Reading.{read, isList}
+use Rattle.meaning.specs.Walk.{keyAt, owedAt, walk}
+use Rattle.meaning.specs.Calls.{Call, set-up, insert-key, find-key, finish-key, take-least, sweep-dead, outcome, afterCalls}
+use Rattle.meaning.specs.Promises.{FromFresh, Live}
+use Rattle.meaning.proofs.Computing.{computing}
+
+calls : List Call
+calls = insert-key 2 20 ∷ take-least ∷ insert-key 6 60 ∷ insert-key 5 50 ∷ []
+
+-- D = 2, K = 15, C = 8, so b = 4: key 2 (cell 1) is dead and the position, key 5 (cell 3) owes from key 6 (cell 2)
+pub example : List ℕ
+example = afterCalls calls (outcome (set-up 2 15 8) (replicate (lengthOf 2 8) 0) .words)
+
+pub example-from-fresh : FromFresh example
+unfolding example calls computing
+example-from-fresh = record { D = 2; K = 15; C = 8; lent = replicate (lengthOf 2 8) 0; calls = calls; accepted = refl; words = refl }
+
+pub example-is-list : isList example ≡ true
+unfolding example calls computing
+example-is-list = refl
+
+pub example-owes : owedAt example 3 ≡ 2
+unfolding example calls computing
+example-owes = refl
+
+pub example-position : positionKey (read example) ≡ 2
+unfolding example calls computing
+example-position = refl
+
+pub example-live : Live example 5
+unfolding example calls computing
+example-live = record { cell = 3; within = omega arith; mark = refl; same = refl }
+
+-- each call is accepted: a find that looks, a new key, a dead key again, a finish that moves a link, a take, a sweep
+pub example-answers : map (λ c. outcome c example .answered .refusal) (find-key 5 ∷ insert-key 9 90 ∷ insert-key 2 21 ∷ finish-key 5 ∷ take-least ∷ sweep-dead ∷ []) ≡ replicate 6 0
+unfolding example calls computing
+example-answers = refl
+
+pub example-moved : outcome (finish-key 5) example .answered .count ≡ 1
+unfolding example calls computing
+example-moved = refl
+
+pub example-absent : entryAt 9 (read example .row) ≡ none
+unfolding example calls computing
+example-absent = refl
+
+pub example-walk : map (keyAt example) (walk example 6) ≡ 5 ∷ 6 ∷ []
+unfolding example calls computing
+example-walk = refl
