@@ -1,0 +1,76 @@
+-- The grammar of a line: "`N class unit value`, `F class unit`, `A class unit` (finish), `T`, `S`. One space between fields; decimal, no
+-- leading zeros; at most 64 bytes before the line feed."
+use mathlib.Core.Bool.{Bool, cond, _&&_}
+use mathlib.Core.List.{List, [], _∷_}
+use Prim.Native.Nat.{ℕ, _+_, _*_, _≤_}
+use lib.Dec.{leb}
+use lib.ListN.{length}
+use Rattle.text.specs.Fields.{fieldsOf, decimalFrom, isNumber}
+use Rattle.text.specs.Lines.{mostBytes}
+use Rattle.meaning.specs.Reading.{same}
+use Rattle.lines.specs.declared.Entry.{Entry}
+use Rattle.lines.specs.declared.Kind.{Kind}
+use Rattle.lines.specs.declared.Kind.the-variants.{Insert, Find, Finish, Take, Sweep}
+use Rattle.lines.specs.declared.Parsed.{Parsed}
+use Rattle.lines.specs.declared.Parsed.the-variants.{Readable, Unreadable}
+
+-- "An entry has a class 0 to 15 (0 most urgent) and a unit 1 to 65,535."
+abbrev pub isClass : List ℕ → Bool
+isClass field = isNumber 0 15 field
+
+abbrev pub isUnit : List ℕ → Bool
+isUnit field = isNumber 1 65535 field
+
+-- "values: 32 bits"
+abbrev pub isValue : List ℕ → Bool
+isValue field = isNumber 0 4294967295 field
+
+pub record InRange (e : Entry) : Type 0 where
+  pub class-most : e .class ≤ 15
+  pub unit-least : 1 ≤ e .unit
+  pub unit-most : e .unit ≤ 65535
+
+-- "Its key is class x 65,536 + unit."
+abbrev pub keyOf : Entry → ℕ
+keyOf e = e .class * 65536 + e .unit
+
+abbrev pub entry : List ℕ → List ℕ → Entry
+entry class unit = record { class = decimalFrom 0 class; unit = decimalFrom 0 unit }
+
+abbrev pub readable : Bool → Kind → Parsed
+readable test kind = cond test (Readable (record { kind = kind })) Unreadable
+
+-- after `N`: class, unit, value
+unfoldable pub insertFields : List (List ℕ) → Parsed
+insertFields [] = Unreadable
+insertFields (class ∷ []) = Unreadable
+insertFields (class ∷ unit ∷ []) = Unreadable
+insertFields (class ∷ unit ∷ value ∷ []) =
+    readable (isClass class && (isUnit unit && isValue value)) (Insert (entry class unit) (decimalFrom 0 value))
+insertFields (class ∷ unit ∷ value ∷ further ∷ fields) = Unreadable
+
+-- after `F` and `A`: class, unit
+unfoldable pub entryFields : (Entry → Kind) → List (List ℕ) → Parsed
+entryFields kind [] = Unreadable
+entryFields kind (class ∷ []) = Unreadable
+entryFields kind (class ∷ unit ∷ []) = readable (isClass class && isUnit unit) (kind (entry class unit))
+entryFields kind (class ∷ unit ∷ further ∷ fields) = Unreadable
+
+-- after `T` and `S`: nothing
+unfoldable pub noFields : Kind → List (List ℕ) → Parsed
+noFields kind [] = Readable (record { kind = kind })
+noFields kind (further ∷ fields) = Unreadable
+
+-- the five kinds, by their first field: the letters N, F, A, T, S
+unfoldable pub kindOf : List (List ℕ) → Parsed
+kindOf [] = Unreadable
+kindOf (letter ∷ fields) =
+    cond (same letter (78 ∷ [])) (insertFields fields)
+    (cond (same letter (70 ∷ [])) (entryFields Find fields)
+    (cond (same letter (65 ∷ [])) (entryFields Finish fields)
+    (cond (same letter (84 ∷ [])) (noFields Take fields)
+    (cond (same letter (83 ∷ [])) (noFields Sweep fields) Unreadable))))
+
+-- "an empty or longer line, or a number outside its range .., is answered 10"
+unfoldable pub parsedOf : List ℕ → Parsed
+parsedOf line = cond (leb 1 (length line) && leb (length line) mostBytes) (kindOf (fieldsOf line)) Unreadable

@@ -1,0 +1,217 @@
+// Entries and the lines of the order program. Document 01: "Each line is one of five kinds with its own fields." The fields are read one
+// after the other, each by where the one before it ends: at a space, or with the line.
+ghost use mathlib.Core.Path.{_≡_};
+ghost use mathlib.Core.List.{[], _∷_};
+ghost use Prim.Native.Nat.{_≤_};
+ghost use lib.ListN.{length};
+ghost use Rattle.lines.specs.Grammar.{keyOf, insertFields, entryFields, noFields, kindOf, parsedOf, InRange};
+ghost use Rattle.lines.specs.Answers.{fieldsAfter, NumberAfter, EntryAfter};
+ghost use Rattle.lines.specs.declared.Kind.the-variants.{Find, Finish};
+use text::fields::Numeral;
+
+// "An entry has a class 0 to 15 (0 most urgent) and a unit 1 to 65,535."
+pub struct Entry {
+    pub class: u32,
+    pub unit: u32,
+}
+
+pub enum Kind {
+    // N class unit value
+    Insert(Entry, u32),
+    // F class unit
+    Find(Entry),
+    // A class unit
+    Finish(Entry),
+    // T
+    Take,
+    // S
+    Sweep,
+}
+
+pub struct Line {
+    pub kind: Kind,
+}
+
+// A line read, or the case that document 01 gives number 10.
+pub enum Parsed {
+    Readable(Line),
+    Unreadable,
+}
+
+// A number, and where its field ends; or that the next field is no number in its range, or missing.
+enum NumberRead {
+    Number(u32, usize),
+    NoNumber,
+}
+
+// An entry, and where its second field ends; or that the next two fields are none, or missing.
+enum EntryRead {
+    Fields(Entry, usize),
+    NoEntry,
+}
+
+const LEAST_CLASS: u32 = 0;
+
+const MOST_CLASS: u32 = 15;
+
+const LEAST_UNIT: u32 = 1;
+
+const MOST_UNIT: u32 = 65535;
+
+// "values: 32 bits"
+const LEAST_VALUE: u32 = 0;
+
+const MOST_VALUE: u32 = 4294967295;
+
+const LETTER_N: u8 = 78;
+
+const LETTER_F: u8 = 70;
+
+const LETTER_A: u8 = 65;
+
+const LETTER_T: u8 = 84;
+
+const LETTER_S: u8 = 83;
+
+// Where the first field ends, which is a letter: one byte.
+const LETTER_END: usize = 1;
+
+// "Its key is class x 65,536 + unit."
+pub fn key(e: Entry) -> u32
+    requires { ⌜ InRange e ⌝ }
+    ensures { λ r. ⌜ r ≡ keyOf e ⌝ }
+{
+    e.class * 65536 + e.unit
+}
+
+// The number from `least` to `most` that is the field after the one that ends at `at`.
+fn number_after(line: &[u8], at: usize, least: u32, most: u32) -> NumberRead
+    requires { ⌜ at ≤ length (now line) ⌝ }
+    ensures { λ r. ⌜ NumberAfter (now (line .entry)) at least most r ⌝ }
+{
+    if at == line.len() {
+        return NumberRead::NoNumber;
+    }
+    let start = at + 1;
+    let end = text::fields::field_end(line, start);
+    let numeral = text::fields::number(&line[start..end], least, most);
+    match numeral {
+        Numeral::Value(n) => return NumberRead::Number(n, end),
+        Numeral::Unreadable => return NumberRead::NoNumber,
+    }
+}
+
+// The entry that is the two fields after the one that ends at `at`: the same for a line of insert, find and finish.
+fn entry_after(line: &[u8], at: usize) -> EntryRead
+    requires { ⌜ at ≤ length (now line) ⌝ }
+    ensures { λ r. ⌜ EntryAfter (now (line .entry)) at r ⌝ }
+{
+    let first = number_after(line, at, LEAST_CLASS, MOST_CLASS);
+    match first {
+        NumberRead::Number(class, next) => {
+            let second = number_after(line, next, LEAST_UNIT, MOST_UNIT);
+            match second {
+                NumberRead::Number(unit, end) => {
+                    return EntryRead::Fields(Entry { class, unit }, end);
+                }
+                NumberRead::NoNumber => return EntryRead::NoEntry,
+            }
+        }
+        NumberRead::NoNumber => return EntryRead::NoEntry,
+    }
+}
+
+// A line of this kind, if it ends at `at`: a further field makes it unreadable, be it an empty one, after a space at the end.
+fn ended(line: &[u8], at: usize, kind: Kind) -> Parsed
+    requires { ⌜ at ≤ length (now line) ⌝ }
+    ensures { λ r. ⌜ r ≡ noFields kind (fieldsAfter (now (line .entry)) at) ⌝ }
+{
+    if at < line.len() {
+        return Parsed::Unreadable;
+    }
+    Parsed::Readable(Line { kind })
+}
+
+// After the letter N, which is the line's first byte: class, unit, value.
+fn insert_line(line: &[u8]) -> Parsed
+    requires { ⌜ 1 ≤ length (now line) ⌝ }
+    ensures { λ r. ⌜ r ≡ insertFields (fieldsAfter (now (line .entry)) 1) ⌝ }
+{
+    let first = entry_after(line, LETTER_END);
+    match first {
+        EntryRead::Fields(e, next) => {
+            let third = number_after(line, next, LEAST_VALUE, MOST_VALUE);
+            match third {
+                NumberRead::Number(value, end) => {
+                    return ended(line, end, Kind::Insert(e, value));
+                }
+                NumberRead::NoNumber => return Parsed::Unreadable,
+            }
+        }
+        EntryRead::NoEntry => return Parsed::Unreadable,
+    }
+}
+
+// After the letter F: class, unit.
+fn find_line(line: &[u8]) -> Parsed
+    requires { ⌜ 1 ≤ length (now line) ⌝ }
+    ensures { λ r. ⌜ r ≡ entryFields Find (fieldsAfter (now (line .entry)) 1) ⌝ }
+{
+    let first = entry_after(line, LETTER_END);
+    match first {
+        EntryRead::Fields(e, end) => return ended(line, end, Kind::Find(e)),
+        EntryRead::NoEntry => return Parsed::Unreadable,
+    }
+}
+
+// After the letter A: class, unit.
+fn finish_line(line: &[u8]) -> Parsed
+    requires { ⌜ 1 ≤ length (now line) ⌝ }
+    ensures { λ r. ⌜ r ≡ entryFields Finish (fieldsAfter (now (line .entry)) 1) ⌝ }
+{
+    let first = entry_after(line, LETTER_END);
+    match first {
+        EntryRead::Fields(e, end) => return ended(line, end, Kind::Finish(e)),
+        EntryRead::NoEntry => return Parsed::Unreadable,
+    }
+}
+
+// The line whose first field is this letter.
+fn by_letter(line: &[u8], letter: u8) -> Parsed
+    requires { ⌜ 1 ≤ length (now line) ⌝ }
+    ensures { λ r. ⌜ r ≡ kindOf ((letter ∷ []) ∷ fieldsAfter (now (line .entry)) 1) ⌝ }
+{
+    if letter == LETTER_N {
+        return insert_line(line);
+    }
+    if letter == LETTER_F {
+        return find_line(line);
+    }
+    if letter == LETTER_A {
+        return finish_line(line);
+    }
+    if letter == LETTER_T {
+        return ended(line, LETTER_END, Kind::Take);
+    }
+    if letter == LETTER_S {
+        return ended(line, LETTER_END, Kind::Sweep);
+    }
+    Parsed::Unreadable
+}
+
+// What a line says: every sequence of bytes is one of the five kinds, or unreadable.
+pub fn parse(line: &[u8]) -> Parsed
+    ensures { λ r. ⌜ r ≡ parsedOf (now (line .entry)) ⌝ }
+{
+    if line.len() < 1 {
+        return Parsed::Unreadable;
+    }
+    if text::feed::MOST_BYTES < line.len() {
+        return Parsed::Unreadable;
+    }
+    let end = text::fields::field_end(line, 0);
+    if end != LETTER_END {
+        return Parsed::Unreadable;
+    }
+    by_letter(line, line[0])
+}
