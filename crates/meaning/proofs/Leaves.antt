@@ -12,10 +12,12 @@ use Rattle.meaning.specs.State.{State, occurrences}
 use Rattle.meaning.specs.Picture.{picture, path}
 use Rattle.meaning.specs.Refusals.{Outcome, refused, badKey, keyLive, noFreeCell, nothingLive, keyNotStanding}
 use Rattle.meaning.specs.Walk.{keyAt}
-use Rattle.meaning.specs.Operations.{looked, insertOut, finishOut, takeOut, deadFront, fromLive, taken, revived, slotFor, finished, withRow, due, placesOf, keysAbove}
+use Rattle.meaning.specs.Operations.{looked, insertOut, finishOut, takeOut, sweepOut, deadFront, fromLive, taken, revived, slotFor, finished, withRow, due, placesOf, keysAbove}
 use Rattle.meaning.specs.Calls.{outcome}
-use Rattle.meaning.specs.Leaves.{Inserted, Marked}
-use Rattle.meaning.specs.Promises.{FindWritesNothing, TakeWrites, ReviveWrites, InsertWrites, Finishes, FinishWrites}
+use Rattle.meaning.specs.Leaves.{OwesNothing, Inserted, Marked}
+use Rattle.meaning.specs.SweepStores.{sweepWords}
+use Rattle.meaning.specs.Sentences.{countAt}
+use Rattle.meaning.specs.Promises.{FindWritesNothing, TakeWrites, ReviveWrites, InsertWrites, Finishes, FinishWrites, SweepWrites}
 use Rattle.meaning.proofs.Order.{All}
 use Rattle.meaning.proofs.State.{Sound}
 use Rattle.meaning.proofs.Picture.{path-length}
@@ -28,7 +30,9 @@ use Rattle.meaning.proofs.KeepsInsert.{entry-split}
 use Rattle.meaning.proofs.FinishWords.{finish-moved, finish-own, finish-others, finish-nothing, finish-finished}
 use Rattle.meaning.proofs.TakeWords.{taken-words, revived-words}
 use Rattle.meaning.proofs.InsertWords.{added-inserted}
-use Rattle.meaning.proofs.Outcomes.{on-read-lists, in-range-or-not, find-writes-nothing, take-outcome-none, take-outcome-first, insert-outcome-bad-key, insert-outcome-live, insert-outcome-dead, insert-outcome-full, insert-outcome-new, finish-outcome-bad-key, finish-outcome-absent, finish-outcome-standing}
+use Rattle.meaning.proofs.Outcomes.{on-read-lists, in-range-or-not, find-writes-nothing, take-outcome-none, take-outcome-first, insert-outcome-bad-key, insert-outcome-live, insert-outcome-dead, insert-outcome-full, insert-outcome-new, finish-outcome-bad-key, finish-outcome-absent, finish-outcome-standing, sweep-outcome}
+use Rattle.meaning.proofs.SweepTarget.{sweep-words}
+use Rattle.meaning.proofs.SweepSentences.{swept-owes-nothing}
 use Rattle.meaning.proofs.Serves.{refused-not}
 
 pub find-writes : FindWritesNothing
@@ -148,3 +152,12 @@ finish-writes =
     on-read-lists
     (λ s ws. (key : ℕ) → finishOut ws key .answered .refusal ≡ 0 → Finishes ws (finishOut ws key .words) key (finishOut ws key .answered .count))
     finish-finishes
+
+pub sweep-writes : SweepWrites
+unfolding outcome picture
+sweep-writes =
+    on-read-lists
+    (λ s ws. (sweepOut ws .words ≡ sweepWords ws) × ((x : ℕ) → x < countAt ws → OwesNothing (sweepOut ws .words) x))
+    (λ s v.
+    let o = ap (λ (p : Outcome). p .words) (sweep-outcome s v) in
+    (o ∙ sweep-words s v, λ x h. subst (λ (us : List ℕ). OwesNothing us x) (sym o) (swept-owes-nothing s v x h)))

@@ -39,6 +39,14 @@ pub mod Path
 pub mod PathNext
 pub mod PathTake
 pub mod PathWalk
+pub mod SweepRow
+pub mod SweepStores
+pub mod SweepFinish
+pub mod SweepDrop
+pub mod SweepWords
+pub mod SweepChain
+pub mod SweepTarget
+pub mod SweepSentences
 pub mod SentencesNumbers
 pub mod SentencesRow
 pub mod SentencesCells

@@ -19,14 +19,14 @@ use Rattle.meaning.specs.Rule.{rule}
 use Rattle.meaning.specs.Walk.{keyAt, walk, walkFrom, ends}
 use Rattle.meaning.specs.Sentences.{dimensionsAt, largestAt, baseAt}
 use Rattle.meaning.specs.Book.{standingKeys}
-use Rattle.meaning.specs.Promises.{ListsStayLists, CallsKeepLists, RefusedAltersNothing, Looks, answersLooked, LookedIsWalk, PresentMeansThatKey, TakesInTurn, TakesEnd, CallsAreBooked, FindWritesNothing, TakeWrites, ReviveWrites, InsertWrites, FinishWrites, EachCellOnce, SweptCellsFirst, InsertUsesFirst, SharedMeansLeading, ListMeansSentences, WalkIsRule, WalkBounded, WalkEnds, WalkByKeysAlone, OrderIsLexicographic, OneOutcome}
+use Rattle.meaning.specs.Promises.{ListsStayLists, CallsKeepLists, RefusedAltersNothing, Looks, answersLooked, LookedIsWalk, PresentMeansThatKey, TakesInTurn, TakesEnd, CallsAreBooked, FindWritesNothing, TakeWrites, ReviveWrites, InsertWrites, FinishWrites, SweepWrites, EachCellOnce, SweptCellsFirst, InsertUsesFirst, SharedMeansLeading, ListMeansSentences, WalkIsRule, WalkBounded, WalkEnds, WalkByKeysAlone, OrderIsLexicographic, OneOutcome}
 use Rattle.meaning.proofs.Keys.{shared-agreed, lexicographic, coordinates-determine}
 use Rattle.meaning.proofs.Ascending.{asc-rising, rising-equal}
 use Rattle.meaning.proofs.State.{Sound, base-positive, base-above}
 use Rattle.meaning.proofs.Reading.{list-sound, picture-is-list, read-of-picture}
 use Rattle.meaning.proofs.Outcomes.{on-lists, in-range-or-not, refused-alters-nothing, insert-outcome-bad-key, insert-outcome-live, insert-outcome-dead, insert-outcome-full, insert-outcome-new, find-outcome-bad-key, find-outcome-absent, find-outcome-dead, find-outcome-live}
 use Rattle.meaning.proofs.Book.{calls-keep-lists, lists-stay-lists, calls-are-booked, takes-in-turn, takes-end}
-use Rattle.meaning.proofs.Leaves.{find-writes, take-writes, revive-writes, insert-writes, finish-writes}
+use Rattle.meaning.proofs.Leaves.{find-writes, take-writes, revive-writes, insert-writes, finish-writes, sweep-writes}
 use Rattle.meaning.proofs.Serves.{each-cell-once, swept-cells-first, insert-uses-first}
 use Rattle.meaning.proofs.BookPresent.{present-means-that-key}
 use Rattle.meaning.proofs.Walk.{walk-is-rule, walk-bounded, walk-ends, walk-more, walk-looked}
@@ -195,6 +195,9 @@ insert-writes-so = insert-writes
 
 pub finish-writes-so : FinishWrites
 finish-writes-so = finish-writes
+
+pub sweep-writes-so : SweepWrites
+sweep-writes-so = sweep-writes
 
 pub cells-once : EachCellOnce
 cells-once = each-cell-once

@@ -14,5 +14,6 @@ pub mod Fourteen
 pub mod Sentences
 pub mod Stores
 pub mod Leaves
+pub mod SweepStores
 pub mod Book
 pub mod Promises

@@ -18,6 +18,7 @@ use Rattle.meaning.specs.Refusals.{Meets}
 use Rattle.meaning.specs.Rule.{rule}
 use Rattle.meaning.specs.Walk.{keyAt, markAt, owedAt, lowAt, highAt, walk, walkFrom, ends}
 use Rattle.meaning.specs.Operations.{takeOut, freedBy, slotFor}
+use Rattle.meaning.specs.SweepStores.{sweepWords}
 use Rattle.meaning.specs.Leaves.{OwesNothing, OwesSame, Finished, Inserted, Marked}
 use Rattle.meaning.specs.Calls.{Call, set-up, insert-key, find-key, finish-key, take-least, sweep-dead, outcome, afterCalls}
 use Rattle.meaning.specs.Sentences.{agreed, precedes, dimensionsAt, largestAt, countAt, baseAt, AList}
@@ -169,6 +170,12 @@ abbrev pub FinishWrites : Type 0
 FinishWrites =
     (ws : List ℕ) → isList ws ≡ true → (key : ℕ) → outcome (finish-key key) ws .answered .refusal ≡ 0
     → Finishes ws (outcome (finish-key key) ws .words) key (outcome (finish-key key) ws .answered .count)
+
+-- A sweep writes what specs/SweepStores.antt says, and no cell owes afterwards.
+abbrev pub SweepWrites : Type 0
+SweepWrites =
+    (ws : List ℕ) → isList ws ≡ true
+    → (outcome sweep-dead ws .words ≡ sweepWords ws) × ((x : ℕ) → x < countAt ws → OwesNothing (outcome sweep-dead ws .words) x)
 
 -- 10. A cell freed by a sweep serves again: each cell but the head stands or is free, exactly one of the two, in every list;
 abbrev pub EachCellOnce : Type 0
