@@ -1,0 +1,2 @@
+-- What find answers, by what the search found.
+pub mod Laws

@@ -1,0 +1,36 @@
+// Find: "key, value, looked; writes nothing."
+ghost use mathlib.Core.Path.{_≡_};
+ghost use Rattle.meaning.specs.Reading.{Listed};
+ghost use Rattle.meaning.specs.Refusals.{keyNotLive, answerOf};
+ghost use Rattle.meaning.specs.Operations.{findOut};
+use meaning::Answer;
+use settings::Settings;
+
+// The refusal of a key that is not live.
+fn not_live(key: u32, looked: u32) -> Answer
+    ensures { λ r. ⌜ r ≡ answerOf (keyNotLive key looked) ⌝ }
+{
+    meaning::refused_at(8, key, looked)
+}
+
+// On a list with settings s.
+pub fn find(list: &[u32], s: Settings, key: u32) -> Answer
+    requires { ⌜ Listed (now list) s ⌝ }
+    ensures { λ r. ⌜ r ≡ findOut (now (list .entry)) key .answered ⌝ }
+{
+    if key == 0 {
+        return meaning::refused(4);
+    }
+    if s.largest < key {
+        return meaning::refused(4);
+    }
+    let f = search::search(list, s, key);
+    if !f.standing {
+        return not_live(key, f.looked);
+    }
+    if words::word(list, s, f.c, words::MARK) != 1 {
+        return not_live(key, f.looked);
+    }
+    let value = words::word(list, s, f.c, words::VALUE);
+    meaning::accepted(key, value, f.looked)
+}

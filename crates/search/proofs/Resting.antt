@@ -1,0 +1,212 @@
+-- Where the walk for k rests is what the search answers. For want of a link it rests at k's parent, whose slot is empty. Else its last
+-- move was the parent's link: to k itself, or to the entry of next larger key, which has the slot.
+use mathlib.Core.Path.{_≡_, refl, sym, ap, ap₂, _∙_, subst}
+use mathlib.Core.Bool.{true, false, cond}
+use mathlib.Core.List.{List, [], _∷_, _++_}
+use mathlib.Core.Logic.{_⊎_, inl, inr}
+use mathlib.Core.Option.{none, some}
+use Prim.Native.Nat.{ℕ, _≤_, _<_}
+use native.Mathlib.Omega.{arith}
+use lib.Dec.{eqb}
+use borrow.Author.Tests.{eq-eqb, ne-eqb}
+use Rattle.settings.specs.declared.Settings.{Settings}
+use Rattle.meaning.specs.Keys.{shared}
+use Rattle.meaning.specs.Row.{Entry, headEntry, firstOf, firstSharing, Place, places, placeOf, entryAt}
+use Rattle.meaning.specs.State.{State}
+use Rattle.meaning.specs.Picture.{picture}
+use Rattle.meaning.specs.Reading.{read, Listed}
+use Rattle.meaning.specs.Operations.{looked, settledLinkAt}
+use Rattle.meaning.specs.Walk.{keyAt, rest}
+use Rattle.meaning.specs.declared.Rest.{Rest}
+use Rattle.meaning.proofs.Order.{Asc, all-map}
+use Rattle.meaning.proofs.Keys.{shared-sym, shared-less}
+use Rattle.meaning.proofs.State.{Sound, base-positive}
+use Rattle.meaning.proofs.Cells.{row-range}
+use Rattle.meaning.proofs.Places.{asc-left, lastFrom, dimensionFrom}
+use Rattle.meaning.proofs.Parent.{dimensionAfter, Apart, asc-last, apart-left, apart-before, place-at}
+use Rattle.meaning.proofs.Slot as slot
+use Rattle.meaning.proofs.KeepsInsert.{entry-split, slot-first}
+use Rattle.meaning.proofs.WalkRead.{settled-above}
+use Rattle.meaning.proofs.Walk.{walk-looked}
+use Rattle.meaning.proofs.WalkStop.{rest-looked, Wanting, Moved, rests}
+use Rattle.meaning.proofs.SentencesCells.{placed-entry, placed-below, place-key}
+use Rattle.search.specs.Found.{slotNumber, slotParent, slotShared, slotCell, foundAt, foundOf}
+use Rattle.search.specs.declared.Found.{Found}
+use Rattle.search.proofs.Laws.{on-listed}
+use Rattle.search.proofs.Sides.{Sides, sides-absent, sides-present, slot-at, Hangs, hung-at}
+
+-- What is answered, part by part
+
+absent-is :
+    (s : State) (k : ℕ) {parent p c q n : ℕ} → entryAt k (s .row) ≡ none → parent ≡ slotParent s k → p ≡ slotNumber s k → c ≡ slotCell s k →
+    q ≡ cond (eqb (slotCell s k) 0) 0 (slotShared s k) → n ≡ looked s k →
+    record { standing = false; parent = parent; p = p; c = c; q = q; looked = n } ≡ foundOf s k
+unfolding foundOf foundAt
+absent-is s k absent parent p c q n =
+    _∙_ {A = Found} (λ i. record { standing = false; parent = parent i; p = p i; c = c i; q = q i; looked = n i }) (sym (ap (foundAt s k) absent))
+
+present-is :
+    (s : State) (k : ℕ) {x : Entry} {parent p c q n : ℕ} → entryAt k (s .row) ≡ some x → parent ≡ slotParent s k → p ≡ slotNumber s k → c ≡ x .cell →
+    q ≡ s .settings .dimensions → n ≡ looked s k →
+    record { standing = true; parent = parent; p = p; c = c; q = q; looked = n } ≡ foundOf s k
+unfolding foundOf foundAt
+present-is s k present parent p c q n =
+    _∙_ {A = Found} (λ i. record { standing = true; parent = parent i; p = p i; c = c i; q = q i; looked = n i }) (sym (ap (foundAt s k) present))
+
+-- the entry of next larger key, where its cell is the one that has the slot
+next-is :
+    (b D k d : ℕ) (pre post : List Entry) (to : Place) → Apart (headEntry ∷ (pre ++ post)) → 0 < to .entry .cell → slot.slotCell b D k d post ≡ to .entry .cell →
+    placeOf (to .entry .cell) (places b D (pre ++ post)) ≡ some to → firstOf post .key ≡ to .entry .key
+unfolding places
+next-is b D k d pre [] to o nz c found = absurd (omega arith)
+next-is b D k d pre (x ∷ post) to o nz c found =
+    let here : to .entry .cell ≡ x .cell = sym c ∙ slot-first b D k d (x ∷ post) (λ e. omega arith) .1 in
+    let at = place-at b D headEntry 0 headEntry 0 pre x post (apart-before (headEntry ∷ pre) x post o) in
+    let same : to ≡ record { entry = x; dimension = dimensionAfter b D headEntry pre (x .key); before = lastFrom headEntry pre; beforeDimension = dimensionFrom b D headEntry 0 pre; later = post } = cc in
+    ap (λ p. p .entry .key) (sym same)
+
+module _ (s : State) (v : Sound s) (k : ℕ) (least : 1 ≤ k) (most : k ≤ s .settings .largest) where
+  -- the cell in the slot, where k does not stand: where the parent's link leads
+  slot-leads : (absent : entryAt k (s .row) ≡ none) (p : Place) → placeOf (p .entry .cell) (places (s .settings .base) (s .settings .dimensions) (s .row)) ≡ some p →
+      Hangs (s .settings .base) (s .settings .dimensions) k p →
+      slotCell s k ≡ firstSharing (s .settings .base) (s .settings .dimensions) (p .entry .key) (shared (s .settings .base) (s .settings .dimensions) (p .entry .key) k) (p .later)
+  unfolding settledLinkAt
+  slot-leads absent p found h =
+      let b = s .settings .base in
+      let D = s .settings .dimensions in
+      let g = slot.gap k 0 (s .row) (v .ascends) absent in
+      let sides = sides-absent g in
+      let is = hung-at s v k least sides p found h in
+      let a : Asc 0 (g .pre ++ g .post) = subst (Asc 0) (g .splits) (v .ascends) in
+      let o : Apart (headEntry ∷ (g .pre ++ g .post)) = subst (λ r. Apart (headEntry ∷ r)) (g .splits) (slot.sound-apart s v) in
+      slot-at s v k least sides .cell
+      ∙ sym
+      (slot.slot-c b D (base-positive s v) (slot.dimensions-positive s v) k (g .pre) (g .post) least (asc-left 0 (g .pre) (g .post) a)
+      (apart-left (headEntry ∷ g .pre) (g .post) o) (g .below)
+      (slot.gap-above k (lastFrom headEntry (g .pre) .key) (g .post) (asc-last headEntry (g .pre) (g .post) a) (g .above)))
+      ∙ ap₂ (λ d c. settledLinkAt b D d (placeOf c (places b D (g .pre ++ g .post)))) (is .0) (is .1)
+      ∙ ap (settledLinkAt b D (shared b D (p .entry .key) k)) (subst (λ r. placeOf (p .entry .cell) (places b D r) ≡ some p) (g .splits) found)
+      ∙ settled-above b D p (shared b D (p .entry .key) k) (h .dimension)
+
+  -- parent and number of a slot, where k would hang from place p
+  hangs-parent : {pre middle post : List Entry} → Sides k (s .row) pre middle post → (p : Place) →
+      placeOf (p .entry .cell) (places (s .settings .base) (s .settings .dimensions) (s .row)) ≡ some p → Hangs (s .settings .base) (s .settings .dimensions) k p →
+      (p .entry .cell ≡ slotParent s k) × (shared (s .settings .base) (s .settings .dimensions) (p .entry .key) k ≡ slotNumber s k)
+  hangs-parent sides p found h =
+      let t = slot-at s v k least sides in
+      let is = hung-at s v k least sides p found h in
+      (sym (t .parent ∙ is .1), sym (t .number ∙ is .0))
+
+  module _ (r : Rest) (is : r ≡ rest (picture s) k) where
+    looked-is : r .looked ≡ looked s k
+    looked-is = ap (λ t. t .looked) is ∙ rest-looked (picture s) k ∙ walk-looked s v k least most
+
+    -- for want of a link
+    wanting-found : Wanting (s .settings .base) (s .settings .dimensions) k (s .row) r →
+        record { standing = false; parent = r .at; p = r .coordinate; c = 0; q = 0; looked = r .looked } ≡ foundOf s k
+    wanting-found w =
+        let h : Hangs (s .settings .base) (s .settings .dimensions) k (w .place) =
+        record { below = w .parent .below; dimension = w .parent .dimension; between = all-map (λ y f l. f (omega arith)) (w .place .later) (w .parent .between) } in
+        let t = hangs-parent (sides-absent (slot.gap k 0 (s .row) (v .ascends) (w .absent))) (w .place) (w .found) h in
+        let empty : slotCell s k ≡ 0 = slot-leads (w .absent) (w .place) (w .found) h ∙ w .leads in
+        absent-is s k (w .absent) (w .at ∙ t .0) (w .coordinate ∙ t .1) (sym empty) (rw (eq-eqb (slotCell s k) 0 empty) refl) looked-is
+
+    -- after a last move
+    moved-hangs : (m : Moved (s .settings .base) (s .settings .dimensions) k (s .row) r) → Hangs (s .settings .base) (s .settings .dimensions) k (m .place)
+    moved-hangs m =
+        record { below = m .below; dimension = m .dimension; between = all-map (λ y f l. f (let h = m .reached in omega arith)) (m .place .later) (m .passed) }
+
+    moved-present : (m : Moved (s .settings .base) (s .settings .dimensions) k (s .row) r) → m .to .entry .key ≡ k →
+        record { standing = true; parent = r .from; p = r .number; c = r .at; q = s .settings .dimensions; looked = r .looked } ≡ foundOf s k
+    moved-present m e =
+        let split = entry-split k (m .to .entry) (s .row) (m .present e) in
+        let t = hangs-parent (sides-present (split .0) (m .to .entry) (split .1) (v .ascends) e (split .2)) (m .place) (m .found) (moved-hangs m) in
+        present-is s k (m .present e) (m .from ∙ t .0) (m .number ∙ t .1) (m .at) refl looked-is
+
+    moved-absent : (m : Moved (s .settings .base) (s .settings .dimensions) k (s .row) r) → k < m .to .entry .key →
+        record { standing = false; parent = r .from; p = r .number; c = r .at; q = r .coordinate; looked = r .looked } ≡ foundOf s k
+    moved-absent m above =
+        let b = s .settings .base in
+        let D = s .settings .dimensions in
+        let absent = m .absent above in
+        let g = slot.gap k 0 (s .row) (v .ascends) absent in
+        let sides = sides-absent g in
+        let t = hangs-parent sides (m .place) (m .found) (moved-hangs m) in
+        let is = slot-at s v k least sides in
+        let held : slotCell s k ≡ m .to .entry .cell = slot-leads absent (m .place) (m .found) (moved-hangs m) ∙ m .leads in
+        let other : 0 < m .to .entry .cell =
+        placed-entry {s = s} (record { found = m .to-found }) (λ y. 0 < y .key → 0 < y .cell) (λ h. h) (all-map (λ y h n. h .0) (s .row) (row-range s v)) (omega arith) in
+        let next : firstOf (g .post) .key ≡ m .to .entry .key =
+        next-is b D k (dimensionAfter b D headEntry (g .pre) k) (g .pre) (g .post) (m .to)
+        (subst (λ r. Apart (headEntry ∷ r)) (g .splits) (slot.sound-apart s v)) other (sym (is .cell) ∙ held)
+        (subst (λ r. placeOf (m .to .entry .cell) (places b D r) ≡ some (m .to)) (g .splits) (m .to-found)) in
+        let some-c : slotCell s k ≡ 0 → ⊥ = (λ e. omega arith) in
+        let less = shared-less b D (m .to .entry .key) k (slot.dimensions-positive s v) (omega arith) in
+        let shares : slotShared s k ≡ shared b D (m .to .entry .key) k = is .shares ∙ ap (shared b D k) next ∙ shared-sym b D k (m .to .entry .key) in
+        let q : r .coordinate ≡ slotShared s k = (let c = m .coordinate in omega arith) in
+        absent-is s k absent (m .from ∙ t .0) (m .number ∙ t .1) (m .at ∙ sym held) (rw (ne-eqb (slotCell s k) 0 some-c) q) looked-is
+
+    -- which of the three it is, by the key of the cell at hand
+
+    rested : Wanting (s .settings .base) (s .settings .dimensions) k (s .row) r ⊎ Moved (s .settings .base) (s .settings .dimensions) k (s .row) r
+    rested = subst (λ t. Wanting (s .settings .base) (s .settings .dimensions) k (s .row) t ⊎ Moved (s .settings .base) (s .settings .dimensions) k (s .row) t) (sym is) (rests s v k least most)
+
+    wanting-key : (w : Wanting (s .settings .base) (s .settings .dimensions) k (s .row) r) → keyAt (picture s) (r .at) ≡ w .place .entry .key
+    wanting-key w = ap (keyAt (picture s)) (w .at) ∙ place-key v {x = w .place .entry .cell} (record { found = w .found })
+
+    moved-key : (m : Moved (s .settings .base) (s .settings .dimensions) k (s .row) r) → keyAt (picture s) (r .at) ≡ m .to .entry .key
+    moved-key m = ap (keyAt (picture s)) (m .at) ∙ place-key v {x = m .to .entry .cell} (record { found = m .to-found })
+
+    pub rest-below : keyAt (picture s) (r .at) < k → record { standing = false; parent = r .at; p = r .coordinate; c = 0; q = 0; looked = r .looked } ≡ foundOf s k
+    rest-below h = at rested
+      where
+        at : Wanting (s .settings .base) (s .settings .dimensions) k (s .row) r ⊎ Moved (s .settings .base) (s .settings .dimensions) k (s .row) r →
+            record { standing = false; parent = r .at; p = r .coordinate; c = 0; q = 0; looked = r .looked } ≡ foundOf s k
+        at (inl w) = wanting-found w
+        at (inr m) = absurd (omega (arith, moved-key m, m .reached))
+
+    pub rest-above : k < keyAt (picture s) (r .at) → record { standing = false; parent = r .from; p = r .number; c = r .at; q = r .coordinate; looked = r .looked } ≡ foundOf s k
+    rest-above h = at rested
+      where
+        at : Wanting (s .settings .base) (s .settings .dimensions) k (s .row) r ⊎ Moved (s .settings .base) (s .settings .dimensions) k (s .row) r →
+            record { standing = false; parent = r .from; p = r .number; c = r .at; q = r .coordinate; looked = r .looked } ≡ foundOf s k
+        at (inl w) = absurd (omega (arith, wanting-key w, w .parent .below))
+        at (inr m) = moved-absent m (omega (arith, moved-key m))
+
+    pub rest-here : keyAt (picture s) (r .at) ≡ k →
+        record { standing = true; parent = r .from; p = r .number; c = r .at; q = s .settings .dimensions; looked = r .looked } ≡ foundOf s k
+    rest-here h = at rested
+      where
+        at : Wanting (s .settings .base) (s .settings .dimensions) k (s .row) r ⊎ Moved (s .settings .base) (s .settings .dimensions) k (s .row) r →
+            record { standing = true; parent = r .from; p = r .number; c = r .at; q = s .settings .dimensions; looked = r .looked } ≡ foundOf s k
+        at (inl w) = absurd (omega (arith, wanting-key w, w .parent .below))
+        at (inr m) = moved-present m (omega (arith, moved-key m))
+
+    -- it is a cell of the list
+    pub rest-cell : r .at < s .settings .cells
+    rest-cell = at rested
+      where
+        at : Wanting (s .settings .base) (s .settings .dimensions) k (s .row) r ⊎ Moved (s .settings .base) (s .settings .dimensions) k (s .row) r → r .at < s .settings .cells
+        at (inl w) = omega (arith, w .at, placed-below v {x = w .place .entry .cell} (record { found = w .found }))
+        at (inr m) = omega (arith, m .at, placed-below v {x = m .to .entry .cell} (record { found = m .to-found }))
+
+-- On a list, as the code has it: r is where the walk rests, and `key` the key of the cell at hand
+
+module _ {ws : List ℕ} {s : Settings} (h : Listed ws s) (k : ℕ) (least : 1 ≤ k) (most : k ≤ s .largest) {r : Rest} (is : r ≡ rest ws k) where
+  pub found-below : {key : ℕ} → key ≡ keyAt ws (r .at) → key < k → record { standing = false; parent = r .at; p = r .coordinate; c = 0; q = 0; looked = r .looked } ≡ foundOf (read ws) k
+  found-below e l =
+      on-listed (λ t ws u. k ≤ u .largest → r ≡ rest ws k → keyAt ws (r .at) < k → record { standing = false; parent = r .at; p = r .coordinate; c = 0; q = 0; looked = r .looked } ≡ foundOf t k)
+      (λ t v m q. rest-below t v k least m r q) h most is (omega arith)
+
+  pub found-above : {key : ℕ} → key ≡ keyAt ws (r .at) → k < key → record { standing = false; parent = r .from; p = r .number; c = r .at; q = r .coordinate; looked = r .looked } ≡ foundOf (read ws) k
+  found-above e l =
+      on-listed (λ t ws u. k ≤ u .largest → r ≡ rest ws k → k < keyAt ws (r .at) → record { standing = false; parent = r .from; p = r .number; c = r .at; q = r .coordinate; looked = r .looked } ≡ foundOf t k)
+      (λ t v m q. rest-above t v k least m r q) h most is (omega arith)
+
+  pub found-here : {key : ℕ} → key ≡ keyAt ws (r .at) → key ≡ k → record { standing = true; parent = r .from; p = r .number; c = r .at; q = s .dimensions; looked = r .looked } ≡ foundOf (read ws) k
+  found-here e l =
+      on-listed (λ t ws u. k ≤ u .largest → r ≡ rest ws k → keyAt ws (r .at) ≡ k → record { standing = true; parent = r .from; p = r .number; c = r .at; q = u .dimensions; looked = r .looked } ≡ foundOf t k)
+      (λ t v m q. rest-here t v k least m r q) h most is (omega arith)
+
+  pub found-cell : r .at < s .cells
+  found-cell = on-listed (λ t ws u. k ≤ u .largest → r ≡ rest ws k → r .at < u .cells) (λ t v m q. rest-cell t v k least m r q) h most is

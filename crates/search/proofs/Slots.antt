@@ -1,0 +1,229 @@
+-- What the search answers of a key, for insert and finish. Of one that stands: its entry's cell and that cell's parent in the settled
+-- shape. Of one that does not: the slot in which an insert puts it. Either way the cells named are standing ones.
+use mathlib.Core.Path.{_≡_, refl, sym, ap, _∙_, subst}
+use mathlib.Core.Bool.{true, false, cond, false≢true}
+use mathlib.Core.List.{List, [], _∷_, _++_, map}
+use mathlib.Core.Option.{Option, none, some}
+use Prim.Native.Nat.{ℕ, suc, _≤_, _<_}
+use native.Mathlib.Decide.{ℕ-discrete}
+use native.Mathlib.Omega.{arith}
+use lib.Dec.{eqb, ltb}
+use lib.ListN.{length}
+use borrow.Author.Tests.{eq-eqb, ne-eqb, le-ltb}
+use Rattle.meaning.specs.Row.{Entry, headEntry, Place, places, placeOf, entryAt}
+use Rattle.meaning.specs.State.{State, occurrences}
+use Rattle.meaning.specs.Operations.{looked, parentIn, revivedEntry, Slot, slotFor, slotOwes}
+use Rattle.meaning.proofs.Order.{All, Asc, all-left, all-right}
+use Rattle.meaning.proofs.Keys.{shared-less}
+use Rattle.meaning.proofs.State.{Sound, base-positive}
+use Rattle.meaning.proofs.Cells.{all-of-map}
+use Rattle.meaning.proofs.Places.{all-splits, occurrences-between, lastFrom, onCell}
+use Rattle.meaning.proofs.Parent.{dimensionAfter, parentAfter, Apart, all-last, apart-before, place-at, first-among, parent-is}
+use Rattle.meaning.proofs.Slot as slot
+use Rattle.meaning.proofs.KeepsInsert.{entry-split, slot-first, revived-parent}
+use Rattle.meaning.proofs.SentencesCells.{Placed, occurs-placed, placed-below}
+use Rattle.meaning.proofs.BookRow.{entry-key, entry-has}
+use Rattle.search.specs.Found.{slotNumber, slotParent, slotShared, slotCell, foundAt, foundOf}
+use Rattle.search.specs.declared.Found.{Found}
+use Rattle.search.proofs.Sides.{Sides, sides-absent, sides-present, last-below, SlotAt, slot-at}
+
+-- Standing cells
+
+-- the head or a cell of the row
+abbrev pub Stands : State → ℕ → Type 0
+Stands s c = 0 < occurrences c (0 ∷ map (λ x. x .cell) (s .row))
+
+pub all-stand : (s : State) → Stands s 0 × All (λ x. Stands s (x .cell)) (s .row)
+all-stand s =
+    let cells : List ℕ = 0 ∷ map (λ x. x .cell) (s .row) in
+    let all = all-splits (λ c. 0 < occurrences c cells) cells (λ front c later e. let n = ap (occurrences c) e in omega (arith, n, occurrences-between c front later)) in
+    (all .0, all-of-map (λ c. 0 < occurrences c cells) (λ x. x .cell) (s .row) (all .1))
+
+pub stands-below : {s : State} → Sound s → (c : ℕ) → Stands s c → c < s .settings .cells
+stands-below {s} v c h = placed-below v (occurs-placed s c h .1)
+
+-- the place of the entry with a key
+pub entry-placed : {s : State} → Sound s → (k : ℕ) (x : Entry) → entryAt k (s .row) ≡ some x → (p : Place) × (Placed s (x .cell) p × (p .entry ≡ x))
+unfolding places
+entry-placed {s} v k x e =
+    let b = s .settings .base in
+    let D = s .settings .dimensions in
+    let split = entry-split k x (s .row) e in
+    let pre = split .0 in
+    let post = split .1 in
+    let o = apart-before (headEntry ∷ pre) x post (subst (λ r. Apart (headEntry ∷ r)) (split .2) (slot.sound-apart s v)) in
+    let found = place-at b D headEntry 0 headEntry 0 pre x post o in
+    (_, (record { found = ap (λ r. placeOf (x .cell) (places b D r)) (split .2) ∙ found }, refl))
+
+-- What is answered
+
+-- of a key that stands, with entry x
+pub record Present (s : State) (k : ℕ) (x : Entry) (f : Found) : Type 0 where
+  pub entry : entryAt k (s .row) ≡ some x
+  pub standing : f .standing ≡ true
+  pub c : f .c ≡ x .cell
+  pub parent : f .parent ≡ parentIn s (x .cell) (s .row)
+  pub parent-revived : (value : ℕ) → f .parent ≡ parentIn s (x .cell) (map (onCell (x .cell) (revivedEntry value)) (s .row))
+  pub looked : f .looked ≡ looked s k
+  pub parent-stands : Stands s (f .parent)
+  pub c-stands : Stands s (f .c)
+  pub parent-below : f .parent < s .settings .cells
+  pub c-below : f .c < s .settings .cells
+  pub p-below : f .p < s .settings .dimensions
+
+-- of a key that does not; c is 0, and with it q, where no cell has the slot
+pub record Absent (s : State) (k : ℕ) (f : Found) : Type 0 where
+  pub entry : entryAt k (s .row) ≡ none
+  pub standing : f .standing ≡ false
+  pub looked : f .looked ≡ looked s k
+  pub parent-stands : Stands s (f .parent)
+  pub c-stands : Stands s (f .c)
+  pub parent-below : f .parent < s .settings .cells
+  pub c-below : f .c < s .settings .cells
+  pub p-below : f .p < s .settings .dimensions
+  pub q-below : f .q < s .settings .dimensions
+  pub q-none : f .c ≡ 0 → f .q ≡ 0
+
+-- the answer f is the slot t
+pub record SlotFound (f : Found) (t : Slot) : Type 0 where
+  pub parent : f .parent ≡ t .parent
+  pub p : f .p ≡ t .p
+  pub c : f .c ≡ t .c
+  pub q : (f .c ≡ 0 → ⊥) → f .q ≡ t .q
+  pub q-none : f .c ≡ 0 → f .q ≡ 0
+  pub owes : slotOwes t ≡ ltb (f .p) (f .q)
+
+module _ (s : State) (v : Sound s) (k : ℕ) (least : 1 ≤ k) where
+  -- parent and number, of either
+  parent-stands : {pre middle post : List Entry} → Sides k (s .row) pre middle post → Stands s (slotParent s k)
+  parent-stands {pre} {middle} {post} g =
+      let b = s .settings .base in
+      let D = s .settings .dimensions in
+      let all = all-stand s in
+      rw (slot-at s v k least g .parent)
+      (first-among b D (Stands s) (lastFrom headEntry pre .key) (suc (dimensionAfter b D headEntry pre k)) headEntry pre
+      (last-below b D k pre (slot.dimensions-positive s v) least (g .below)) (all .0)
+      (all-left (λ x. Stands s (x .cell)) pre (middle ++ post) (subst (All (λ x. Stands s (x .cell))) (g .splits) (all .1))))
+
+  number-below : {pre middle post : List Entry} → Sides k (s .row) pre middle post → slotNumber s k < s .settings .dimensions
+  number-below {pre} g =
+      let b = s .settings .base in
+      let D = s .settings .dimensions in
+      let low : lastFrom headEntry pre .key < k = all-last (λ z. z .key < k) headEntry pre least (g .below) in
+      omega (arith, slot-at s v k least g .number, shared-less b D (lastFrom headEntry pre .key) k (slot.dimensions-positive s v) (omega arith))
+
+  -- what has the slot, where k does not stand: the entry of next larger key, if any
+  slot-holds : (pre post : List Entry) → SlotAt s k pre post → All (λ y. k < y .key) post → All (λ x. Stands s (x .cell)) post → Dec (slotCell s k ≡ 0) →
+      Stands s (slotCell s k) × (cond (eqb (slotCell s k) 0) 0 (slotShared s k) < s .settings .dimensions)
+  slot-holds pre post t above all (yes e) =
+      (subst (Stands s) (sym e) (all-stand s .0), rw (eq-eqb (slotCell s k) 0 e) (slot.dimensions-positive s v))
+  slot-holds pre [] t above all (no ne) = absurd (ne (t .cell))
+  slot-holds pre (x ∷ post) t above all (no ne) =
+      let b = s .settings .base in
+      let D = s .settings .dimensions in
+      let h = above .0 in
+      let less = shared-less b D k (x .key) (slot.dimensions-positive s v) (omega arith) in (
+        subst (Stands s) (sym (t .cell ∙ slot-first b D k (dimensionAfter b D headEntry pre k) (x ∷ post) (λ e. ne (t .cell ∙ e)) .1)) (all .0),
+        rw (ne-eqb (slotCell s k) 0 ne, t .shares) less,
+      )
+
+  pub present-at : (x : Entry) → entryAt k (s .row) ≡ some x → Present s k x (foundAt s k (some x))
+  unfolding foundAt
+  present-at x e =
+      let split = entry-split k x (s .row) e in
+      let pre = split .0 in
+      let post = split .1 in
+      let key = entry-key k x (s .row) e in
+      let g = sides-present pre x post (v .ascends) key (split .2) in
+      let parent = slot-at s v k least g .parent ∙ ap (parentAfter (s .settings .base) (s .settings .dimensions) headEntry pre) (sym key) in
+      let stands = parent-stands g in
+      let c-stands = entry-has (λ y. Stands s (y .cell)) k x (s .row) e (all-stand s .1) in
+      record {
+        entry = e;
+        standing = refl;
+        c = refl;
+        parent =
+            parent
+            ∙ sym
+            (ap (parentIn s (x .cell)) (split .2)
+            ∙ parent-is s pre x post (base-positive s v) (slot.dimensions-positive s v) (subst (Asc 0) (split .2) (v .ascends))
+            (subst (λ r. Apart (headEntry ∷ r)) (split .2) (slot.sound-apart s v)));
+        parent-revived = λ value. parent ∙ sym (revived-parent s x value v pre post (split .2));
+        looked = refl;
+        parent-stands = stands;
+        c-stands = c-stands;
+        parent-below = stands-below v (slotParent s k) stands;
+        c-below = stands-below v (x .cell) c-stands;
+        p-below = number-below g;
+      }
+
+  pub absent-at : entryAt k (s .row) ≡ none → Absent s k (foundAt s k none)
+  unfolding foundAt
+  absent-at e =
+      let gap = slot.gap k 0 (s .row) (v .ascends) e in
+      let g = sides-absent gap in
+      let t = slot-at s v k least g in
+      let stands = parent-stands g in
+      let all = all-right (λ x. Stands s (x .cell)) (gap .pre) (gap .post) (subst (All (λ x. Stands s (x .cell))) (gap .splits) (all-stand s .1)) in
+      let held = slot-holds (gap .pre) (gap .post) t (gap .above) all (ℕ-discrete (slotCell s k) 0) in
+      record {
+        entry = e;
+        standing = refl;
+        looked = refl;
+        parent-stands = stands;
+        c-stands = held .0;
+        parent-below = stands-below v (slotParent s k) stands;
+        c-below = stands-below v (slotCell s k) (held .0);
+        p-below = number-below g;
+        q-below = held .1;
+        q-none = λ z. rw (eq-eqb (slotCell s k) 0 z) refl;
+      }
+
+  -- the slot in which an insert puts the key
+  pub slot-at-absent : entryAt k (s .row) ≡ none → 0 < length (s .free) → SlotFound (foundAt s k none) (slotFor s k)
+  unfolding foundAt
+  slot-at-absent e room =
+      let gap = slot.gap k 0 (s .row) (v .ascends) e in
+      let t = slot-at s v k least (sides-absent gap) in
+      let is = slot.slot-is s v k least gap room in
+      let p : slotNumber s k ≡ slotFor s k .p = t .number ∙ sym (is .p-is) in
+      let c : slotCell s k ≡ slotFor s k .c = t .cell ∙ sym (is .c-is) in
+      let q : (slotCell s k ≡ 0 → ⊥) → slotShared s k ≡ slotFor s k .q = (λ ne. t .shares ∙ sym (is .q-is (λ z. ne (c ∙ z)))) in
+      record {
+        parent = t .parent ∙ sym (is .parent-is);
+        p = p;
+        c = c;
+        q = λ ne. rw (ne-eqb (slotCell s k) 0 ne) (q ne);
+        q-none = λ z. rw (eq-eqb (slotCell s k) 0 z) refl;
+        owes = owes (ℕ-discrete (slotCell s k) 0) p c q;
+      }
+    where
+      owes : Dec (slotCell s k ≡ 0) → slotNumber s k ≡ slotFor s k .p → slotCell s k ≡ slotFor s k .c → ((slotCell s k ≡ 0 → ⊥) → slotShared s k ≡ slotFor s k .q) →
+          slotOwes (slotFor s k) ≡ ltb (slotNumber s k) (cond (eqb (slotCell s k) 0) 0 (slotShared s k))
+      owes (yes z) p c q = rw (← c, eq-eqb (slotCell s k) 0 z, le-ltb (slotNumber s k) 0 (omega arith)) refl
+      owes (no ne) p c q = rw (← c, ← p, ← q ne, ne-eqb (slotCell s k) 0 ne) refl
+
+-- the same of an answer of the search, by whether the key stands
+
+module _ {s : State} (v : Sound s) {k : ℕ} (least : 1 ≤ k) {f : Found} (is : f ≡ foundOf s k) where
+  pub found-standing : f .standing ≡ true → (x : Entry) × Present s k x f
+  unfolding foundOf foundAt
+  found-standing t = at (entryAt k (s .row)) refl
+    where
+      at : (o : Option Entry) → entryAt k (s .row) ≡ o → (x : Entry) × Present s k x f
+      at none e = absurd (let q : f ≡ foundAt s k none = is ∙ ap (foundAt s k) e in let z : false ≡ true = sym (ap (λ g. g .standing) q) ∙ t in false≢true z)
+      at (some x) e = (x, subst (Present s k x) (sym (is ∙ ap (foundAt s k) e)) (present-at s v k least x e))
+
+  pub found-missing : f .standing ≡ false → Absent s k f
+  unfolding foundOf foundAt
+  found-missing t = at (entryAt k (s .row)) refl
+    where
+      at : (o : Option Entry) → entryAt k (s .row) ≡ o → Absent s k f
+      at none e = subst (Absent s k) (sym (is ∙ ap (foundAt s k) e)) (absent-at s v k least e)
+      at (some x) e = absurd (let q : f ≡ foundAt s k (some x) = is ∙ ap (foundAt s k) e in let z : false ≡ true = sym t ∙ ap (λ g. g .standing) q in false≢true z)
+
+  pub found-slot : f .standing ≡ false → 0 < length (s .free) → SlotFound f (slotFor s k)
+  unfolding foundOf
+  found-slot t room =
+      let e = found-missing t .entry in
+      subst (λ g. SlotFound g (slotFor s k)) (sym (is ∙ ap (foundAt s k) e)) (slot-at-absent s v k least e room)

@@ -1,0 +1,86 @@
+-- `search::rest_of` meets its contract: from wherever it has come to, the walk rests where it did from the head. The measure is the number of
+-- steps that the walk still makes.
+use native.Mathlib.Omega.{arith}
+use borrow.Author.Needs.{needs}
+use Rattle.search.proofs.Steps.{stepsLeft}
+use Rattle.search.proofs.Laws.{listed-shaped, listed-owed, enough, Walking, walking-start, looked-fits, walking-go, walking-up, walking-end, left-go, left-up}
+use Rattle.search.proofs.rest_of.Statement.{statement}
+use Rattle.search.proofs.rest_of.Tie as tie
+
+abbrev Inv-loop : tie.InvT-loop
+Inv-loop list s sought k from₀ number₀ at₀ d₀ looked₀ from number at d looked = Walking list s k from number at d looked
+
+abbrev μ-loop : tie.MeasureT-loop
+μ-loop list s sought k from₀ number₀ at₀ d₀ looked₀ from number at d looked = stepsLeft (enough list) list k at d
+
+loop-holds : tie.Need-loop-holds Inv-loop μ-loop
+loop-holds c =
+    let s = c .before .before in
+    walking-start (s .pre .0) (s .args .k) (s .pre .1 .0) (s .pre .1 .1 .0)
+
+step-requires : tie.Need-step-requires Inv-loop μ-loop
+step-requires c κs =
+    let s = c .before .before .before in
+    let w = c .loop .inv in
+    (listed-shaped (s .pre .0), (s .pre .1 .1 .1, (w .cell, (w .inside, listed-owed (s .pre .0) (c .loop .at) (w .cell)))))
+
+enum-known-next : tie.Need-enum-known-next Inv-loop μ-loop
+enum-known-next c = search needs
+
+add-looked : tie.Need-add-looked Inv-loop μ-loop
+add-looked c =
+    let s = c .before .before .before .before .before .before .before in
+    omega (arith, looked-fits (s .pre .0) (c .before .before .before .before .loop .inv) (s .pre .1 .0) (s .pre .1 .1 .0))
+
+loop-less : tie.Need-loop-less Inv-loop μ-loop
+loop-less c =
+    let s = c .before .before .before .before .before .before .before in
+    left-go (s .pre .0) (c .before .before .before .before .loop .inv) (c .before .before .before .step .ensures) (c .before .next .given .1)
+
+loop-again : tie.Need-loop-again Inv-loop μ-loop
+loop-again c =
+    let s = c .before .before .before .before .before .before .before in
+    walking-go (s .pre .0) (c .before .before .before .before .loop .inv) (c .before .before .before .step .ensures) (c .before .next .given .1)
+
+enum-told : tie.Need-enum-told Inv-loop μ-loop
+enum-told c = search needs
+
+add-d : tie.Need-add-d Inv-loop μ-loop
+add-d c = search needs
+
+loop-less-2 : tie.Need-loop-less-2 Inv-loop μ-loop
+loop-less-2 c =
+    let s = c .before .before .before .before .before .before in
+    left-up (s .pre .0) (c .before .before .before .loop .inv) (c .before .before .step .ensures) (c .enum-told .given .1)
+
+loop-again-2 : tie.Need-loop-again-2 Inv-loop μ-loop
+loop-again-2 c =
+    let s = c .before .before .before .before .before .before in
+    walking-up (s .pre .0) (c .before .before .before .loop .inv) (c .before .before .step .ensures) (c .enum-told .given .1)
+
+enum-told-2 : tie.Need-enum-told-2 Inv-loop μ-loop
+enum-told-2 c = search needs
+
+returns : tie.Need-returns Inv-loop μ-loop
+returns c =
+    let s = c .before .before .before .before .before .before in
+    walking-end (s .pre .0) (c .before .before .before .loop .inv) (c .before .before .step .ensures) (c .enum-told2 .given .1)
+
+pub rest-of-spec : {M : Type 1} → statement M
+rest-of-spec =
+    tie.close
+    (tie.spec
+    Inv-loop
+    μ-loop
+    loop-holds
+    step-requires
+    enum-known-next
+    add-looked
+    loop-less
+    loop-again
+    enum-told
+    add-d
+    loop-less-2
+    loop-again-2
+    enum-told-2
+    returns)

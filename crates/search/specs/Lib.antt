@@ -1,0 +1,2 @@
+-- What the search knows when the walk has come to rest.
+pub mod Found
