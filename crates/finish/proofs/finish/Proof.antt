@@ -1,0 +1,137 @@
+-- `finish::finish` meets its contract: the key and what the search found decide the way out, and each has the outcome of the definition;
+-- the way out with refusal 9 is never gone, since on a list a cell owed from stands.
+use mathlib.Core.Path.{ap₂}
+use Prim.Native.Nat.{_-_, _≤_, _<_}
+use native.Mathlib.Omega.{arith}
+use borrow.Author.Needs.{needs}
+use borrow.Author.Tests.{not-true, not-false}
+use Rattle.words.proofs.Laws.{field-within}
+use Rattle.search.proofs.Laws.{listed-shaped}
+use Rattle.finish.proofs.Debts.{listed-payable, listed-low}
+use Rattle.finish.proofs.Call.{bad-key-meets, absent-meets, standing-cell, never-meets, standing-meets}
+use Rattle.finish.proofs.finish.Statement.{statement}
+use Rattle.finish.proofs.finish.Tie as tie
+
+-- the key that is searched for
+asked : (c : tie.Else2) → let a = c .before .before .before .before .args in (1 ≤ a .key) × (a .key ≤ a .s .largest)
+asked c = (omega arith, omega arith)
+
+-- its cell, where it stands
+cell : (c : tie.Else3) → c .before .before .search .result .c < c .before .before .before .before .before .before .before .before .args .s .cells
+cell c =
+    let s = c .before .before .before .before .before .before .before .before in
+    let f = c .before .before .search in
+    let k = asked (c .before .before .before .before) in
+    standing-cell (s .pre) (s .args .key) (k .0) (k .1) (f .ensures) (not-false (f .result .standing) (c .if3 .left))
+
+refused-requires : tie.Need-refused-requires
+refused-requires c κs = search needs
+
+returns : tie.Need-returns
+returns c =
+    let s = c .before .before .before in
+    bad-key-meets (s .pre) (s .args .key) (λ least. omega arith) (c .refused .ensures)
+
+refused-requires-2 : tie.Need-refused-requires-2
+refused-requires-2 c κs = search needs
+
+returns-2 : tie.Need-returns-2
+returns-2 c =
+    let s = c .before .before .before .before .before in
+    bad-key-meets (s .pre) (s .args .key) (λ least. omega arith) (c .refused2 .ensures)
+
+search-requires : tie.Need-search-requires
+search-requires c κs = search needs
+
+refused-at-requires : tie.Need-refused-at-requires
+refused-at-requires c κs = search needs
+
+same-length : tie.Need-same-length
+same-length c = search needs
+
+returns-3 : tie.Need-returns-3
+returns-3 c =
+    let s = c .before .before .before .before .before .before .before .before .before in
+    let f = c .before .before .before .search in
+    let k = asked (c .before .before .before .before .before) in
+    absent-meets (s .pre) (s .args .key) (k .0) (k .1) (f .ensures) (not-true (f .result .standing) (c .before .if3 .taken))
+    (c .refused-at .ensures)
+
+owes-from-free-requires : tie.Need-owes-from-free-requires
+owes-from-free-requires c κs =
+    let e = c .before in
+    (listed-shaped (e .before .before .before .before .before .before .before .before .pre), cell e)
+
+refused-requires-3 : tie.Need-refused-requires-3
+refused-requires-3 c κs = search needs
+
+same-length-2 : tie.Need-same-length-2
+same-length-2 c = search needs
+
+returns-4 : tie.Need-returns-4
+returns-4 c =
+    let s = c .before .before .before .before .before .before .before .before .before .before .before .before in
+    let f = c .before .before .before .before .before .before .search in
+    never-meets (s .pre) (s .args .key) (f .result .c) (c .before .before .owes-from-free .ensures) (c .before .if4 .taken)
+
+word-requires : tie.Need-word-requires
+word-requires c κs =
+    let e = c .before .before .before .before in
+    (listed-shaped (e .before .before .before .before .before .before .before .before .pre), field-within (cell e) (omega arith))
+
+word-requires-2 : tie.Need-word-requires-2
+word-requires-2 c κs =
+    let e = c .before .before .before .before .before .before in
+    (listed-shaped (e .before .before .before .before .before .before .before .before .pre), field-within (cell e) (omega arith))
+
+sub-moved : tie.Need-sub-moved
+sub-moved c =
+    let e = c .before .before .before .before .before .before .before in
+    omega (arith, listed-low (e .before .before .before .before .before .before .before .before .pre) (e .before .before .search .result .c) (cell e))
+
+finish-cell-requires : tie.Need-finish-cell-requires
+finish-cell-requires c κs =
+    let e = c .before .before .before .before .before .before .before .before in
+    let h = e .before .before .before .before .before .before .before .before .pre in
+    (listed-shaped h, listed-payable h (e .before .before .search .result .c) (cell e))
+
+accepted-requires : tie.Need-accepted-requires
+accepted-requires c κs = search needs
+
+same-length-3 : tie.Need-same-length-3
+same-length-3 c = search needs
+
+returns-5 : tie.Need-returns-5
+returns-5 c =
+    let e = c .before .before .before .before .before .before .before .before .before .before .before .before in
+    let s = e .before .before .before .before .before .before .before .before in
+    let f = e .before .before .search in
+    let k = asked (e .before .before .before .before) in
+    let high = c .before .before .before .before .before .before .before .word .ensures in
+    let low = c .before .before .before .before .before .word2 .ensures in
+    standing-meets (s .pre) (s .args .key) (k .0) (k .1) (f .ensures) (not-false (f .result .standing) (e .if3 .left))
+    (ap₂ (λ m n. m - n) high low) (c .before .before .before .finish-cell .ensures .0) (c .accepted .ensures)
+
+pub finish-spec : {M : Type 1} → statement M
+finish-spec =
+    tie.close
+    (tie.spec
+    refused-requires
+    returns
+    refused-requires-2
+    returns-2
+    search-requires
+    refused-at-requires
+    same-length
+    returns-3
+    owes-from-free-requires
+    refused-requires-3
+    same-length-2
+    returns-4
+    word-requires
+    word-requires-2
+    sub-moved
+    finish-cell-requires
+    accepted-requires
+    same-length-3
+    returns-5)

@@ -1,0 +1,85 @@
+-- `finish::move_links` meets its contract: what is left to move from link d on, in the list as it stands, gives the same words as the whole
+-- move in the list of the call.
+use mathlib.Core.Path.{_≡_, refl, sym, _∙_}
+use Prim.Native.Nat.{_-_}
+use native.Mathlib.Omega.{arith}
+use lib.ListN.{length}
+use borrow.Author.Needs.{needs}
+use Rattle.meaning.specs.Stores.{moveLinks}
+use Rattle.words.specs.Shaped.{Shaped}
+use Rattle.finish.proofs.Laws.{move-more, move-all}
+use Rattle.finish.proofs.move_links.Statement.{statement}
+use Rattle.finish.proofs.move_links.Tie as tie
+
+abbrev Inv-loop : tie.InvT-loop
+Inv-loop list₀ s n c low high first d₀ list d =
+    Shaped list s
+    × ((length list ≡ length list₀)
+    × (moveLinks (s .dimensions) list₀ n c low (high - low) ≡ moveLinks (s .dimensions) list n c d (high - d)))
+
+abbrev μ-loop : tie.MeasureT-loop
+μ-loop list₀ s n c low high first d₀ list d = high - d
+
+add-first : tie.Need-add-first Inv-loop μ-loop
+add-first c = search needs
+
+loop-holds : tie.Need-loop-holds Inv-loop μ-loop
+loop-holds c = (c .before .before .pre .0, (refl, refl))
+
+link-requires : tie.Need-link-requires Inv-loop μ-loop
+link-requires c κs = search needs
+
+add-store : tie.Need-add-store Inv-loop μ-loop
+add-store c = search needs
+
+store-requires : tie.Need-store-requires Inv-loop μ-loop
+store-requires c κs = search needs
+
+add-store-2 : tie.Need-add-store-2 Inv-loop μ-loop
+add-store-2 c = search needs
+
+store-requires-2 : tie.Need-store-requires-2 Inv-loop μ-loop
+store-requires-2 c κs = search needs
+
+add-d : tie.Need-add-d Inv-loop μ-loop
+add-d c = search needs
+
+loop-less : tie.Need-loop-less Inv-loop μ-loop
+loop-less c = search needs
+
+loop-again : tie.Need-loop-again Inv-loop μ-loop
+loop-again c =
+    let v = c .before .before .before .before .before .before .before .before .before .before .before .loop in
+    let a = c .before .before .before .before .before .before .before .before .before .before .before .before .before .before .args in
+    let second = c .before .before .store2 .ensures in
+    let first = c .before .before .before .before .before .before .store .ensures in
+    let y = c .before .before .before .before .before .before .before .before .link .ensures in
+    (second .1, (search needs, v .inv .1 .1 ∙ rw (second .0, first .0) (move-more (v .inv .0) (a .n) (a .c) (v .d) (omega arith) y)))
+
+same-length : tie.Need-same-length Inv-loop μ-loop
+same-length c = search needs
+
+returns : tie.Need-returns Inv-loop μ-loop
+returns c =
+    let v = c .before .loop in
+    let a = c .before .before .before .before .args in
+    (sym (v .inv .1 .1 ∙ move-all (a .s .dimensions) (v .list) (a .n) (a .c) (v .d) (omega arith)), v .inv .0)
+
+pub move-links-spec : {M : Type 1} → statement M
+move-links-spec =
+    tie.close
+    (tie.spec
+    Inv-loop
+    μ-loop
+    add-first
+    loop-holds
+    link-requires
+    add-store
+    store-requires
+    add-store-2
+    store-requires-2
+    add-d
+    loop-less
+    loop-again
+    same-length
+    returns)

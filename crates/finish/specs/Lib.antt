@@ -1,0 +1,2 @@
+-- What finishing asks of the cell whose debt is finished.
+pub mod Payable

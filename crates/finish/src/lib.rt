@@ -1,0 +1,89 @@
+// Finish: what a cell owes is moved to it. "Finishing moves those links from c to n, puts 0 in c and clears the three words."
+ghost use mathlib.Core.Path.{_≡_};
+ghost use Prim.Native.Nat.{_-_, _≤_, _<_};
+ghost use Rattle.meaning.specs.Reading.{Listed};
+ghost use Rattle.meaning.specs.Refusals.{Meets};
+ghost use Rattle.meaning.specs.Operations.{owesFromFree, finishOut};
+ghost use Rattle.meaning.specs.Stores.{moveLinks, clearDebt, finishWords};
+ghost use Rattle.words.specs.Shaped.{Shaped};
+ghost use Rattle.finish.specs.Payable.{Payable};
+use meaning::Answer;
+use settings::Settings;
+
+// Refusal 9's test: whether cell x owes from a cell that is not standing. A number past the last cell is no standing cell.
+pub fn owes_from_free(list: &[u32], s: Settings, x: u32) -> bool
+    requires { ⌜ Shaped (now list) s × (x < s .cells) ⌝ }
+    ensures { λ r. ⌜ r ≡ owesFromFree (now (list .entry)) x ⌝ }
+{
+    let owed = words::word(list, s, x, words::OWED);
+    if owed == 0 {
+        return false;
+    }
+    if s.cells <= owed {
+        return true;
+    }
+    words::word(list, s, owed, words::MARK) == 0
+}
+
+// Links low to high-1 move from cell c to cell n.
+fn move_links(list: &mut [u32], s: Settings, n: u32, c: u32, low: u32, high: u32)
+    requires { ⌜ Shaped (now list) s × ((n < s .cells) × ((c < s .cells) × (high ≤ s .dimensions))) ⌝ }
+    ensures { λ r. ⌜ (now (list .exit) ≡ moveLinks (s .dimensions) (now (list .entry)) n c low (high - low)) × Shaped (now (list .exit)) s ⌝ }
+{
+    let first = words::COORDINATES + s.dimensions;
+    let mut d = low;
+    while d < high {
+        let y = words::link(list, s, c, d);
+        words::store(list, s, n, first + d, y);
+        words::store(list, s, c, first + d, 0);
+        d += 1;
+    }
+}
+
+// Owed, low and high of cell n become 0.
+fn clear_debt(list: &mut [u32], s: Settings, n: u32)
+    requires { ⌜ Shaped (now list) s × (n < s .cells) ⌝ }
+    ensures { λ r. ⌜ (now (list .exit) ≡ clearDebt (s .dimensions) (now (list .entry)) n) × Shaped (now (list .exit)) s ⌝ }
+{
+    words::store(list, s, n, words::OWED, 0);
+    words::store(list, s, n, words::LOW, 0);
+    words::store(list, s, n, words::HIGH, 0);
+}
+
+// What cell n owes is finished.
+pub fn finish_cell(list: &mut [u32], s: Settings, n: u32)
+    requires { ⌜ Shaped (now list) s × Payable (now list) s n ⌝ }
+    ensures { λ r. ⌜ (now (list .exit) ≡ finishWords (s .dimensions) (now (list .entry)) n) × Shaped (now (list .exit)) s ⌝ }
+{
+    let owed = words::word(list, s, n, words::OWED);
+    if owed == 0 {
+        return;
+    }
+    let low = words::word(list, s, n, words::LOW);
+    let high = words::word(list, s, n, words::HIGH);
+    move_links(list, s, n, owed, low, high);
+    clear_debt(list, s, n);
+}
+
+// On a list with settings s: "key, 0, number of links moved".
+pub fn finish(list: &mut [u32], s: Settings, key: u32) -> Answer
+    requires { ⌜ Listed (now list) s ⌝ }
+    ensures { λ r. ⌜ Meets (finishOut (now (list .entry)) key) r (now (list .exit)) ⌝ }
+{
+    if key == 0 {
+        return meaning::refused(4);
+    }
+    if s.largest < key {
+        return meaning::refused(4);
+    }
+    let f = search::search(list, s, key);
+    if !f.standing {
+        return meaning::refused_at(8, key, 0);
+    }
+    if owes_from_free(list, s, f.c) {
+        return meaning::refused(9);
+    }
+    let moved = words::word(list, s, f.c, words::HIGH) - words::word(list, s, f.c, words::LOW);
+    finish_cell(list, s, f.c);
+    meaning::accepted(key, 0, moved)
+}
