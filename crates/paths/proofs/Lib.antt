@@ -1,0 +1,6 @@
+-- What goes from cell to cell on the words of a list, and what such words give.
+pub mod Laws
+pub mod Steps
+pub mod Alike
+pub mod Listed
+pub mod Ways

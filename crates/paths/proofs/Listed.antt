@@ -1,0 +1,164 @@
+-- What a list gives to whoever goes from cell to cell on its words: they are the picture of a state in order, so every cell that they name
+-- is one of the list's, walks end, and the walk for a standing key builds the path of its cell. It is so too where the words of path
+-- are not yet those of the state.
+use mathlib.Core.Path.{_≡_, refl, sym, ap, _∙_, subst, subst₂}
+use mathlib.Core.Bool.{true}
+use mathlib.Core.List.{List, _∷_, map}
+use Prim.Native.Nat.{ℕ, _≤_, _<_}
+use native.Mathlib.Omega.{arith}
+use lib.ListN.{getD, replicate}
+use Rattle.settings.specs.declared.Settings.{Settings}
+use Rattle.meaning.specs.Row.{headEntry, Place}
+use Rattle.meaning.specs.State.{State, keyOf, occurrences}
+use Rattle.meaning.specs.Picture.{path, picture}
+use Rattle.meaning.specs.Reading.{settingsAt, read, Listed}
+use Rattle.meaning.specs.Walk.{keyAt, ends}
+use Rattle.meaning.specs.Paths.{pathFor, pathAlong}
+use Rattle.meaning.specs.Stores.{writePath}
+use Rattle.meaning.proofs.Order.{all-map, asc-above}
+use Rattle.meaning.proofs.State.{Sound, valid-sound, sound-valid, base-positive}
+use Rattle.meaning.proofs.Picture.{picture-length, path-length}
+use Rattle.meaning.proofs.Reading.{list-is-picture, list-sound}
+use Rattle.meaning.proofs.Walk.{walk-ends}
+use Rattle.meaning.proofs.WalkRead.{dimensions-read}
+use Rattle.meaning.proofs.Stores.{path-sets-header}
+use Rattle.meaning.proofs.Changed.{path-rewritten}
+use Rattle.meaning.proofs.SentencesCells.{Placed, placed-entry, placed-cell, placed-keyOf, placed-below, place-key, occurs-placed}
+use Rattle.meaning.proofs.PathWithin.{owed-within, linkRead-within}
+use Rattle.meaning.proofs.Path.{path-is, path-head}
+use Rattle.meaning.proofs.PathWalk.{path-of-cell}
+use Rattle.words.specs.Shaped.{Shaped}
+use Rattle.paths.specs.declared.Path.{Path}
+use Rattle.paths.specs.Paths.{pathOf, Formed, Walkable, StandsIn, CellPath}
+use Rattle.paths.proofs.Steps.{enough}
+use Rattle.paths.proofs.Alike.{Alike, path-alike, alike-walkable, alike-ends, alike-along}
+
+-- The picture of a state in order
+
+pub picture-shaped : (t : State) → Sound t → Shaped (picture t) (t .settings)
+picture-shaped t v =
+    record {
+      header = header;
+      long = picture-length t;
+      dimensions-least = v .dimensions-least;
+      dimensions-most = v .dimensions-most;
+      cells-most = v .cells-most;
+    }
+  where
+    header : settingsAt (picture t) ≡ t .settings
+    header = unfold picture in refl
+
+pub picture-walkable : (t : State) → Sound t → Walkable (picture t) (t .settings)
+picture-walkable t v =
+    record { shaped = picture-shaped t v; head = omega (arith, v .cells-least); owed = owed-within t v; links = linkRead-within t v }
+
+-- A list
+
+-- its words are the picture of the state that they hold, which is in order
+pub record Pictured (ws : List ℕ) (s : Settings) : Type 0 where
+  pub pictured : picture (read ws) ≡ ws
+  pub sound : Sound (read ws)
+  pub settings : read ws .settings ≡ s
+
+pub listed-picture : {ws : List ℕ} {s : Settings} → Listed ws s → Pictured ws s
+unfolding read
+listed-picture {ws} h = record { pictured = list-is-picture ws (h .list); sound = list-sound ws (h .list); settings = h .settings }
+
+-- what holds of each state in order, its picture and its settings holds of a list
+pub on-listed :
+    (P : State → List ℕ → Settings → Type 0) → ((t : State) → Sound t → P t (picture t) (t .settings)) → {ws : List ℕ} {s : Settings} →
+    Listed ws s → P (read ws) ws s
+on-listed P f {ws} h = let p = listed-picture h in subst₂ (P (read ws)) (p .pictured) (p .settings) (f (read ws) (p .sound))
+
+pub listed-shaped : {ws : List ℕ} {s : Settings} → Listed ws s → Shaped ws s
+listed-shaped = on-listed (λ t ws s. Shaped ws s) picture-shaped
+
+pub listed-walkable : {ws : List ℕ} {s : Settings} → Listed ws s → Walkable ws s
+listed-walkable = on-listed (λ t ws s. Walkable ws s) picture-walkable
+
+-- a standing cell of a list, for `path_of`
+pub listed-stands :
+    {ws : List ℕ} {s : Settings} → Listed ws s → (x : ℕ) → 0 < occurrences x (0 ∷ map (λ y. y .cell) (read ws .row)) →
+    StandsIn ws s x (read ws)
+listed-stands h x stands =
+    on-listed (λ t ws s. 0 < occurrences x (0 ∷ map (λ y. y .cell) (t .row)) → StandsIn ws s x t)
+    (λ t v o. record { order = sound-valid t v; settings = refl; words = sym (path-rewritten t); stands = o }) h stands
+
+-- A standing cell, the words of path apart
+
+module _ {ws : List ℕ} {s : Settings} {x : ℕ} {t : State} (h : StandsIn ws s x t) where
+  pub stands-sound : Sound t
+  stands-sound = valid-sound t (h .order)
+
+  stands-alike : Alike ws (picture t)
+  stands-alike =
+      let first : getD ws 0 0 ≡ t .settings .dimensions =
+      sym (path-sets-header ws (path t) 0 (omega arith)) ∙ ap (λ l. getD l 0 0) (sym (h .words)) ∙ dimensions-read t
+      in
+      subst (Alike ws) (sym (h .words)) (path-alike ws (path t) (path-length t ∙ sym first))
+
+  pub stands-walkable : Walkable ws s
+  stands-walkable = alike-walkable stands-alike (subst (Walkable (picture t)) (h .settings) (picture-walkable t stands-sound))
+
+  stands-placed : (p : Place) × Placed t x p
+  stands-placed = occurs-placed t x (h .stands)
+
+  pub stands-base : 0 < s .base
+  stands-base = subst (λ u. 0 < u .base) (h .settings) (base-positive t stands-sound)
+
+  pub stands-below : x < s .cells
+  stands-below = subst (λ u. x < u .cells) (h .settings) (placed-below stands-sound (stands-placed .1))
+
+  -- the head's path
+  stands-head : x ≡ 0 → replicate (s .dimensions) 0 ≡ pathFor (s .base) (s .dimensions) (t .row) (keyOf x (headEntry ∷ t .row))
+  unfolding keyOf
+  stands-head e =
+      sym (path-head (s .base) (s .dimensions) (t .row)) ∙ ap (λ c. pathFor (s .base) (s .dimensions) (t .row) (keyOf c (headEntry ∷ t .row))) (sym e)
+
+  module _ (other : x ≡ 0 → ⊥) {k : ℕ} (key : k ≡ keyAt ws x) where
+    key-is : k ≡ stands-placed .0 .entry .key
+    key-is = key ∙ stands-alike .cells x 0 ∙ place-key stands-sound (stands-placed .1)
+
+    -- the walk for the cell's key ends, ..
+    pub stands-ends : ends (enough s) ws k 0 0 ≡ true
+    stands-ends =
+        let v = stands-sound in
+        let here = stands-placed .1 in
+        let own = placed-cell here in
+        let above = placed-entry here (λ y. 0 < y .cell → 0 < y .key) (λ l. l) (all-map (λ y l c. l) (t .row) (asc-above 0 (t .row) (v .ascends))) (omega arith) in
+        let most = placed-entry here (λ y. y .key ≤ t .settings .largest) (omega arith) (v .keys) in
+        alike-ends stands-alike (enough s) k 0 0
+        ∙ subst (λ u. ends (enough u) (picture t) k 0 0 ≡ true) (h .settings) (walk-ends t v k (omega (arith, key-is)) (omega (arith, key-is)))
+
+    -- .. and builds its path
+    stands-path :
+        pathAlong (enough s) ws k (replicate (s .dimensions) 0) 0 0 ≡ pathFor (s .base) (s .dimensions) (t .row) (keyOf x (headEntry ∷ t .row))
+    stands-path =
+        let here = stands-placed .1 in
+        let walked = path-of-cell stands-sound here (omega arith) in
+        let same : keyOf x (headEntry ∷ t .row) ≡ k = placed-keyOf here ∙ sym key-is in
+        alike-along stands-alike (enough s) k (replicate (s .dimensions) 0) 0 0
+        ∙ subst (λ u. pathAlong (enough u) (picture t) k (replicate (u .dimensions) 0) 0 0 ≡ pathFor (u .base) (u .dimensions) (t .row) k) (h .settings)
+        (rw key-is walked)
+        ∙ ap (pathFor (s .base) (s .dimensions) (t .row)) (sym same)
+
+-- what `path_of` answers for the head, and for another cell
+
+pub cell-path-head :
+    (ws : List ℕ) {s : Settings} {x : ℕ} {r : Path} → x ≡ 0 → Formed (s .dimensions) r → pathOf r ≡ replicate (s .dimensions) 0 → CellPath ws s x r
+cell-path-head ws e f is = record { is = λ t h. is ∙ stands-head h e; formed = f }
+
+pub cell-path-other :
+    (ws : List ℕ) {s : Settings} {x : ℕ} {r : Path} {k : ℕ} → (x ≡ 0 → ⊥) → k ≡ keyAt ws x → Formed (s .dimensions) r →
+    pathOf r ≡ pathAlong (enough s) ws k (replicate (s .dimensions) 0) 0 0 → CellPath ws s x r
+cell-path-other ws other key f is = record { is = λ t h. is ∙ stands-path h other key; formed = f }
+
+-- written as the path of a state's position, it makes the words the picture of the state
+pub path-drawn :
+    {ws : List ℕ} {s : Settings} {x : ℕ} {t : State} {r : Path} → StandsIn ws s x t → x ≡ t .position → CellPath ws s x r →
+    writePath ws (pathOf r) ≡ picture t
+path-drawn {ws} {s} {x} {t} h e p =
+    let own : pathFor (s .base) (s .dimensions) (t .row) (keyOf x (headEntry ∷ t .row)) ≡ path t =
+    rw (← h .settings, e) (sym (path-is t))
+    in
+    ap (writePath ws) (p .is t h ∙ own) ∙ sym (h .words)

@@ -1,0 +1,154 @@
+// Paths: "path word d is the least-key standing cell sharing the first d+1 coordinates" with a cell. The path of the position as the
+// words have it, the path of any standing cell, and the next standing cell in key order from a path (000's deletion stack).
+ghost use mathlib.Core.Path.{_≡_};
+ghost use mathlib.Core.Bool.{true};
+ghost use Prim.Native.Nat.{_*_, _≤_, _<_};
+ghost use lib.ListN.{getD, take, drop, replicate};
+ghost use Rattle.settings.specs.Numbers.{headerWords, mostDimensions};
+ghost use Rattle.meaning.specs.Keys.{coordinates};
+ghost use Rattle.meaning.specs.Walk.{owedAt, linkRead, ends};
+ghost use Rattle.meaning.specs.Paths.{pathAlong};
+ghost use Rattle.meaning.specs.Paths as along;
+ghost use Rattle.meaning.specs.Stores.{writePath};
+ghost use Rattle.words.specs.Shaped.{Shaped};
+ghost use Rattle.paths.specs.Paths.{pathOf, Formed, PathIn, Walkable, NextIs, Standing, CellPath};
+use meaning::Step;
+use settings::Settings;
+
+// Sixteen cell numbers, of which the first `used`, one for each dimension, are the path.
+pub struct Path {
+    pub cells: [u32; 16],
+    pub used: u32,
+}
+
+// The next standing cell in key order, the number of the link that leads to it, and its path; cell 0 where there is none.
+pub struct Reached {
+    pub cell: u32,
+    pub number: u32,
+    pub path: Path,
+}
+
+// The head's path.
+pub fn head_path(s: Settings) -> Path
+    requires { ⌜ s .dimensions ≤ mostDimensions ⌝ }
+    ensures { λ r. ⌜ (pathOf r ≡ replicate (s .dimensions) 0) × Formed (s .dimensions) r ⌝ }
+{
+    Path {
+        cells: [0u32; 16],
+        used: s.dimensions,
+    }
+}
+
+// The path with cell y from word d on.
+pub fn onward(path: Path, d: u32, y: u32) -> Path
+    requires { ⌜ Formed (path .used) path × (d ≤ path .used) ⌝ }
+    ensures { λ r. ⌜ (pathOf r ≡ along.onward (path .used) (pathOf path) d y) × Formed (path .used) r ⌝ }
+{
+    let mut next = path;
+    let mut i = d as usize;
+    while i < path.used as usize {
+        next.cells[i] = y;
+        i += 1;
+    }
+    next
+}
+
+// The position's path, as the words have it.
+pub fn read_path(list: &[u32], s: Settings) -> Path
+    requires { ⌜ Shaped (now list) s ⌝ }
+    ensures { λ r. ⌜ (pathOf r ≡ take (s .dimensions) (drop headerWords (now (list .entry)))) × Formed (s .dimensions) r ⌝ }
+{
+    let mut path = head_path(s);
+    let mut i: usize = 0;
+    while i < s.dimensions as usize {
+        path.cells[i] = list[5 + i];
+        i += 1;
+    }
+    path
+}
+
+// The D words of path become a path's cells.
+pub fn write_path(list: &mut [u32], s: Settings, path: Path)
+    requires { ⌜ Shaped (now list) s × Formed (s .dimensions) path ⌝ }
+    ensures { λ r. ⌜ (now (list .exit) ≡ writePath (now (list .entry)) (pathOf path)) × Shaped (now (list .exit)) s ⌝ }
+{
+    let mut i: usize = 0;
+    while i < s.dimensions as usize {
+        list[5 + i] = path.cells[i];
+        i += 1;
+    }
+}
+
+// The path of the standing cell with key k, along the walk for k; `sought` holds k's coordinates.
+fn path_along(list: &[u32], s: Settings, sought: &[u32], k: u32) -> Path
+    requires { ⌜ Walkable (now list) s × ((now sought ≡ coordinates (s .base) (s .dimensions) k) × (ends (s .dimensions * s .base) (now list) k 0 0 ≡ true)) ⌝ }
+    ensures { λ r. ⌜ (pathOf r ≡ pathAlong (s .dimensions * s .base) (now (list .entry)) k (replicate (s .dimensions) 0) 0 0) × Formed (s .dimensions) r ⌝ }
+{
+    let mut path = head_path(s);
+    let mut at: u32 = 0;
+    let mut d: u32 = 0;
+    loop {
+        let next = words::step(list, s, sought, k, at, d);
+        match next {
+            Step::Go(y) => {
+                path = onward(path, d, y);
+                at = y;
+            }
+            Step::Up => {
+                d += 1;
+            }
+            Step::End => {
+                return path;
+            }
+        }
+    }
+}
+
+// The path of standing cell x.
+pub fn path_of(list: &[u32], s: Settings, x: u32) -> Path
+    requires { ⌜ Standing (now list) s x ⌝ }
+    ensures { λ r. ⌜ CellPath (now (list .entry)) s x r ⌝ }
+{
+    if x == 0 {
+        return head_path(s);
+    }
+    let k = words::word(list, s, x, words::KEY);
+    let sought = words::coordinates_of(k, s);
+    let n = s.dimensions as usize;
+    path_along(list, s, &sought[..n], k)
+}
+
+// Link d of cell d of a path, owed links read through.
+fn link_on(list: &[u32], s: Settings, path: Path, d: u32) -> u32
+    requires { ⌜ Shaped (now list) s × ((d < s .dimensions) × ((getD (path .cells) d 0 < s .cells) × (owedAt (now list) (getD (path .cells) d 0) < s .cells))) ⌝ }
+    ensures { λ r. ⌜ r ≡ linkRead (now (list .entry)) (getD (path .cells) d 0) d ⌝ }
+{
+    let i = d as usize;
+    words::link_read(list, s, path.cells[i], d)
+}
+
+// The next standing cell in key order after the cell that a path leads to: the highest link d of the path's cell d that is not 0 leads
+// to it.
+pub fn next(list: &[u32], s: Settings, path: Path) -> Reached
+    requires { ⌜ Walkable (now list) s × PathIn s path ⌝ }
+    ensures { λ r. ⌜ NextIs (now (list .entry)) s path r ⌝ }
+{
+    let mut above = s.dimensions;
+    while 0 < above {
+        let d = above - 1;
+        let y = link_on(list, s, path, d);
+        if y != 0 {
+            return Reached {
+                cell: y,
+                number: d,
+                path: onward(path, d, y),
+            };
+        }
+        above = d;
+    }
+    Reached {
+        cell: 0,
+        number: 0,
+        path,
+    }
+}

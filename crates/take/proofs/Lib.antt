@@ -1,0 +1,2 @@
+-- Going on from the position, and what a take leaves.
+pub mod Laws

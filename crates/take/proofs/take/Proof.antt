@@ -1,0 +1,79 @@
+-- `take::take` meets its contract: with no live cell ahead it refuses, and else the two words stored and the path are what a take
+-- writes.
+use native.Mathlib.Omega.{arith}
+use Rattle.words.proofs.Laws.{field-within}
+use Rattle.paths.proofs.Listed.{listed-shaped}
+use Rattle.take.proofs.Laws.{take-none-meets, take-meets}
+use borrow.Author.Needs.{needs}
+use Rattle.take.proofs.take.Statement.{statement}
+use Rattle.take.proofs.take.Tie as tie
+
+first-live-requires : tie.Need-first-live-requires
+first-live-requires c κs = search needs
+
+refused-at-requires : tie.Need-refused-at-requires
+refused-at-requires c κs = search needs
+
+same-length : tie.Need-same-length
+same-length c = search needs
+
+returns : tie.Need-returns
+returns c =
+    let found = c .before .before .before in
+    take-none-meets (found .before .before .before .pre) (found .first-live .ensures) (c .before .if1 .taken) (c .refused-at .ensures)
+
+word-requires : tie.Need-word-requires
+word-requires c κs =
+    let found = c .before .before .before in
+    (listed-shaped (found .before .before .before .pre), field-within (found .first-live .ensures .below) (omega arith))
+
+word-requires-2 : tie.Need-word-requires-2
+word-requires-2 c κs =
+    let found = c .before .before .before .before .before in
+    (listed-shaped (found .before .before .before .pre), field-within (found .first-live .ensures .below) (omega arith))
+
+store-requires : tie.Need-store-requires
+store-requires c κs =
+    let found = c .before .before .before .before .before .before .before in
+    (listed-shaped (found .before .before .before .pre), field-within (found .first-live .ensures .below) (omega arith))
+
+store-requires-2 : tie.Need-store-requires-2
+store-requires-2 c κs = search needs
+
+write-path-requires : tie.Need-write-path-requires
+write-path-requires c κs = search needs
+
+accepted-requires : tie.Need-accepted-requires
+accepted-requires c κs = search needs
+
+same-length-2 : tie.Need-same-length-2
+same-length-2 c = search needs
+
+returns-2 : tie.Need-returns-2
+returns-2 c =
+    let path = c .before .before .before in
+    let mark = path .before .before .before .before .before in
+    let value = mark .before .before .before .before in
+    let read = value .before .before in
+    let key = read .before .before in
+    let test = key .before .before in
+    let found = test .before .before in
+    take-meets (found .before .before .before .pre) (found .first-live .ensures) (test .if1 .left) (key .word .ensures) (read .word2 .ensures)
+    (value .store .ensures .0) (mark .store2 .ensures .0) (path .write-path .ensures .0) (c .accepted .ensures)
+
+pub take-spec : {M : Type 1} → statement M
+take-spec =
+    tie.close
+    (tie.spec
+    first-live-requires
+    refused-at-requires
+    same-length
+    returns
+    word-requires
+    word-requires-2
+    store-requires
+    store-requires-2
+    write-path-requires
+    accepted-requires
+    same-length-2
+    returns-2)

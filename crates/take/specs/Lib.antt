@@ -1,0 +1,2 @@
+-- What a take finds ahead of the position.
+pub mod Ahead
