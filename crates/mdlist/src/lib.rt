@@ -1,7 +1,9 @@
-// The waiting list as a Rust host calls it: six operations by number and slice. Each is a thin exported function over the crate of
-// its name; no one has a `requires`, and each contract is the whole outcome that document 01 gives the call.
+// The waiting list as a Rust host calls it: the operations by number and slice. Each is a thin exported function: it checks that the
+// lent words are a list, refuses by number 3 if they are not, and calls the inner function of the crate of its name. No one has a
+// `requires`, and each contract is the whole outcome that document 01 gives the call: the four numbers and every word.
 ghost use Rattle.meaning.specs.Refusals.{Meets};
-ghost use Rattle.meaning.specs.Operations.{setUpOut};
+ghost use Rattle.meaning.specs.Operations.{setUpOut, insertOut, findOut, finishOut, takeOut};
+use is_list::Reading;
 use meaning::Answer;
 
 // Makes the lent words a fresh list with D dimensions, largest key K and C cells.
@@ -10,4 +12,48 @@ pub extern "C" fn mdlist_set_up(d: u32, k: u32, c: u32, list: &mut [u32]) -> Ans
     ensures { λ r. ⌜ Meets (setUpOut d k c (now (list .entry))) r (now (list .exit)) ⌝ }
 {
     set_up::set_up(d, k, c, list)
+}
+
+// Puts a key with its value into the list.
+#[no_mangle]
+pub extern "C" fn mdlist_insert(list: &mut [u32], key: u32, value: u32) -> Answer
+    ensures { λ r. ⌜ Meets (insertOut (now (list .entry)) key value) r (now (list .exit)) ⌝ }
+{
+    let Reading::List(s) = is_list::is_list(list) else {
+        return meaning::refused(3);
+    };
+    insert::insert(list, s, key, value)
+}
+
+// Finds a live key's value; writes nothing.
+#[no_mangle]
+pub extern "C" fn mdlist_find(list: &[u32], key: u32) -> Answer
+    ensures { λ r. ⌜ Meets (findOut (now (list .entry)) key) r (now (list .entry)) ⌝ }
+{
+    let Reading::List(s) = is_list::is_list(list) else {
+        return meaning::refused(3);
+    };
+    find::find(list, s, key)
+}
+
+// Moves the links that a key's cell still owes.
+#[no_mangle]
+pub extern "C" fn mdlist_finish(list: &mut [u32], key: u32) -> Answer
+    ensures { λ r. ⌜ Meets (finishOut (now (list .entry)) key) r (now (list .exit)) ⌝ }
+{
+    let Reading::List(s) = is_list::is_list(list) else {
+        return meaning::refused(3);
+    };
+    finish::finish(list, s, key)
+}
+
+// Takes the least live key.
+#[no_mangle]
+pub extern "C" fn mdlist_take(list: &mut [u32]) -> Answer
+    ensures { λ r. ⌜ Meets (takeOut (now (list .entry))) r (now (list .exit)) ⌝ }
+{
+    let Reading::List(s) = is_list::is_list(list) else {
+        return meaning::refused(3);
+    };
+    take::take(list, s)
 }

@@ -4,9 +4,9 @@ ghost use mathlib.Core.Path.{_≡_};
 ghost use mathlib.Core.Bool.{true};
 ghost use Prim.Native.Nat.{ℕ, _^_, _≤_, _<_};
 ghost use lib.Dec.{ltb};
-ghost use Rattle.settings.specs.Numbers.{leastDimensions, mostDimensions, leastLargest, mostLargest, mostCells, baseOf, lengthOf};
+ghost use Rattle.settings.specs.Numbers.{leastDimensions, mostDimensions, leastLargest, mostLargest, mostCells, inRange, baseOf, lengthOf};
 ghost use Rattle.settings.specs.Checked.{checkedOf};
-ghost use Rattle.settings.specs.Base.{IsBase};
+ghost use Rattle.settings.specs.Base.{IsBase, isBase};
 
 pub const LEAST_DIMENSIONS: u32 = 2;
 
@@ -81,24 +81,47 @@ pub fn base(d: u32, k: u32) -> u32
     high
 }
 
+// Whether b is the least number whose power D is above K.
+pub fn is_base(b: u32, d: u32, k: u32) -> bool
+    ensures { λ r. ⌜ r ≡ isBase d k b ⌝ }
+{
+    if b == 0 {
+        return false;
+    }
+    if !above(b, d, k) {
+        return false;
+    }
+    !above(b - 1, d, k)
+}
+
+// Whether D, K and C are each in range. Every u32 is at most the largest K.
+pub fn in_range(d: u32, k: u32, c: u32) -> bool
+    ensures { λ r. ⌜ r ≡ inRange d k c ⌝ }
+{
+    if d < LEAST_DIMENSIONS {
+        return false;
+    }
+    if MOST_DIMENSIONS < d {
+        return false;
+    }
+    if k < LEAST_LARGEST {
+        return false;
+    }
+    if c < LEAST_CELLS {
+        return false;
+    }
+    if MOST_CELLS < c {
+        return false;
+    }
+    true
+}
+
 impl Settings {
     // The checked constructor.
     pub fn new(d: u32, k: u32, c: u32) -> Checked
         ensures { λ r. ⌜ r ≡ checkedOf d k c ⌝ }
     {
-        if d < LEAST_DIMENSIONS {
-            return Checked::OutOfRange;
-        }
-        if MOST_DIMENSIONS < d {
-            return Checked::OutOfRange;
-        }
-        if k < LEAST_LARGEST {
-            return Checked::OutOfRange;
-        }
-        if c < LEAST_CELLS {
-            return Checked::OutOfRange;
-        }
-        if MOST_CELLS < c {
+        if !in_range(d, k, c) {
             return Checked::OutOfRange;
         }
         Checked::Accepted(Settings {

@@ -1,40 +1,32 @@
--- `Settings::new` meets its contract: where a test refuses, the ranges do not hold; past the five tests they do, and the base is the callee's.
+-- `Settings::new` meets its contract: the test of the ranges decides, and the base is the callee's.
+use mathlib.Core.Path.{refl, sym, _∙_}
 use native.Mathlib.Omega.{arith}
 use borrow.Author.Needs.{needs}
+use borrow.Author.Tests.{not-true, not-false}
 use Rattle.settings.specs.Checked.{checkedOf}
-use Rattle.settings.proofs.Laws.{in-range, out-of-range}
+use Rattle.settings.proofs.Laws.{ranges}
 use Rattle.settings.proofs.Settings.new.Statement.{statement}
 use Rattle.settings.proofs.Settings.new.Tie as tie
 
+in-range-requires : tie.Need-in-range-requires
+in-range-requires c κs = search needs
+
 returns : tie.Need-returns
 unfolding checkedOf
-returns c = let a = c .before .args in rw (out-of-range (a .d) (a .k) (a .c) (λ r. omega arith))
+returns c = rw (← c .before .in-range .ensures, not-true (c .before .in-range .result) (c .if1 .taken)) refl
+
+base-requires : tie.Need-base-requires
+base-requires c κs =
+    let a = c .before .before .args in
+    let r = c .before .in-range in
+    let h = ranges (a .d) (a .k) (a .c) (sym (r .ensures) ∙ not-false (r .result) (c .if1 .left)) in
+    omega arith
 
 returns-2 : tie.Need-returns-2
 unfolding checkedOf
-returns-2 c = let a = c .before .before .args in rw (out-of-range (a .d) (a .k) (a .c) (λ r. omega arith))
-
-returns-3 : tie.Need-returns-3
-unfolding checkedOf
-returns-3 c = let a = c .before .before .before .args in rw (out-of-range (a .d) (a .k) (a .c) (λ r. omega arith))
-
-returns-4 : tie.Need-returns-4
-unfolding checkedOf
-returns-4 c = let a = c .before .before .before .before .args in rw (out-of-range (a .d) (a .k) (a .c) (λ r. omega arith))
-
-returns-5 : tie.Need-returns-5
-unfolding checkedOf
-returns-5 c = let a = c .before .before .before .before .before .args in rw (out-of-range (a .d) (a .k) (a .c) (λ r. omega arith))
-
-base-requires : tie.Need-base-requires
-base-requires c κs = search needs
-
-returns-6 : tie.Need-returns-6
-unfolding checkedOf
-returns-6 c =
-    let a = c .before .before .before .before .before .before .args in
-    rw (in-range (a .d) (a .k) (a .c) (search needs), ← c .base .ensures)
+returns-2 c =
+    let r = c .before .before .in-range in
+    rw (← r .ensures, not-false (r .result) (c .before .if1 .left), ← c .base .ensures) refl
 
 pub new-spec : {M : Type 1} → statement M
-new-spec =
-    tie.close (tie.spec returns returns-2 returns-3 returns-4 returns-5 base-requires returns-6)
+new-spec = tie.close (tie.spec in-range-requires returns base-requires returns-2)

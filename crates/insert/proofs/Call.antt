@@ -1,0 +1,307 @@
+-- Each way out of insert has the outcome of the definition, by what the search found; and the words that an accepted insert has written,
+-- but for the path, are those of the state after the call.
+use mathlib.Core.Path.{_≡_, refl, sym, ap, _∙_, subst}
+use mathlib.Core.Bool.{Bool, true, false, cond, false≢true, _||_}
+use mathlib.Core.List.{List, [], _∷_}
+use Prim.Native.Nat.{ℕ, _+_, _≤_, _<_}
+use native.Mathlib.Decide.{ℕ-discrete}
+use native.Mathlib.Omega.{arith}
+use lib.Dec.{eqb, ltb}
+use lib.ListN.{length, getD, set}
+use lib.Seq.{sets}
+use borrow.Author.Tests.{eq-eqb, ne-eqb, le-leb, le-ltb}
+use Rattle.settings.specs.Numbers.{headerWords}
+use Rattle.settings.specs.declared.Settings.{Settings}
+use Rattle.meaning.specs.Row.{Entry, entryAt}
+use Rattle.meaning.specs.State.{State, positionKey}
+use Rattle.meaning.specs.Picture.{firstNumber, mark, path, picture}
+use Rattle.meaning.specs.Reading.{read, Listed}
+use Rattle.meaning.specs.Refusals.{answer, Meets, accepted}
+use Rattle.meaning.specs.Walk.{place, wordAt, markAt}
+use Rattle.meaning.specs.Operations.{owesFromFree, positionAfter, revived, Slot, slotFor, added, insertOut}
+use Rattle.meaning.specs.Stores.{store, linkField, finishWords, writePath, writeEntry, newWords, insertWords}
+use Rattle.meaning.specs.declared.Answer.{Answer}
+use Rattle.meaning.proofs.Order.{All, all-map}
+use Rattle.meaning.proofs.State.{Sound, sound-valid}
+use Rattle.meaning.proofs.Cells.{free-range}
+use Rattle.meaning.proofs.Slot.{first-free-all}
+use Rattle.meaning.proofs.Picture.{picture-free, path-length}
+use Rattle.meaning.proofs.Reading.{mark-live}
+use Rattle.meaning.proofs.SentencesCells.{place-mark}
+use Rattle.meaning.proofs.BookRow.{entry-key}
+use Rattle.meaning.proofs.Stores.{Exact, picture-exact, exact-set, exact-sets, exact-finished, header-set-path, store-below, cell-sets-below, path-sets-same, finishWords-below}
+use Rattle.meaning.proofs.Changed.{picture-path-word}
+use Rattle.meaning.proofs.KeepsFinish.{finished-sound}
+use Rattle.meaning.proofs.KeepsInsert.{revived-sound, added-sound}
+use Rattle.meaning.proofs.FinishWords.{finish-words}
+use Rattle.meaning.proofs.TakeWords.{revived-words, revived-words-above}
+use Rattle.meaning.proofs.InsertWords.{added-words, added-path, added-position-parent}
+use Rattle.meaning.proofs.Outcomes.{insert-outcome-bad-key, insert-outcome-live, insert-outcome-dead, insert-outcome-full, insert-outcome-new}
+use Rattle.words.specs.Shaped.{Shaped}
+use Rattle.words.proofs.Laws.{word-is}
+use Rattle.search.specs.Found.{foundOf}
+use Rattle.search.specs.declared.Found.{Found}
+use Rattle.search.proofs.Laws.{on-listed}
+use Rattle.search.proofs.Slots.{Present, SlotFound, entry-placed, found-standing, found-missing, found-slot}
+use Rattle.finish.specs.Payable.{Payable}
+use Rattle.finish.proofs.Debts.{payable, listed-payable, listed-owes}
+use Rattle.insert.specs.Inserting.{Sought, paidWords, cellFor, Ending, Due, PathWritten}
+
+-- what holds of each state in order, its picture and its settings, where the search has answered so, holds of the list
+on-sought :
+    (P : State → List ℕ → Settings → Type 0) {ws : List ℕ} {s : Settings} {key : ℕ} {f : Found} → Sought ws s key f →
+    ((t : State) → Sound t → key ≤ t .settings .largest → f ≡ foundOf t key → P t (picture t) (t .settings)) → P (read ws) ws s
+on-sought P {key = key} {f = f} k g = on-listed (λ t ws s. key ≤ s .largest → f ≡ foundOf t key → P t ws s) g (k .list) (k .most) (k .is)
+
+pub bad-key-meets :
+    {ws : List ℕ} {s : Settings} → Listed ws s → (key value : ℕ) {r : Answer} → (1 ≤ key → s .largest < key) → r ≡ answer 4 0 0 0 →
+    Meets (insertOut ws key value) r ws
+bad-key-meets h key value {r} bad a =
+    on-listed (λ t ws s. (1 ≤ key → s .largest < key) → Meets (insertOut ws key value) r ws)
+    (λ t v b. rw (insert-outcome-bad-key t v key value b) (record { answered = a; words = refl })) h bad
+
+-- The outcome of an accepted call is the picture of a state, at which the words us end when the path is written.
+pub record Leads (ws us : List ℕ) (s : Settings) (top key value : ℕ) (f : Found) : Type 0 where
+  pub state : State
+  pub ending : Ending us s top key (f .parent) state
+  pub outcome : insertOut ws key value ≡ accepted key 0 (f .looked) (picture state)
+
+module _ {ws us : List ℕ} {s : Settings} {top key value : ℕ} {f : Found} (l : Leads ws us s top key value f) where
+  -- what is asked before the path is written
+  pub leads-due : {left : List ℕ} {high : ℕ} → left ≡ us → high ≡ top → Due left s high key (f .parent)
+  leads-due e h = record { state = l .state; ending = rw (e, h) (l .ending) }
+
+  -- what is left after it
+  pub leads-words : {left out : List ℕ} {high : ℕ} → left ≡ us → high ≡ top → PathWritten left out s high key (f .parent) → out ≡ insertOut ws key value .words
+  leads-words e h w = w .is (l .state) (rw (e, h) (l .ending)) ∙ sym (ap (λ o. o .words) (l .outcome))
+
+  pub leads-meets : {out : List ℕ} {r : Answer} → out ≡ insertOut ws key value .words → r ≡ answer 0 key 0 (f .looked) → Meets (insertOut ws key value) r out
+  leads-meets w a = record { answered = a ∙ sym (ap (λ o. o .answered) (l .outcome)); words = w }
+
+-- A key that stands
+
+mark-told : (live : Bool) {m : ℕ} → m ≡ mark live → m ≡ 1 → live ≡ true
+mark-told live e one = sym (mark-live live) ∙ eq-eqb (mark live) 1 (sym e ∙ one)
+
+mark-dead : (live : Bool) {m : ℕ} → m ≡ mark live → (m ≡ 1 → ⊥) → live ≡ false
+mark-dead live e other = sym (mark-live live) ∙ ne-eqb (mark live) 1 (λ q. other (e ∙ q))
+
+module _ {t : State} (v : Sound t) {key : ℕ} {x : Entry} {f : Found} (found : Present t key x f) where
+  present-mark : markAt (picture t) (f .c) ≡ mark (x .live)
+  present-mark =
+      let (p, here) = entry-placed v key x (found .entry) in
+      ap (markAt (picture t)) (found .c) ∙ place-mark v (here .0) ∙ ap (λ y. mark (y .live)) (here .1)
+
+  -- the parent becomes the position, where the key is at or below it
+  revived-lowered : (value : ℕ) → x .key ≤ positionKey t → revived t x value .position ≡ f .parent
+  unfolding revived positionAfter
+  revived-lowered value h = rw (le-leb (x .key) (positionKey t) h) (sym (found .parent-revived value))
+
+  revived-leads : 1 ≤ key → key ≤ t .settings .largest → (value : ℕ) → x .live ≡ false →
+      Leads (picture t) (writeEntry (t .settings .dimensions) (picture t) (f .c) value 1) (t .settings) (positionKey t) key value f
+  revived-leads least most value dead =
+      let same = entry-key key x (t .row) (found .entry) in
+      let entry = ap (λ k. entryAt k (t .row)) same ∙ found .entry in
+      record {
+        state = revived t x value;
+        ending = rw (found .c)
+            (record {
+              order = sound-valid (revived t x value) (revived-sound t x value v entry dead);
+              settings = settings;
+              words = revived-words t x value v entry;
+              lowered = λ h. revived-lowered value (omega (arith, same));
+              kept = λ h. revived-words-above t x value v entry (omega (arith, same));
+            });
+        outcome = insert-outcome-dead t v key value least most x (found .entry) dead ∙ ap (λ n. accepted key 0 n (picture (revived t x value))) (sym (found .looked));
+      }
+    where
+      settings : revived t x value .settings ≡ t .settings
+      settings = unfold revived in refl
+
+module _ {ws : List ℕ} {s : Settings} {key : ℕ} {f : Found} (k : Sought ws s key f) (stands : f .standing ≡ true) where
+  pub standing-cell : f .c < s .cells
+  standing-cell = on-sought (λ t ws s. f .c < s .cells) k (λ t v m q. found-standing v (k .least) q stands .1 .c-below)
+
+  pub live-meets : (value : ℕ) {r : Answer} {m : ℕ} → m ≡ markAt ws (f .c) → m ≡ 1 → r ≡ answer 5 key 0 (f .looked) → Meets (insertOut ws key value) r ws
+  live-meets value {r} {m} word one a =
+      on-sought (λ t ws s. m ≡ markAt ws (f .c) → Meets (insertOut ws key value) r ws) k
+      (λ t v most q e.
+      let (x, found) = found-standing v (k .least) q stands in
+      rw (insert-outcome-live t v key value (k .least) most x (found .entry) (mark-told (x .live) (e ∙ present-mark v found) one))
+      (record { answered = a ∙ ap (answer 5 key 0) (found .looked); words = refl }))
+      word
+
+  pub dead-leads : (value : ℕ) → (markAt ws (f .c) ≡ 1 → ⊥) →
+      Leads ws (writeEntry (s .dimensions) ws (f .c) value 1) s (positionKey (read ws)) key value f
+  dead-leads value other =
+      on-sought (λ t ws s. (markAt ws (f .c) ≡ 1 → ⊥) → Leads ws (writeEntry (s .dimensions) ws (f .c) value 1) s (positionKey t) key value f) k
+      (λ t v most q no.
+      let (x, found) = found-standing v (k .least) q stands in
+      revived-leads v found (k .least) most value (mark-dead (x .live) (present-mark v found) no))
+      other
+
+-- A key that does not stand
+
+free-some : (free : List ℕ) {n : ℕ} → n ≡ firstNumber free → 0 < n → 0 < length free
+free-some [] e h = absurd (omega arith)
+free-some (c ∷ free) e h = omega arith
+
+free-none : (free : List ℕ) {n : ℕ} → All (λ c. 0 < c) free → n ≡ firstNumber free → n ≡ 0 → length free ≡ 0
+free-none [] a e z = refl
+free-none (c ∷ free) a e z = absurd (let h = a .0 in omega arith)
+
+-- the words that are written, but for the path
+abbrev pub newIn : ℕ → ℕ → List ℕ → ℕ → ℕ → ℕ → Found → List ℕ
+newIn b D ws key value n f =
+    let paid = paidWords D ws (f .parent) (f .c) in
+    store D (sets (set paid 4 (getD paid (place D n 0) 0)) (place D n 0) (cellFor b D key value f)) (f .parent) (linkField D (f .p)) n
+
+new-words : (b D key value : ℕ) {f : Found} {t : Slot} → SlotFound f t → cellFor b D key value f ≡ newWords b D key value t
+unfolding newWords
+new-words b D key value {f} {t} g = at (ℕ-discrete (f .c) 0)
+  where
+    at : Dec (f .c ≡ 0) → cellFor b D key value f ≡ newWords b D key value t
+    at (yes z) =
+        let none : ltb (f .p) (f .q) ≡ false = le-ltb (f .p) (f .q) (omega (arith, g .q-none z)) in
+        rw (g .owes, none, ← g .c, eq-eqb (f .c) 0 z) refl
+    at (no ne) = rw (g .owes, ← g .c, ← g .p, ← g .q ne) refl
+
+pub new-in : (b D : ℕ) (ws : List ℕ) (key value n : ℕ) {f : Found} {t : Slot} → SlotFound f t → n ≡ t .n → newIn b D ws key value n f ≡ insertWords b D ws key value t
+unfolding insertWords
+new-in b D ws key value n g e = rw (new-words b D key value g, g .parent, g .p, g .c, e) refl
+
+-- the steps of the code
+pub new-written :
+    {paid : List ℕ} {s : Settings} → Shaped paid s → (ws : List ℕ) (key value n : ℕ) (f : Found) {next : ℕ} {cell us : List ℕ} →
+    paid ≡ paidWords (s .dimensions) ws (f .parent) (f .c) → next ≡ wordAt paid n 0 →
+    cell ≡ sets (set paid 4 next) (place (s .dimensions) n 0) (cellFor (s .base) (s .dimensions) key value f) →
+    us ≡ store (s .dimensions) cell (f .parent) (linkField (s .dimensions) (f .p)) n → us ≡ newIn (s .base) (s .dimensions) ws key value n f
+new-written h ws key value n f pays reads writes links = rw (links, writes, reads, ← word-is h n 0 refl, pays) refl
+
+-- The path's words stay
+
+exact-inserted : {D C : ℕ} {ws : List ℕ} → Exact D C ws → (b key value : ℕ) (t : Slot) → Exact D C (insertWords b D ws key value t)
+unfolding insertWords
+exact-inserted {D} {C} {ws} exact b key value t = exact-set (exact-sets (exact-set (at (eqb (t .c) 0)) 4 _) (place D (t .n) 0) (newWords b D key value t)) (place D (t .parent) (linkField D (t .p))) (t .n)
+  where
+    at : (r : Bool) → Exact D C (cond r (finishWords D ws (t .parent)) (finishWords D (finishWords D ws (t .parent)) (t .c)))
+    at true = exact-finished exact (t .parent)
+    at false = exact-finished (exact-finished exact (t .parent)) (t .c)
+
+inserted-path : (b D : ℕ) (ws : List ℕ) (key value : ℕ) (t : Slot) (d : ℕ) → d < D → getD (insertWords b D ws key value t) (headerWords + d) 0 ≡ getD ws (headerWords + d) 0
+unfolding insertWords
+inserted-path b D ws key value t d h =
+    let paid = paidWords D ws (t .parent) (t .c) in
+    let next = getD paid (place D (t .n) 0) 0 in
+    let cell = newWords b D key value t in
+    store-below D (sets (set paid 4 next) (place D (t .n) 0) cell) (t .parent) (linkField D (t .p)) (t .n) (headerWords + d) (omega arith)
+    ∙ cell-sets-below D (set paid 4 next) (t .n) 0 cell (headerWords + d) (omega arith)
+    ∙ header-set-path paid 4 next d (omega arith)
+    ∙ at (eqb (t .c) 0)
+  where
+    at : (r : Bool) → getD (cond r (finishWords D ws (t .parent)) (finishWords D (finishWords D ws (t .parent)) (t .c))) (headerWords + d) 0 ≡ getD ws (headerWords + d) 0
+    at true = finishWords-below D ws (t .parent) (headerWords + d) (omega arith)
+    at false =
+        finishWords-below D (finishWords D ws (t .parent)) (t .c) (headerWords + d) (omega arith)
+        ∙ finishWords-below D ws (t .parent) (headerWords + d) (omega arith)
+
+module _ {t : State} (v : Sound t) (key value : ℕ) (least : 1 ≤ key) (most : key ≤ t .settings .largest) {f : Found} (is : f ≡ foundOf t key)
+    (missing : f .standing ≡ false) (room : 0 < length (t .free)) {n : ℕ} (first : n ≡ firstNumber (t .free)) where
+  abbrev after : State
+  after = added t key value (slotFor t key)
+
+  slot : SlotFound f (slotFor t key)
+  slot = found-slot v least is missing room
+
+  written : newIn (t .settings .base) (t .settings .dimensions) (picture t) key value n f ≡ insertWords (t .settings .base) (t .settings .dimensions) (picture t) key value (slotFor t key)
+  written = new-in (t .settings .base) (t .settings .dimensions) (picture t) key value n slot (first ∙ number)
+    where
+      number : firstNumber (t .free) ≡ slotFor t key .n
+      number = unfold slotFor in refl
+
+  added-leads : Leads (picture t) (newIn (t .settings .base) (t .settings .dimensions) (picture t) key value n f) (t .settings) (positionKey t) key value f
+  added-leads =
+      let b = t .settings .base in
+      let D = t .settings .dimensions in
+      let absent = found-missing v least is missing in
+      let none = absent .entry in
+      let words = added-words t v key value least most none room in
+      record {
+        state = after;
+        ending = rw written
+            (record {
+              order = sound-valid after (added-sound t key value v least most none room);
+              settings = settings;
+              words = words;
+              lowered = λ h. added-position-parent t v key value least most none room h ∙ sym (slot .parent);
+              kept = λ h.
+                  words
+                  ∙ ap (writePath (insertWords b D (picture t) key value (slotFor t key))) (added-path t v key value least most none room h)
+                  ∙ path-sets-same (exact-inserted (picture-exact t) b key value (slotFor t key)) (path t) (path-length t)
+                  (λ d l. inserted-path b D (picture t) key value (slotFor t key) d l ∙ picture-path-word t d l);
+            });
+        outcome = insert-outcome-new t v key value least most none room ∙ ap (λ m. accepted key 0 m (picture after)) (sym (absent .looked));
+      }
+    where
+      settings : after .settings ≡ t .settings
+      settings = unfold added in refl
+
+module _ {ws : List ℕ} {s : Settings} {key : ℕ} {f : Found} (k : Sought ws s key f) (missing : f .standing ≡ false) where
+  -- the cells and links of the slot are the list's own
+  pub parent-cell : f .parent < s .cells
+  parent-cell = on-sought (λ t ws s. f .parent < s .cells) k (λ t v m q. found-missing v (k .least) q missing .parent-below)
+
+  pub c-cell : f .c < s .cells
+  c-cell = on-sought (λ t ws s. f .c < s .cells) k (λ t v m q. found-missing v (k .least) q missing .c-below)
+
+  pub p-link : f .p < s .dimensions
+  p-link = on-sought (λ t ws s. f .p < s .dimensions) k (λ t v m q. found-missing v (k .least) q missing .p-below)
+
+  pub q-link : f .q < s .dimensions
+  q-link = on-sought (λ t ws s. f .q < s .dimensions) k (λ t v m q. found-missing v (k .least) q missing .q-below)
+
+  pub new-cell : {n : ℕ} → n ≡ getD ws 4 0 → 0 < n → n < s .cells
+  new-cell {n} e h =
+      on-sought (λ t ws s. n ≡ getD ws 4 0 → n < s .cells) k
+      (λ t v m q word.
+      let first = word ∙ picture-free t in
+      rw first (first-free-all (λ c. (0 < c) × (c < t .settings .cells)) (t .free) (free-some (t .free) first h) (free-range t v) .1))
+      e
+
+  -- what the parent owes can be finished, and then what c owes
+  pub payable-parent : Payable ws s (f .parent)
+  payable-parent = listed-payable (k .list) (f .parent) parent-cell
+
+  pub payable-c : Payable (finishWords (s .dimensions) ws (f .parent)) s (f .c)
+  payable-c =
+      on-sought (λ t ws s. Payable (finishWords (s .dimensions) ws (f .parent)) s (f .c)) k
+      (λ t v m q.
+      let absent = found-missing v (k .least) q missing in
+      subst (λ us. Payable us (t .settings) (f .c)) (finish-words t v (f .parent) (absent .parent-stands))
+      (payable (finished-sound t (f .parent) v) (f .c) (absent .c-below)))
+
+  pub full-meets : (value : ℕ) {r : Answer} {n : ℕ} → n ≡ getD ws 4 0 → n ≡ 0 → r ≡ answer 6 key 0 (f .looked) → Meets (insertOut ws key value) r ws
+  full-meets value {r} {n} word none a =
+      on-sought (λ t ws s. n ≡ getD ws 4 0 → Meets (insertOut ws key value) r ws) k
+      (λ t v most q e.
+      let absent = found-missing v (k .least) q missing in
+      let positive = all-map (λ c h. h .0) (t .free) (free-range t v) in
+      rw (insert-outcome-full t v key value (k .least) most (absent .entry) (free-none (t .free) positive (e ∙ picture-free t) none))
+      (record { answered = a ∙ ap (answer 6 key 0) (absent .looked); words = refl }))
+      word
+
+  -- a cell owed from stands
+  pub never-meets : (value : ℕ) {r : Answer} {left : List ℕ} {owes : Bool} →
+      owes ≡ (owesFromFree ws (f .parent) || owesFromFree ws (f .c)) → owes ≡ true → Meets (insertOut ws key value) r left
+  never-meets value e owes =
+      let none : (owesFromFree ws (f .parent) || owesFromFree ws (f .c)) ≡ false = rw (listed-owes (k .list) (f .parent), listed-owes (k .list) (f .c)) refl in
+      absurd (false≢true (sym (e ∙ none) ∙ owes))
+
+  pub new-leads : (value : ℕ) {n : ℕ} → n ≡ getD ws 4 0 → 0 < n →
+      Leads ws (newIn (s .base) (s .dimensions) ws key value n f) s (positionKey (read ws)) key value f
+  new-leads value {n} e h =
+      on-sought (λ t ws s. n ≡ getD ws 4 0 → Leads ws (newIn (s .base) (s .dimensions) ws key value n f) s (positionKey t) key value f) k
+      (λ t v most q word.
+      let first = word ∙ picture-free t in
+      added-leads v key value (k .least) most q missing (free-some (t .free) first h) first)
+      e

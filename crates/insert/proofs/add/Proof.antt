@@ -1,0 +1,97 @@
+-- `insert::add` meets its contract: the debts are finished, the first free cell is taken off its chain and written, link p of the parent
+-- is set and then the path is written, which makes the words those of the state with the new entry.
+use native.Mathlib.Omega.{arith}
+use borrow.Author.Needs.{needs}
+use Rattle.words.proofs.Laws.{field-within, link-within, set-shaped}
+use Rattle.search.proofs.Laws.{listed-shaped, listed-base}
+use Rattle.insert.proofs.Call.{leads-due, leads-words, new-written, parent-cell, p-link, q-link, new-cell, payable-parent, payable-c, new-leads}
+use Rattle.insert.proofs.add.Statement.{statement}
+use Rattle.insert.proofs.add.Tie as tie
+
+position-key-requires : tie.Need-position-key-requires
+position-key-requires c κs = search needs
+
+finish-neighbours-requires : tie.Need-finish-neighbours-requires
+finish-neighbours-requires c κs =
+    let pre = c .before .before .before .before .pre in
+    (listed-shaped (pre .0 .list), (payable-parent (pre .0) (pre .1 .0), payable-c (pre .0) (pre .1 .0)))
+
+word-requires : tie.Need-word-requires
+word-requires c κs =
+    let pre = c .before .before .before .before .before .before .before .before .pre in
+    (c .before .before .before .finish-neighbours .ensures .1, field-within (new-cell (pre .0) (pre .1 .0) (pre .1 .1 .0) (pre .1 .1 .1)) (omega arith))
+
+slice-write-list : tie.Need-slice-write-list
+slice-write-list c = search needs
+
+write-cell-requires : tie.Need-write-cell-requires
+write-cell-requires c κs =
+    let pre = c .before .before .before .before .before .before .before .before .before .before .pre in (
+      set-shaped (c .before .before .before .before .before .finish-neighbours .ensures .1) 4 (c .before .word .result) (omega arith),
+      (
+        new-cell (pre .0) (pre .1 .0) (pre .1 .1 .0) (pre .1 .1 .1),
+        (listed-base (pre .0 .list), λ held. q-link (pre .0) (pre .1 .0)),
+      ),
+    )
+
+add-link : tie.Need-add-link
+add-link c = search needs
+
+add-link-2 : tie.Need-add-link-2
+add-link-2 c =
+    let pre = c .before .before .before .before .before .before .before .before .before .before .before .before .before .before .before .pre in
+    omega (arith, p-link (pre .0) (pre .1 .0), listed-shaped (pre .0 .list) .dimensions-most)
+
+store-requires : tie.Need-store-requires
+store-requires c κs =
+    let pre = c .before .before .before .before .before .before .before .before .before .before .before .before .before .before .before .before .pre in
+    (c .before .before .before .before .before .write-cell .ensures .1, link-within (parent-cell (pre .0) (pre .1 .0)) (p-link (pre .0) (pre .1 .0)))
+
+move-position-requires : tie.Need-move-position-requires
+move-position-requires c κs =
+    let linked = c .before .before .before in
+    let filled = linked .before .before .before .before .before .before in
+    let next = filled .before .before in
+    let paid = next .before .before .before .before in
+    let top = paid .before .before in
+    let s = top .before .before .before in
+    let a = s .args in
+    let written =
+    new-written (paid .finish-neighbours .ensures .1) (a .list .now) (a .key) (a .value) (a .n) (a .f) (paid .finish-neighbours .ensures .0)
+    (next .word .ensures) (filled .write-cell .ensures .0) (linked .store .ensures .0) in
+    let leads = new-leads (s .pre .0) (s .pre .1 .0) (a .value) (s .pre .1 .1 .0) (s .pre .1 .1 .1) in
+    (linked .store .ensures .1, leads-due leads written (top .position-key .ensures))
+
+same-length : tie.Need-same-length
+same-length c = search needs
+
+returns : tie.Need-returns
+returns c =
+    let linked = c .before .before .before .before .before .before in
+    let filled = linked .before .before .before .before .before .before in
+    let next = filled .before .before in
+    let paid = next .before .before .before .before in
+    let top = paid .before .before in
+    let s = top .before .before .before in
+    let a = s .args in
+    let written =
+    new-written (paid .finish-neighbours .ensures .1) (a .list .now) (a .key) (a .value) (a .n) (a .f) (paid .finish-neighbours .ensures .0)
+    (next .word .ensures) (filled .write-cell .ensures .0) (linked .store .ensures .0) in
+    let leads = new-leads (s .pre .0) (s .pre .1 .0) (a .value) (s .pre .1 .1 .0) (s .pre .1 .1 .1) in
+    leads-words leads written (top .position-key .ensures) (c .before .before .move-position .ensures)
+
+pub add-spec : {M : Type 1} → statement M
+add-spec =
+    tie.close
+    (tie.spec
+    position-key-requires
+    finish-neighbours-requires
+    word-requires
+    slice-write-list
+    write-cell-requires
+    add-link
+    add-link-2
+    store-requires
+    move-position-requires
+    same-length
+    returns)

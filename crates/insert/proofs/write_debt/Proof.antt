@@ -1,0 +1,29 @@
+-- `insert::write_debt` meets its contract: three stores in a row are a run of three words.
+use borrow.Author.Needs.{needs}
+use Rattle.insert.proofs.Laws.{debt-written}
+use Rattle.insert.proofs.write_debt.Statement.{statement}
+use Rattle.insert.proofs.write_debt.Tie as tie
+
+store-requires : tie.Need-store-requires
+store-requires c κs = search needs
+
+store-requires-2 : tie.Need-store-requires-2
+store-requires-2 c κs = search needs
+
+store-requires-3 : tie.Need-store-requires-3
+store-requires-3 c κs = search needs
+
+same-length : tie.Need-same-length
+same-length c = search needs
+
+returns : tie.Need-returns
+returns c =
+    let a = c .before .before .before .before .before .before .before .before .before .before .before .before .before .args in
+    let third = c .before .before .store3 .ensures in
+    let second = c .before .before .before .before .before .before .store2 .ensures in
+    let first = c .before .before .before .before .before .before .before .before .before .before .store .ensures in
+    (rw (third .0, second .0, first .0) (debt-written (a .s .dimensions) (a .list .now) (a .n) (a .owed) (a .low) (a .high)), third .1)
+
+pub write-debt-spec : {M : Type 1} → statement M
+write-debt-spec =
+    tie.close (tie.spec store-requires store-requires-2 store-requires-3 same-length returns)

@@ -1,0 +1,59 @@
+-- `insert::write_entry` meets its contract: three stores and the debt in a row are a run of six words, with the debt by p and q.
+use native.Mathlib.Omega.{arith}
+use borrow.Author.Needs.{needs}
+use Rattle.insert.proofs.Laws.{owing-written, settled-written}
+use Rattle.insert.proofs.write_entry.Statement.{statement}
+use Rattle.insert.proofs.write_entry.Tie as tie
+
+store-requires : tie.Need-store-requires
+store-requires c κs = search needs
+
+store-requires-2 : tie.Need-store-requires-2
+store-requires-2 c κs = search needs
+
+store-requires-3 : tie.Need-store-requires-3
+store-requires-3 c κs = search needs
+
+write-debt-requires : tie.Need-write-debt-requires
+write-debt-requires c κs = search needs
+
+same-length : tie.Need-same-length
+same-length c = search needs
+
+returns : tie.Need-returns
+returns c =
+    let a = c .before .before .before .before .before .before .before .before .before .before .before .before .before .before .before .before .before .before .before .args in
+    let debt = c .before .before .write-debt .ensures in
+    let third = c .before .before .before .before .before .before .before .before .store3 .ensures in
+    let second = c .before .before .before .before .before .before .before .before .before .before .before .before .store2 .ensures in
+    let first = c .before .before .before .before .before .before .before .before .before .before .before .before .before .before .before .before .store .ensures in
+    (rw (debt .0, third .0, second .0, first .0) (owing-written (a .s .dimensions) (a .list .now) (a .n) (a .key) (a .value) (a .f) (c .before .before .before .before .if1 .taken)), debt .1)
+
+write-debt-requires-2 : tie.Need-write-debt-requires-2
+write-debt-requires-2 c κs = search needs
+
+same-length-2 : tie.Need-same-length-2
+same-length-2 c = search needs
+
+returns-2 : tie.Need-returns-2
+returns-2 c =
+    let a = c .before .before .before .before .before .before .before .before .before .before .before .before .before .before .before .before .before .before .before .args in
+    let debt = c .before .before .write-debt2 .ensures in
+    let third = c .before .before .before .before .before .before .before .before .store3 .ensures in
+    let second = c .before .before .before .before .before .before .before .before .before .before .before .before .store2 .ensures in
+    let first = c .before .before .before .before .before .before .before .before .before .before .before .before .before .before .before .before .store .ensures in
+    (rw (debt .0, third .0, second .0, first .0) (settled-written (a .s .dimensions) (a .list .now) (a .n) (a .key) (a .value) (a .f) (omega arith)), debt .1)
+
+pub write-entry-spec : {M : Type 1} → statement M
+write-entry-spec =
+    tie.close
+    (tie.spec
+    store-requires
+    store-requires-2
+    store-requires-3
+    write-debt-requires
+    same-length
+    returns
+    write-debt-requires-2
+    same-length-2
+    returns-2)

@@ -1,0 +1,2 @@
+-- What the parts of insert are asked and leave.
+pub mod Inserting

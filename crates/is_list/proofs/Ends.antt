@@ -1,0 +1,216 @@
+-- Where the check starts and ends, as the code has it: the header, the head, the chain of free cells, and the answer.
+use mathlib.Core.Path.{_≡_, refl, sym, ap, _∙_}
+use mathlib.Core.Bool.{Bool, true, false, cond, _&&_, not, and-false, false≢true}
+use mathlib.Core.List.{List}
+use Prim.Native.Nat.{ℕ, zero, suc, _-_, _≤_, _<_}
+use native.Mathlib.Nat.{sub-zero}
+use native.Mathlib.Omega.{arith}
+use lib.Dec.{eqb}
+use lib.ListN.{length, getD}
+use borrow.Author.Tests.{not-true, lt-ltb, le-ltb, eq-eqb, ne-eqb}
+use Rattle.settings.specs.Numbers.{cellWords, lengthOf, inRange}
+use Rattle.settings.specs.Base.{isBase}
+use Rattle.settings.specs.declared.Settings.{Settings}
+use Rattle.meaning.specs.Walk.{wordAt, keyAt, valueAt, markAt, owedAt, lowAt, highAt, coordinateAt}
+use Rattle.meaning.specs.Reading.{settingsAt}
+use Rattle.meaning.proofs.Order.{both, and-both}
+use Rattle.words.specs.Shaped.{Shaped}
+use Rattle.words.proofs.Laws.{shaped-dimensions, shaped-cells}
+use Rattle.tree.specs.declared.Seen.{Seen}
+use Rattle.tree.specs.Tree.{allFrom, pathRun, positionWord, headRight, atHead, freeRight, chainRight, headerRight, seenAll, accepts}
+use Rattle.tree.proofs.AcceptedTests.{header-right, Head, head-right}
+use Rattle.tree.proofs.Tree.{accepts-is-list}
+use Rattle.is_list.specs.declared.Reading.{Reading}
+use Rattle.is_list.specs.declared.Reading.the-variants as variants
+use Rattle.is_list.specs.Parts.{headCoordinatesRight, headerOf, Children}
+use Rattle.is_list.specs.Reading.{readingOf}
+use Rattle.is_list.proofs.Laws.{refuted}
+
+-- The head
+
+-- coordinate d of cell x is 0
+abbrev pub zeroCoordinate : List ℕ → ℕ → ℕ → Bool
+zeroCoordinate ws x d = eqb (coordinateAt ws x d) 0
+
+pub head-not : (ws : List ℕ) → (Head ws → ⊥) → false ≡ headRight ws
+head-not ws never = sym (refuted (headRight ws) (λ t. never (head-right ws t)))
+
+pub head-coordinates :
+    (ws : List ℕ) → keyAt ws 0 ≡ 0 → valueAt ws 0 ≡ 0 → markAt ws 0 ≡ 2 → owedAt ws 0 ≡ 0 → lowAt ws 0 ≡ 0 → highAt ws 0 ≡ 0 →
+    headRight ws ≡ headCoordinatesRight ws
+unfolding headRight
+head-coordinates ws key value mark owed low high =
+    rw (
+      eq-eqb (keyAt ws 0) 0 key,
+      eq-eqb (valueAt ws 0) 0 value,
+      eq-eqb (markAt ws 0) 2 mark,
+      eq-eqb (owedAt ws 0) 0 owed,
+      eq-eqb (lowAt ws 0) 0 low,
+      eq-eqb (highAt ws 0) 0 high,
+    )
+    refl
+
+module _ {ws : List ℕ} {s : Settings} (h : Shaped ws s) {agreed : ℕ} (run : agreed ≡ pathRun ws 0 0 (s .dimensions - 0)) where
+  pub head-elsewhere :
+      (positionWord ws ≡ 0 → ⊥) → record { right = true; left = s .cells - 1; last = 0; agreed = agreed; passed = false } ≡ atHead ws
+  unfolding atHead
+  head-elsewhere away = rw (ne-eqb (positionWord ws) 0 away, run, sub-zero (s .dimensions), ← shaped-dimensions h, ← shaped-cells h) refl
+
+  pub head-position :
+      positionWord ws ≡ 0 →
+      record { right = eqb agreed (s .dimensions); left = s .cells - 1; last = 0; agreed = agreed; passed = true } ≡ atHead ws
+  unfolding atHead
+  head-position here = rw (eq-eqb (positionWord ws) 0 here, run, sub-zero (s .dimensions), ← shaped-dimensions h, ← shaped-cells h) refl
+
+-- The free cells
+
+-- word j of cell x is 0
+abbrev pub zeroWord : List ℕ → ℕ → ℕ → Bool
+zeroWord ws x j = eqb (wordAt ws x j) 0
+
+pub free-outside : (ws : List ℕ) (c : ℕ) → getD ws 2 0 ≤ c → freeRight ws c ≡ false
+unfolding freeRight
+free-outside ws c h = rw (le-ltb c (getD ws 2 0) h) refl
+
+pub free-inside : (ws : List ℕ) (c : ℕ) → c < getD ws 2 0 → freeRight ws c ≡ allFrom (zeroWord ws c) 1 (cellWords (getD ws 0 0) - 1)
+unfolding freeRight
+free-inside ws c h = rw (lt-ltb c (getD ws 2 0) h) refl
+
+module _ (ws : List ℕ) (c : ℕ) where
+  pub chain-more :
+      (n : ℕ) {next : ℕ} → 0 < n → freeRight ws c ≡ true → next ≡ wordAt ws c 0 → chainRight ws n c ≡ chainRight ws (n - 1) next
+  unfolding chainRight
+  chain-more zero h free e = absurd (omega arith)
+  chain-more (suc n) h free e =
+      let k : suc n - 1 ≡ n = omega arith in
+      rw (k, free, e) refl
+
+  pub chain-broken : (n : ℕ) → 0 < n → freeRight ws c ≡ false → chainRight ws n c ≡ false
+  unfolding chainRight
+  chain-broken zero h free = absurd (omega arith)
+  chain-broken (suc n) h free = rw free refl
+
+  pub chain-end : (n : ℕ) → n ≤ 0 → chainRight ws n c ≡ eqb c 0
+  unfolding chainRight
+  chain-end zero h = refl
+  chain-end (suc n) h = absurd (omega arith)
+
+-- The header
+
+-- the three tests of the header
+pub header-is :
+    (ws : List ℕ) →
+    headerRight ws
+    ≡ (inRange (getD ws 0 0) (getD ws 1 0) (getD ws 2 0)
+    && (eqb (length ws) (lengthOf (getD ws 0 0) (getD ws 2 0)) && isBase (getD ws 0 0) (getD ws 1 0) (getD ws 3 0)))
+unfolding headerRight isBase
+header-is ws = refl
+
+module _ (ws : List ℕ) where
+  pub header-short : length ws < 5 → variants.NotAList ≡ headerOf ws
+  header-short h = rw (refuted (headerRight ws) (λ t. let e = header-right ws t .size in omega arith)) refl
+
+  pub header-range :
+      {t : Bool} → t ≡ inRange (getD ws 0 0) (getD ws 1 0) (getD ws 2 0) → not t ≡ true → variants.NotAList ≡ headerOf ws
+  header-range {t} e f = rw (header-is ws, ← e, not-true t f) refl
+
+  pub header-length : (length ws ≡ lengthOf (getD ws 0 0) (getD ws 2 0) → ⊥) → variants.NotAList ≡ headerOf ws
+  header-length other = rw (refuted (headerRight ws) (λ t. other (header-right ws t .size))) refl
+
+  pub header-base : {t : Bool} → t ≡ isBase (getD ws 0 0) (getD ws 1 0) (getD ws 3 0) → not t ≡ true → variants.NotAList ≡ headerOf ws
+  header-base {t} e f = simp (header-is ws, sym e, not-true t f, and-false) refl
+
+  pub header-list :
+      inRange (getD ws 0 0) (getD ws 1 0) (getD ws 2 0) ≡ true → length ws ≡ lengthOf (getD ws 0 0) (getD ws 2 0) →
+      isBase (getD ws 0 0) (getD ws 1 0) (getD ws 3 0) ≡ true → variants.List (settingsAt ws) ≡ headerOf ws
+  header-list range size base = rw (header-is ws, range, eq-eqb (length ws) (lengthOf (getD ws 0 0) (getD ws 2 0)) size, base) refl
+
+-- words whose header is that of a list with the settings s
+pub record Headed (ws : List ℕ) (s : Settings) : Type 0 where
+  pub right : headerRight ws ≡ true
+  pub shaped : Shaped ws s
+  pub base : 0 < s .base
+  pub cells : 0 < s .cells
+
+pub headed : {ws : List ℕ} {s : Settings} {r : Reading} → r ≡ headerOf ws → r ≡ variants.List s → Headed ws s
+headed {ws} {s} p q = at (headerRight ws) refl (sym p ∙ q)
+  where
+    at : (t : Bool) → headerRight ws ≡ t → cond t (variants.List (settingsAt ws)) variants.NotAList ≡ variants.List s → Headed ws s
+    at true e f =
+        let h = header-right ws e in
+        let k : settingsAt ws ≡ s = cc in
+        rw (← k)
+        (record {
+          right = e;
+          shaped =
+              record {
+                header = refl;
+                long = h .size;
+                dimensions-least = h .in-range .least-dimensions;
+                dimensions-most = h .in-range .most-dimensions;
+                cells-most = h .in-range .most-cells;
+              };
+          base = h .positive;
+          cells = omega (arith, h .in-range .least-cells);
+        })
+    at false e f = absurd (let z : _≡_ {A = ℕ} 0 1 = cc in omega arith)
+
+pub not-headed : (ws : List ℕ) {r : Reading} → r ≡ headerOf ws → r ≡ variants.NotAList → headerRight ws ≡ true → ⊥
+not-headed ws p q e = let z : _≡_ {A = ℕ} 0 1 = cc in omega arith
+
+-- The answer
+
+-- the tests behind the header
+pub record Accepts (ws : List ℕ) : Type 0 where
+  pub header : headerRight ws ≡ true
+  pub head : headRight ws ≡ true
+  pub start : atHead ws .right ≡ true
+  pub right : seenAll ws .right ≡ true
+  pub passed : seenAll ws .passed ≡ true
+  pub chain : chainRight ws (seenAll ws .left) (getD ws 4 0) ≡ true
+
+accepted : (ws : List ℕ) → accepts ws ≡ true → Accepts ws
+unfolding accepts
+accepted ws e = at (headerRight ws) refl e
+  where
+    tests : Bool
+    tests =
+        headRight ws
+        && ((atHead ws .right && seenAll ws .right) && (seenAll ws .passed && chainRight ws (seenAll ws .left) (getD ws 4 0)))
+
+    at : (t : Bool) → headerRight ws ≡ t → elim t [ true ↦ tests | false ↦ false ] ≡ true → Accepts ws
+    at true h e =
+        let chain = chainRight ws (seenAll ws .left) (getD ws 4 0) in
+        let t = both (headRight ws) ((atHead ws .right && seenAll ws .right) && (seenAll ws .passed && chain)) e in
+        let u = both (atHead ws .right && seenAll ws .right) (seenAll ws .passed && chain) (t .1) in
+        let v = both (atHead ws .right) (seenAll ws .right) (u .0) in
+        let w = both (seenAll ws .passed) chain (u .1) in
+        record { header = h; head = t .0; start = v .0; right = v .1; passed = w .0; chain = w .1 }
+    at false h e = absurd (false≢true e)
+
+accepts-all : (ws : List ℕ) → Accepts ws → accepts ws ≡ true
+unfolding accepts
+accepts-all ws a =
+    let chain = chainRight ws (seenAll ws .left) (getD ws 4 0) in
+    let right = and-both (atHead ws .right) (seenAll ws .right) (a .start) (a .right) in
+    let ends = and-both (seenAll ws .passed) chain (a .passed) (a .chain) in
+    rw (a .header, accepts)
+    (and-both (headRight ws) ((atHead ws .right && seenAll ws .right) && (seenAll ws .passed && chain)) (a .head)
+    (and-both (atHead ws .right && seenAll ws .right) (seenAll ws .passed && chain) right ends))
+
+pub refuse : (ws : List ℕ) → (Accepts ws → ⊥) → variants.NotAList ≡ readingOf ws
+unfolding readingOf
+refuse ws never = rw (← accepts-is-list ws, refuted (accepts ws) (λ t. never (accepted ws t))) refl
+
+pub accept : {ws : List ℕ} {s : Settings} → Shaped ws s → Accepts ws → variants.List s ≡ readingOf ws
+unfolding readingOf
+accept {ws} h a = rw (← accepts-is-list ws, accepts-all ws a, h .header) refl
+
+starts : (ws : List ℕ) {start : Seen} → start ≡ atHead ws → start .left ≡ getD ws 2 0 - 1
+unfolding atHead
+starts ws p = ap (λ (t : Seen). t .left) p
+
+pub all-seen : {ws : List ℕ} {s : Settings} {start r : Seen} → Headed ws s → start ≡ atHead ws → Children ws s 0 0 start r → r ≡ seenAll ws
+all-seen {ws} {s} h p c =
+    c .is (getD ws 2 0) (omega (arith, shaped-cells (h .shaped), h .cells, starts ws p))
+    ∙ rw (p, sub-zero (s .dimensions), ← shaped-dimensions (h .shaped)) refl

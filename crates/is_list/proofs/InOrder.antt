@@ -1,0 +1,185 @@
+-- The cells in order, as the code reads them: the path's words beside the way down, a cell entered, and the children of a cell.
+use mathlib.Core.Path.{_≡_, refl, sym, _∙_}
+use mathlib.Core.Bool.{Bool, true, false, cond, _&&_, _||_, not, and-assoc, or-true, or-false, false≢true}
+use mathlib.Core.List.{List}
+use Prim.Native.Nat.{ℕ, zero, suc, _+_, _-_, _≤_, _<_}
+use native.Mathlib.Numerals.{add-one}
+use native.Mathlib.Omega.{arith}
+use lib.Dec.{eqb}
+use lib.ListN.{getD}
+use borrow.Author.Tests.{lt-ltb, le-ltb, eq-eqb, ne-eqb}
+use Rattle.settings.specs.Numbers.{headerWords}
+use Rattle.settings.specs.declared.Settings.{Settings}
+use Rattle.meaning.specs.Walk.{linkRead}
+use Rattle.words.specs.Shaped.{Shaped}
+use Rattle.words.proofs.Laws.{shaped-dimensions, shaped-cells}
+use Rattle.tree.specs.declared.Seen.{Seen}
+use Rattle.tree.specs.Tree.{pathRun, agreedAt, positionWord, cellRight, wrong, entered, along, children}
+use Rattle.is_list.specs.Parts.{cellAloneRight, SeenWithin, Entered, Children}
+use Rattle.is_list.proofs.OneCell.{alone, alone-owed}
+
+-- The path
+
+module _ (ws : List ℕ) (y : ℕ) {i n : ℕ} where
+  pub run-next : i < n → getD ws (headerWords + i) 0 ≡ y → pathRun ws y i (n - i) ≡ pathRun ws y (i + 1) (n - (i + 1))
+  unfolding pathRun
+  run-next h e =
+      let k : n - i ≡ suc (n - (i + 1)) = omega arith in
+      rw (k, eq-eqb (getD ws (headerWords + i) 0) y e, add-one i) refl
+
+  pub run-ends : i < n → (getD ws (headerWords + i) 0 ≡ y → ⊥) → pathRun ws y i (n - i) ≡ i
+  unfolding pathRun
+  run-ends h other =
+      let k : n - i ≡ suc (n - (i + 1)) = omega arith in
+      rw (k, ne-eqb (getD ws (headerWords + i) 0) y other) refl
+
+  pub run-all : n ≤ i → pathRun ws y i (n - i) ≡ i
+  unfolding pathRun
+  run-all h =
+      let k : n - i ≡ 0 = omega arith in
+      rw k refl
+
+pub agreed-before : (ws : List ℕ) (y : ℕ) {e agreed : ℕ} → agreed < e → agreedAt ws y e agreed ≡ agreed
+unfolding agreedAt
+agreed-before ws y {e} {agreed} h = rw (lt-ltb agreed e h) refl
+
+pub agreed-run :
+    {ws : List ℕ} {s : Settings} → Shaped ws s → (y : ℕ) {e agreed : ℕ} → e ≤ agreed →
+    agreedAt ws y e agreed ≡ pathRun ws y e (s .dimensions - e)
+unfolding agreedAt
+agreed-run h y {e} {agreed} le = rw (le-ltb agreed e le, shaped-dimensions h) refl
+
+pub position-is : {ws : List ℕ} {s : Settings} → Shaped ws s → getD ws (4 + s .dimensions) 0 ≡ positionWord ws
+position-is {ws} {s} h =
+    let k : 4 + s .dimensions ≡ headerWords + getD ws 0 0 - 1 = omega (arith, shaped-dimensions h) in
+    rw k refl
+
+-- A cell is entered
+
+module _ (ws : List ℕ) (y e : ℕ) (seen : Seen) where
+  -- where cell y is the position, all path words agree
+  abbrev path-right : Bool
+  path-right = not (eqb y (positionWord ws)) || eqb (agreedAt ws y e (seen .agreed)) (getD ws 0 0)
+
+  cell-is : cellRight ws y e seen ≡ (cellAloneRight ws y e seen && path-right)
+  unfolding cellRight
+  cell-is = simp and-assoc refl
+
+  pub enter-not : cellAloneRight ws y e seen ≡ false → entered ws y e seen ≡ wrong seen
+  unfolding entered
+  enter-not h = rw (cell-is, h) refl
+
+  pub enter-lost :
+      cellAloneRight ws y e seen ≡ true → y ≡ positionWord ws → (agreedAt ws y e (seen .agreed) ≡ getD ws 0 0 → ⊥) →
+      entered ws y e seen ≡ wrong seen
+  unfolding entered
+  enter-lost h here off =
+      rw (cell-is, h, eq-eqb y (positionWord ws) here, ne-eqb (agreedAt ws y e (seen .agreed)) (getD ws 0 0) off) refl
+
+  pub enter-position :
+      {agreed : ℕ} → cellAloneRight ws y e seen ≡ true → y ≡ positionWord ws → agreed ≡ agreedAt ws y e (seen .agreed) →
+      agreed ≡ getD ws 0 0 →
+      entered ws y e seen ≡ record { right = true; left = seen .left - 1; last = y; agreed = agreed; passed = true }
+  unfolding entered
+  enter-position {agreed} h here q on =
+      rw (cell-is, h, ← q, eq-eqb y (positionWord ws) here, eq-eqb agreed (getD ws 0 0) on, or-true (seen .passed)) refl
+
+  pub enter-other :
+      {agreed : ℕ} → cellAloneRight ws y e seen ≡ true → (y ≡ positionWord ws → ⊥) → agreed ≡ agreedAt ws y e (seen .agreed) →
+      entered ws y e seen ≡ record { right = true; left = seen .left - 1; last = y; agreed = agreed; passed = seen .passed }
+  unfolding entered
+  enter-other {agreed} h other q =
+      rw (cell-is, h, ← q, ne-eqb y (positionWord ws) other, or-false (seen .passed)) refl
+
+module _ {ws : List ℕ} {s : Settings} (h : Shaped ws s) (y e : ℕ) (seen : Seen) (within : SeenWithin s seen) where
+  pub entered-wrong : {r : Seen} → r ≡ wrong seen → entered ws y e seen ≡ wrong seen → Entered ws s y e seen r
+  entered-wrong p q =
+      rw p
+      (record {
+        is = sym q;
+        within = record { last = within .last; agreed = within .agreed };
+        cell = λ t. absurd (false≢true t);
+        owed = λ t. absurd (false≢true t);
+        left = omega arith;
+        falls = λ t. absurd (false≢true t);
+      })
+
+  pub entered-right :
+      {agreed : ℕ} {passed : Bool} → cellAloneRight ws y e seen ≡ true → agreed ≤ s .dimensions →
+      entered ws y e seen ≡ record { right = true; left = seen .left - 1; last = y; agreed = agreed; passed = passed } →
+      Entered ws s y e seen (record { right = true; left = seen .left - 1; last = y; agreed = agreed; passed = passed })
+  entered-right right fits q =
+      let a = alone ws y e seen right in
+      let inside : y < s .cells = omega (arith, shaped-cells h) in
+      record {
+        is = sym q;
+        within = record { last = inside; agreed = fits };
+        cell = λ t. inside;
+        owed = λ t. omega (arith, shaped-cells h, alone-owed ws y e seen (omega (arith, shaped-cells h)) a);
+        left = omega arith;
+        falls = λ t. omega arith;
+      }
+
+-- The children of a cell
+
+pub children-none :
+    {ws : List ℕ} {s : Settings} {e x : ℕ} {seen : Seen} → s .dimensions ≤ e → SeenWithin s seen → Children ws s e x seen seen
+unfolding children
+children-none {ws} {s} {e} {x} {seen} h within =
+    let k : s .dimensions - e ≡ 0 = omega arith in
+    record { is = λ fuel enough. rw k refl; within = within; falls = omega arith }
+
+-- the children of x by links e and higher, in so much fuel: by links e the cells that hang from x, the first `rest` of them
+abbrev pub hanging : List ℕ → Settings → ℕ → ℕ → ℕ → ℕ → Seen → Seen
+hanging ws s e fuel rest x seen = along (children fuel ws (s .dimensions - (e + 1))) ws e rest x seen
+
+pub children-along :
+    {ws : List ℕ} {s : Settings} → Shaped ws s → {e x : ℕ} {seen r : Seen} → e < s .dimensions → SeenWithin s r → r .left ≤ seen .left →
+    ((fuel : ℕ) → seen .left < fuel → hanging ws s e fuel fuel x seen ≡ r) → Children ws s e x seen r
+unfolding children
+children-along {ws} {s} h {e} {x} {seen} {r} he within falls all =
+    let k : s .dimensions - e ≡ suc (s .dimensions - (e + 1)) = omega arith in
+    let d : getD ws 0 0 - suc (s .dimensions - (e + 1)) ≡ e = omega (arith, shaped-dimensions h) in
+    record { is = λ fuel enough. rw (k, d) (sym (all fuel enough)); within = within; falls = falls }
+
+-- Reading the cells that hang from x has come to cell `at`, and `rest` is fuel enough for the others.
+pub record Going (ws : List ℕ) (s : Settings) (e x : ℕ) (seen : Seen) (at : ℕ) (read : Seen) (fuel : ℕ) : Type 0 where
+  pub rest : ℕ
+  pub enough : read .left < rest
+  pub same : hanging ws s e fuel fuel x seen ≡ hanging ws s e fuel rest at read
+
+along-is :
+    (higher : ℕ → Seen → Seen) (ws : List ℕ) (e rest x : ℕ) (seen : Seen) {t u : Seen} {y : ℕ} → 0 < rest → t ≡ higher x seen →
+    y ≡ linkRead ws x e → u ≡ entered ws y e t →
+    along higher ws e rest x seen ≡ cond (t .right) (cond (eqb y 0) t (cond (u .right) (along higher ws e (rest - 1) y u) u)) t
+unfolding along
+along-is higher ws e zero x seen pos p q r = absurd (omega arith)
+along-is higher ws e (suc n) x seen pos p q r =
+    let k : suc n - 1 ≡ n = omega arith in
+    rw (r, q, p, k) refl
+
+module _ (ws : List ℕ) (s : Settings) (e x : ℕ) (seen : Seen) (at : ℕ) (read : Seen) (fuel : ℕ) {t : Seen}
+    (g : Going ws s e x seen at read fuel) (is : t ≡ children fuel ws (s .dimensions - (e + 1)) at read) where
+  -- one cell more
+  step :
+      {y : ℕ} {u : Seen} → y ≡ linkRead ws at e → u ≡ entered ws y e t →
+      hanging ws s e fuel fuel x seen
+      ≡ cond (t .right) (cond (eqb y 0) t (cond (u .right) (hanging ws s e fuel (g .rest - 1) y u) u)) t
+  step p q = g .same ∙ along-is (children fuel ws (s .dimensions - (e + 1))) ws e (g .rest) at read (omega (arith, g .enough)) is p q
+
+  pub goes-wrong : t .right ≡ false → hanging ws s e fuel fuel x seen ≡ t
+  goes-wrong f = step refl refl ∙ rw f refl
+
+  pub goes-out : {y : ℕ} → t .right ≡ true → y ≡ linkRead ws at e → y ≡ 0 → hanging ws s e fuel fuel x seen ≡ t
+  goes-out {y} f p z = step p refl ∙ rw (f, eq-eqb y 0 z) refl
+
+  pub goes-bad :
+      {y : ℕ} {u : Seen} → t .right ≡ true → y ≡ linkRead ws at e → (y ≡ 0 → ⊥) → u ≡ entered ws y e t → u .right ≡ false →
+      hanging ws s e fuel fuel x seen ≡ u
+  goes-bad {y} f p z q w = step p q ∙ rw (f, ne-eqb y 0 z, w) refl
+
+  pub goes-on :
+      {y : ℕ} {u : Seen} → t .right ≡ true → y ≡ linkRead ws at e → (y ≡ 0 → ⊥) → u ≡ entered ws y e t → u .right ≡ true →
+      u .left < read .left → Going ws s e x seen y u fuel
+  goes-on {y} f p z q w l =
+      record { rest = g .rest - 1; enough = omega (arith, g .enough); same = step p q ∙ rw (f, ne-eqb y 0 z, w) refl }

@@ -1,0 +1,88 @@
+-- `is_list::standing::enter` meets its contract: the tests of the cell, and of the path where it is the position,
+-- are those of the definition.
+use mathlib.Core.Bool.{true}
+use mathlib.Core.Path.{_≡_}
+use native.Mathlib.Omega.{arith}
+use borrow.Author.Needs.{needs}
+use Rattle.words.proofs.Laws.{shaped-dimensions}
+use Rattle.is_list.specs.Parts.{cellAloneRight}
+use Rattle.is_list.proofs.Laws.{holds, lacks}
+use Rattle.is_list.proofs.OneCell.{alone}
+use Rattle.is_list.proofs.InOrder.{enter-not, enter-lost, enter-position, enter-other, entered-wrong, entered-right}
+use Rattle.is_list.proofs.standing.enter.Statement.{statement}
+use Rattle.is_list.proofs.standing.enter.Tie as tie
+
+-- the cell was found right
+right : (c : tie.Else1) → let a = c .before .before .before .args in cellAloneRight (a .list .now) (a .y) (a .e) (a .seen) ≡ true
+right c = holds (c .before .cell-alone-right .ensures) (c .if1 .left)
+
+cell-alone-right-requires : tie.Need-cell-alone-right-requires
+cell-alone-right-requires c κs = search needs
+
+wrong-requires : tie.Need-wrong-requires
+wrong-requires c κs = search needs
+
+returns : tie.Need-returns
+returns c =
+    let t = c .before .before .cell-alone-right in
+    let s = c .before .before .before .before in
+    let a = s .args in
+    entered-wrong (s .pre .0) (a .y) (a .e) (a .seen) (s .pre .1 .1 .1) (c .wrong .ensures)
+    (enter-not (a .list .now) (a .y) (a .e) (a .seen) (lacks (t .ensures) (c .before .if1 .taken)))
+
+agreed-at-requires : tie.Need-agreed-at-requires
+agreed-at-requires c κs = search needs
+
+sub-left : tie.Need-sub-left
+sub-left c =
+    let a = c .before .before .before .before .before .args in
+    omega (arith, alone (a .list .now) (a .y) (a .e) (a .seen) (right (c .before .before)) .left)
+
+position-word-requires : tie.Need-position-word-requires
+position-word-requires c κs = search needs
+
+wrong-requires-2 : tie.Need-wrong-requires-2
+wrong-requires-2 c κs = search needs
+
+returns-2 : tie.Need-returns-2
+returns-2 c =
+    let s = c .before .before .before .before .before .before .before .before .before .before in
+    let a = s .args in
+    let r = right (c .before .before .before .before .before .before .before) in
+    let d = shaped-dimensions (s .pre .0) in
+    entered-wrong (s .pre .0) (a .y) (a .e) (a .seen) (s .pre .1 .1 .1) (c .wrong2 .ensures)
+    (enter-lost (a .list .now) (a .y) (a .e) (a .seen) r (omega arith) (λ e. omega arith))
+
+returns-3 : tie.Need-returns-3
+returns-3 c =
+    let s = c .before .before .before .before .before .before .before .before .before in
+    let a = s .args in
+    let r = right (c .before .before .before .before .before .before) in
+    let d = shaped-dimensions (s .pre .0) in
+    let g = c .before .before .before .before .before .agreed-at .ensures in
+    entered-right (s .pre .0) (a .y) (a .e) (a .seen) (s .pre .1 .1 .1) r (g .1)
+    (enter-position (a .list .now) (a .y) (a .e) (a .seen) r (omega arith) (g .0) (omega arith))
+
+returns-4 : tie.Need-returns-4
+returns-4 c =
+    let s = c .before .before .before .before .before .before .before in
+    let a = s .args in
+    let r = right (c .before .before .before .before) in
+    let g = c .before .before .before .agreed-at .ensures in
+    entered-right (s .pre .0) (a .y) (a .e) (a .seen) (s .pre .1 .1 .1) r (g .1)
+    (enter-other (a .list .now) (a .y) (a .e) (a .seen) r (λ e. omega arith) (g .0))
+
+pub enter-spec : {M : Type 1} → statement M
+enter-spec =
+    tie.close
+    (tie.spec
+    cell-alone-right-requires
+    wrong-requires
+    returns
+    agreed-at-requires
+    sub-left
+    position-word-requires
+    wrong-requires-2
+    returns-2
+    returns-3
+    returns-4)

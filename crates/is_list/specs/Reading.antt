@@ -1,0 +1,11 @@
+-- What the check answers.
+use mathlib.Core.Bool.{cond}
+use mathlib.Core.List.{List}
+use Prim.Native.Nat.{ℕ}
+use Rattle.meaning.specs.Reading.{isList, settingsAt}
+use Rattle.is_list.specs.declared.Reading.{Reading}
+use Rattle.is_list.specs.declared.Reading.the-variants as variants
+
+-- the settings of a list, or the case that document 01 gives number 3
+unfoldable pub readingOf : List ℕ → Reading
+readingOf ws = cond (isList ws) (variants.List (settingsAt ws)) variants.NotAList

@@ -1,0 +1,70 @@
+// The check for refusal 3: whether lent words are a list. It reads the list cell by cell in ascending order of keys, each child's own
+// children in turn, as crate tree has it on the words; that account accepts exactly the lists.
+ghost use mathlib.Core.Path.{_≡_};
+ghost use Rattle.is_list.specs.Reading.{readingOf};
+ghost use Rattle.is_list.specs.Parts.{headerOf};
+use settings::Settings;
+
+mod cell; // cell.rt: one standing cell, after the one read before it
+mod standing; // standing.rt: the standing cells in order, with the path
+mod head; // head.rt: the head, where the reading starts
+mod free; // free.rt: the chain of free cells
+
+// What the check answers: the settings of a list, or the case that document 01 gives number 3.
+pub enum Reading {
+    List(Settings),
+    NotAList,
+}
+
+// The settings that the header holds, where D, K and C are in range, the length is exact and b is the least number whose power D is
+// above K.
+fn header(list: &[u32]) -> Reading
+    ensures { λ r. ⌜ r ≡ headerOf (now (list .entry)) ⌝ }
+{
+    if list.len() < 5 {
+        return Reading::NotAList;
+    }
+    let s = Settings {
+        dimensions: list[0],
+        largest: list[1],
+        cells: list[2],
+        base: list[3],
+    };
+    if !settings::in_range(s.dimensions, s.largest, s.cells) {
+        return Reading::NotAList;
+    }
+    if list.len() != s.length() {
+        return Reading::NotAList;
+    }
+    if !settings::is_base(s.base, s.dimensions, s.largest) {
+        return Reading::NotAList;
+    }
+    Reading::List(s)
+}
+
+// Whether the lent words are a list, and its settings.
+pub fn is_list(list: &[u32]) -> Reading
+    ensures { λ r. ⌜ r ≡ readingOf (now (list .entry)) ⌝ }
+{
+    let Reading::List(s) = header(list) else {
+        return Reading::NotAList;
+    };
+    if !head::head_right(list, s) {
+        return Reading::NotAList;
+    }
+    let start = head::at_head(list, s);
+    if !start.right {
+        return Reading::NotAList;
+    }
+    let seen = standing::children(list, s, 0, 0, start);
+    if !seen.right {
+        return Reading::NotAList;
+    }
+    if !seen.passed {
+        return Reading::NotAList;
+    }
+    if !free::chain_right(list, s, seen.left, list[4]) {
+        return Reading::NotAList;
+    }
+    Reading::List(s)
+}
