@@ -1,8 +1,8 @@
-// The waiting list as a Rust host calls it: the operations by number and slice. Each is a thin exported function: it checks that the
+// The waiting list as a Rust host calls it: six operations by number and slice. Each is a thin exported function: it checks that the
 // lent words are a list, refuses by number 3 if they are not, and calls the inner function of the crate of its name. No one has a
 // `requires`, and each contract is the whole outcome that document 01 gives the call: the four numbers and every word.
 ghost use Rattle.meaning.specs.Refusals.{Meets};
-ghost use Rattle.meaning.specs.Operations.{setUpOut, insertOut, findOut, finishOut, takeOut};
+ghost use Rattle.meaning.specs.Operations.{setUpOut, insertOut, findOut, finishOut, takeOut, sweepOut};
 use is_list::Reading;
 use meaning::Answer;
 
@@ -56,4 +56,15 @@ pub extern "C" fn mdlist_take(list: &mut [u32]) -> Answer
         return meaning::refused(3);
     };
     take::take(list, s)
+}
+
+// Frees the dead cells before the position, so that they serve again.
+#[no_mangle]
+pub extern "C" fn mdlist_sweep(list: &mut [u32]) -> Answer
+    ensures { λ r. ⌜ Meets (sweepOut (now (list .entry))) r (now (list .exit)) ⌝ }
+{
+    let Reading::List(s) = is_list::is_list(list) else {
+        return meaning::refused(3);
+    };
+    sweep::sweep(list, s)
 }

@@ -19,11 +19,15 @@ pub enum Reply {
     NoCall,
 }
 
-// The line's call. One of an operation that `mdlist` does not export yet is answered as an unreadable line is: insert, find, finish, take
-// and sweep. Each needs one line here.
+// The line's call; a line that is not readable is answered 10.
 pub fn call(list: &mut [u32], kind: Kind) -> Reply {
     match kind {
         Kind::SetUp { d, k, c, len: _ } => return Reply::Four(mdlist::mdlist_set_up(d, k, c, list)),
+        Kind::Insert(key, value) => return Reply::Four(mdlist::mdlist_insert(list, key, value)),
+        Kind::Find(key) => return Reply::Four(mdlist::mdlist_find(list, key)),
+        Kind::Finish(key) => return Reply::Four(mdlist::mdlist_finish(list, key)),
+        Kind::Take => return Reply::Four(mdlist::mdlist_take(list)),
+        Kind::Sweep => return Reply::Four(mdlist::mdlist_sweep(list)),
         Kind::Put(_, _) => return Reply::NoCall,
         Kind::Length(_) => return Reply::NoCall,
         _ => return Reply::Four(meaning::refused(UNREADABLE)),

@@ -1,0 +1,81 @@
+-- Each way out of a sweep has the outcome of the definition: what is left is the picture of the swept state, and the count is that of the
+-- entries freed, whether all was paid before or not.
+use mathlib.Core.Path.{_≡_, refl, sym, ap, _∙_}
+use mathlib.Core.Bool.{Bool, true, false, false≢true, _||_}
+use mathlib.Core.List.{List, map}
+use Prim.Native.Nat.{ℕ, zero, suc, _+_, _-_}
+use native.Mathlib.Omega.{arith}
+use lib.ListN.{length, length-map, length-reverseAux}
+use Rattle.settings.specs.declared.Settings.{Settings}
+use Rattle.meaning.specs.State.{State}
+use Rattle.meaning.specs.Picture.{picture}
+use Rattle.meaning.specs.Reading.{read, Listed}
+use Rattle.meaning.specs.Refusals.{answer, accepted, Meets}
+use Rattle.meaning.specs.Operations.{owesFromFree, paid, withRow, deadFront, lastOf, freedBy, swept, sweepOut}
+use Rattle.meaning.specs.SweepStores.{finishAll}
+use Rattle.meaning.specs.declared.Answer.{Answer}
+use Rattle.meaning.proofs.SweepWords.{swept-paid, swept-stays}
+use Rattle.meaning.proofs.Outcomes.{sweep-outcome}
+use Rattle.finish.proofs.Debts.{listed-owes}
+use Rattle.paths.proofs.Listed.{on-listed}
+use Rattle.sweep.specs.declared.Target as code
+use Rattle.sweep.specs.Sweeping.{someOwesFrom, Paid, targetOf, sweptTo, cellsUpTo, Moves, droppedTo}
+use Rattle.sweep.proofs.Lists.{paid-read, target-read, moves-count, moves-swept}
+
+-- refusal 9's test is never met
+
+none-owes : (ws : List ℕ) → ((x : ℕ) → owesFromFree ws x ≡ false) → (x n : ℕ) → someOwesFrom ws x n ≡ false
+unfolding someOwesFrom
+none-owes ws f x zero = refl
+none-owes ws f x (suc n) = ap (λ t. t || someOwesFrom ws (suc x) n) (f x) ∙ none-owes ws f (suc x) n
+
+pub never-meets :
+    {ws : List ℕ} {s : Settings} → Listed ws s → {r : Answer} {left : List ℕ} {owes : Bool} → owes ≡ someOwesFrom ws 1 (s .cells - 1) → owes ≡ true →
+    Meets (sweepOut ws) r left
+never-meets {ws} {s} h e owes = absurd (false≢true (sym (e ∙ none-owes ws (listed-owes h) 1 (s .cells - 1)) ∙ owes))
+
+-- The swept state
+
+-- freed cells are free
+freed-count : (u : State) → length (swept u .free) ≡ length (freedBy (u .row)) + length (u .free)
+unfolding swept
+freed-count u =
+    omega (arith, length-reverseAux (map (λ x. x .cell) (freedBy (u .row))) (u .free), length-map (freedBy (u .row)) (λ x. x .cell))
+
+listed-outcome : {ws : List ℕ} {s : Settings} → Listed ws s → sweepOut ws ≡ accepted 0 0 (length (freedBy (read ws .row))) (picture (swept (read ws)))
+listed-outcome = on-listed (λ t ws s. sweepOut ws ≡ accepted 0 0 (length (freedBy (t .row))) (picture (swept t))) sweep-outcome
+
+module _ {ws : List ℕ} {s : Settings} (h : Listed ws s) {all : List ℕ} (pays : all ≡ finishAll (s .dimensions) ws 1 (s .cells - 1)) where
+  swept-meets :
+      {r : Answer} {left : List ℕ} {count : ℕ} → left ≡ picture (swept (read all)) → count ≡ length (freedBy (read all .row)) → r ≡ answer 0 0 0 count →
+      Meets (sweepOut ws) r left
+  swept-meets words freed a =
+      let same = paid-read h pays in
+      let result : swept (read all) ≡ swept (read ws) = ap swept same ∙ swept-paid (read ws) in
+      let number : length (freedBy (read all .row)) ≡ length (freedBy (read ws .row)) =
+      omega (arith, freed-count (read all), freed-count (read ws), ap (λ u. length (u .free)) result, ap (λ u. length (u .free)) same) in
+      rw (listed-outcome h) (record { answered = a ∙ ap (answer 0 0 0) (freed ∙ number); words = words ∙ ap picture result })
+
+  -- the position stays the head
+  stays :
+      (t : code.Target) → Paid all s → targetOf t ≡ sweptTo all s → t .cell ≡ 0 →
+      (all ≡ picture (swept (read all))) × (0 ≡ length (freedBy (read all .row)))
+  stays t k is none =
+      on-listed (λ u ws s. map paid (u .row) ≡ u .row → targetOf t ≡ sweptTo ws s → (ws ≡ picture (swept u)) × (0 ≡ length (freedBy (u .row))))
+      (λ u v unowing q.
+      let head : lastOf (deadFront (u .row)) .cell ≡ 0 = sym (ap (λ g. g .cell) (q ∙ target-read u v)) ∙ none in
+      let same : swept u ≡ u = swept-stays u v head ∙ ap (withRow u) unowing in
+      (ap picture (sym same), omega (arith, freed-count u, ap (λ g. length (g .free)) same)))
+      (k .listed) (k .unowing) is
+
+  pub stays-meets :
+      (t : code.Target) {r : Answer} → Paid all s → targetOf t ≡ sweptTo all s → t .cell ≡ 0 → r ≡ answer 0 0 0 0 → Meets (sweepOut ws) r all
+  stays-meets t k is none a =
+      let so = stays t k is none in
+      swept-meets (so .0) (so .1) a
+
+  pub moves-meets :
+      {t : code.Target} {r : Answer} {left : List ℕ} {count : ℕ} → Moves all s t →
+      left ≡ droppedTo all s t →
+      count ≡ length (cellsUpTo all s (t .cell)) → r ≡ answer 0 0 0 count → Meets (sweepOut ws) r left
+  moves-meets m words freed a = swept-meets (words ∙ moves-swept m) (freed ∙ moves-count m) a

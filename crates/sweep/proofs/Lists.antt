@@ -1,0 +1,242 @@
+-- What a list gives a sweep. Its words are the picture of a state in order: going from the head passes every entry and ends, finishing keeps a
+-- list, and where nobody owes any more, the new position, its key and the cells to free are those of the definition.
+use mathlib.Core.Path.{_≡_, refl, sym, ap, _∙_, subst}
+use mathlib.Core.Bool.{false}
+use mathlib.Core.List.{List, [], _∷_, _++_, map}
+use Prim.Native.Nat.{ℕ, zero, suc, _-_, _<_}
+use native.Mathlib.Omega.{arith}
+use lib.ListN.{length, getD, replicate, length-append, length-map}
+use lib.Seq.{append-snoc}
+use Rattle.settings.specs.declared.Settings.{Settings}
+use Rattle.meaning.specs.Keys.{coordinate, shared}
+use Rattle.meaning.specs.Row.{Entry, headEntry}
+use Rattle.meaning.specs.State.{State}
+use Rattle.meaning.specs.Picture.{firstNumber, picture}
+use Rattle.meaning.specs.Reading.{read, Listed}
+use Rattle.meaning.specs.Walk.{keyAt}
+use Rattle.meaning.specs.Operations.{paid, finished, withRow, deadFront, fromLive, lastOf, freedBy, swept}
+use Rattle.meaning.specs.Stores.{finishWords}
+use Rattle.meaning.specs.SweepStores.{Target, finishAll, cellsBefore, takeLinks, relinkHead, freeCell, chainValues, dropChained}
+use Rattle.meaning.proofs.Order.{All, all-map}
+use Rattle.meaning.proofs.State.{Sound, base-positive}
+use Rattle.meaning.proofs.Cells.{Distinct, free-length}
+use Rattle.meaning.proofs.Places.{all-at, all-mapped, lastFrom}
+use Rattle.meaning.proofs.Keeps.{cell-alone, cells-positive, row-split}
+use Rattle.meaning.proofs.KeepsFinish.{finished-sound}
+use Rattle.meaning.proofs.KeepsSweep.{keptBy, swept-split}
+use Rattle.meaning.proofs.Reading.{read-of-picture, picture-is-list}
+use Rattle.meaning.proofs.WalkRead.{dimensions-read}
+use Rattle.meaning.proofs.SentencesCells.{place-key, place-coordinate, placed-below}
+use Rattle.meaning.proofs.SentencesShape.{HasPlace, row-placed, key-below}
+use Rattle.meaning.proofs.PathNext.{wayTo, PathOf, head-on-way, way-next, way-end, way-on}
+use Rattle.meaning.proofs.Stores.{Exact, wordIn}
+use Rattle.meaning.proofs.SweepStores.{Dropping, takeLinks-other, relinkHead-cell, freeCell-cell}
+use Rattle.meaning.proofs.SweepFinish.{finish-cell, paid-unowing, finish-all, paid-sound, paid-owes-nothing}
+use Rattle.meaning.proofs.SweepWords.{swept-front, sweptNumber, sweptZeros, sweptPath, swept-dropping}
+use Rattle.meaning.proofs.SweepTarget.{before-here, before-past, target-is, freed-is}
+use Rattle.meaning.proofs.SweepChain.{Chained, chain-chained, swept-chained}
+use Rattle.paths.specs.Paths.{pathOf}
+use Rattle.paths.proofs.Listed.{picture-shaped, on-listed, listed-shaped}
+use Rattle.sweep.specs.declared.Target as code
+use Rattle.sweep.specs.declared.Freed.{Freed}
+use Rattle.sweep.specs.Sweeping.{Paid, targetOf, sweptTo, cellsTo, cellsUpTo, zerosOf, Reaches, Keyed, ChainIn, ChainedUpTo, Moves, droppedTo}
+
+-- Finishing
+
+picture-listed : (t : State) → Sound t → Listed (picture t) (t .settings)
+picture-listed t v = record { list = picture-is-list t v; settings = picture-shaped t v .header }
+
+pub finish-listed : {ws : List ℕ} {s : Settings} → Listed ws s → (x : ℕ) → x < s .cells → Listed (finishWords (s .dimensions) ws x) s
+finish-listed =
+    on-listed (λ t ws s. (x : ℕ) → x < s .cells → Listed (finishWords (s .dimensions) ws x) s)
+    (λ t v x h. subst (λ ws. Listed ws (t .settings)) (sym (finish-cell t v x h)) (picture-listed (withRow t (finished x (t .row))) (finished-sound t x v)))
+
+-- the state in which all is paid
+abbrev allPaid : State → State
+allPaid t = withRow t (map paid (t .row))
+
+pub paid-read : {ws : List ℕ} {s : Settings} → Listed ws s → {left : List ℕ} → left ≡ finishAll (s .dimensions) ws 1 (s .cells - 1) → read left ≡ allPaid (read ws)
+paid-read h {left} e =
+    on-listed (λ t ws s. left ≡ finishAll (s .dimensions) ws 1 (s .cells - 1) → read left ≡ allPaid t)
+    (λ t v p. ap read (p ∙ finish-all t v) ∙ read-of-picture (allPaid t) (paid-sound t v)) h e
+
+pub all-paid : {ws : List ℕ} {s : Settings} → Listed ws s → {left : List ℕ} → left ≡ finishAll (s .dimensions) ws 1 (s .cells - 1) → Paid left s
+all-paid {ws} {s} h {left} e =
+    record {
+      listed =
+          on-listed (λ t ws s. left ≡ finishAll (s .dimensions) ws 1 (s .cells - 1) → Listed left s)
+          (λ t v p. subst (λ l. Listed l (t .settings)) (sym (p ∙ finish-all t v)) (picture-listed (allPaid t) (paid-sound t v))) h e;
+      unowing =
+          subst (λ t. map paid (t .row) ≡ t .row) (sym (paid-read h e)) (paid-unowing (map paid (read ws .row)) (paid-owes-nothing (read ws .row)));
+    }
+
+-- nobody owes
+unowing-all : (row : List Entry) → map paid row ≡ row → All (λ x. x .owes ≡ false) row
+unowing-all row e = subst (All (λ x. x .owes ≡ false)) e (paid-owes-nothing row)
+
+-- Going from the head
+
+all-index : (cells : List ℕ) → All (λ c. 0 < c) cells → (i : ℕ) → i < length cells → 0 < getD cells i 0
+all-index [] a i h = absurd (omega arith)
+all-index (c ∷ cells) a zero h = a .0
+all-index (c ∷ cells) a (suc i) h = all-index cells (a .1) i (omega arith)
+
+reaches-over :
+    {ws : List ℕ} {s : Settings} {x : ℕ} {path cells : List ℕ} → cellsTo ws s x path ≡ cells → length cells < s .cells → All (λ c. 0 < c) cells →
+    Reaches ws s x path
+reaches-over {cells = cells} e h a =
+    record {
+      ends = omega (arith, ap length e);
+      standing = subst (λ l. (i : ℕ) → i < length l → 0 < getD l i 0) (sym e) (all-index cells a);
+    }
+
+module _ (t : State) (v : Sound t) where
+  before-all :
+      (fuel : ℕ) (front later : List Entry) → t .row ≡ front ++ later → length later < fuel →
+      cellsBefore fuel (picture t) 0 (wayTo t front) ≡ map (λ y. y .cell) later
+  before-all zero front later split h = absurd (omega arith)
+  before-all (suc fuel) front [] split h =
+      before-here (picture t) (t .settings .dimensions) (dimensions-read t) fuel 0 (wayTo t front) 0 (way-end v (record { split = split; is = refl }))
+  before-all (suc fuel) front (y ∷ later) split h =
+      let b = t .settings .base in
+      let D = t .settings .dimensions in
+      let here : PathOf t (wayTo t front) front (y ∷ later) = record { split = split; is = refl } in
+      let other = cell-alone t v front y later split .standing in
+      before-past (picture t) D (dimensions-read t) fuel 0 (wayTo t front) (y .cell) (shared b D (lastFrom headEntry front .key) (y .key)) (way-next v here) (λ e. omega arith)
+      ∙ ap {B = List ℕ} (λ path. y .cell ∷ cellsBefore fuel (picture t) 0 path) (way-on v here .is)
+      ∙ ap {B = List ℕ} (λ cells. y .cell ∷ cells) (before-all fuel (front ++ y ∷ []) later (split ∙ sym (append-snoc front y later)) (omega arith))
+
+  row-below : length (t .row) < t .settings .cells
+  row-below = omega (arith, v .cells-least, free-length t v)
+
+  reaches-end : Reaches (picture t) (t .settings) 0 (replicate (t .settings .dimensions) 0)
+  reaches-end =
+      reaches-over
+      (ap (cellsBefore (t .settings .cells) (picture t) 0) (head-on-way t .is) ∙ before-all (t .settings .cells) [] (t .row) refl row-below)
+      (omega (arith, row-below, length-map (t .row) (λ y. y .cell))) (all-mapped (λ c. 0 < c) (λ y. y .cell) (t .row) (cells-positive t v))
+
+pub listed-reaches : {ws : List ℕ} {s : Settings} → Listed ws s → Reaches ws s 0 (replicate (s .dimensions) 0)
+listed-reaches = on-listed (λ t ws s. Reaches ws s 0 (replicate (s .dimensions) 0)) reaches-end
+
+-- The new position
+
+module _ (t : State) (v : Sound t) where
+  pub target-read : sweptTo (picture t) (t .settings) ≡ record { cell = lastOf (deadFront (t .row)) .cell; number = sweptNumber t; path = sweptPath t }
+  target-read =
+      let least = v .cells-least in
+      target-is t v (t .settings .cells)
+      (omega (arith, free-length t v, ap length (row-split (t .row)), length-append (deadFront (t .row)) (fromLive (t .row))))
+
+  module _ (ne : lastOf (deadFront (t .row)) .cell ≡ 0 → ⊥) where
+    freed-below : length (freedBy (t .row)) < t .settings .cells
+    freed-below =
+        let least = v .cells-least in
+        omega (arith, free-length t v, ap length (swept-split (t .row)), length-append (freedBy (t .row)) (keptBy (t .row)))
+
+    freed-read : cellsUpTo (picture t) (t .settings) (lastOf (deadFront (t .row)) .cell) ≡ map (λ y. y .cell) (freedBy (t .row))
+    freed-read = freed-is t v (t .settings .cells) freed-below ne
+
+    standing-place : HasPlace t (lastOf (deadFront (t .row)))
+    standing-place = all-at (HasPlace t) (freedBy (t .row)) (lastOf (deadFront (t .row))) (fromLive (t .row)) (subst (All (HasPlace t)) (swept-front (t .row) ne) (row-placed v))
+
+    key-read : keyAt (picture t) (lastOf (deadFront (t .row)) .cell) ≡ lastOf (deadFront (t .row)) .key
+    key-read = place-key v (standing-place .placed) ∙ ap (λ y. y .key) (standing-place .entry)
+
+    zeros-read : zerosOf (picture t) (t .settings) (lastOf (deadFront (t .row)) .cell) ≡ sweptZeros t
+    zeros-read = ap (shared (t .settings .base) (t .settings .dimensions) 0) key-read
+
+    keyed-read : Keyed (picture t) (t .settings) (lastOf (deadFront (t .row)) .cell)
+    keyed-read =
+        let here = standing-place .placed in
+        let b = t .settings .base in
+        let D = t .settings .dimensions in
+        record {
+          cell = placed-below v here;
+          base = base-positive t v;
+          fits = rw (place-key v here) (key-below v here);
+          coordinates = λ d h. place-coordinate v here d h ∙ ap (λ k. coordinate b D k d) (sym (place-key v here));
+        }
+
+-- what holds in a state where nobody owes, of its picture and of where a sweep moves the position, holds of a list and the target found
+on-moves :
+    (P : State → List ℕ → Settings → Target → Type 0) →
+    ((u : State) → Sound u → All (λ x. x .owes ≡ false) (u .row) → (lastOf (deadFront (u .row)) .cell ≡ 0 → ⊥) →
+    P u (picture u) (u .settings) (record { cell = lastOf (deadFront (u .row)) .cell; number = sweptNumber u; path = sweptPath u })) →
+    {ws : List ℕ} {s : Settings} {t : code.Target} → Moves ws s t → P (read ws) ws s (targetOf t)
+on-moves P f {t = t} m =
+    on-listed (λ u ws s. map paid (u .row) ≡ u .row → (k : Target) → k ≡ sweptTo ws s → (k .cell ≡ 0 → ⊥) → P u ws s k)
+    (λ u v e k q other.
+    let found = q ∙ target-read u v in
+    subst (P u (picture u) (u .settings)) (sym found) (f u v (unowing-all (u .row) e) (λ z. other (ap (λ g. g .cell) found ∙ z))))
+    (m .paid .listed) (m .paid .unowing) (targetOf t) (m .target) (m .other)
+
+-- its coordinates, the way to it, the numbers of its drop, and the cells that are freed
+
+pub moves-keyed : {ws : List ℕ} {s : Settings} {t : code.Target} → Moves ws s t → Keyed ws s (t .cell)
+moves-keyed = on-moves (λ u ws s k. Keyed ws s (k .cell)) (λ u v unowing ne. keyed-read u v ne)
+
+pub moves-dropping : {ws : List ℕ} {s : Settings} {t : code.Target} → Moves ws s t →
+    Dropping (s .dimensions) (s .cells) (t .cell) (t .number) (zerosOf ws s (t .cell)) (cellsUpTo ws s (t .cell))
+moves-dropping =
+    on-moves (λ u ws s k. Dropping (s .dimensions) (s .cells) (k .cell) (k .number) (zerosOf ws s (k .cell)) (cellsUpTo ws s (k .cell)))
+    (λ u v unowing ne. rw (zeros-read u v ne, freed-read u v ne) (swept-dropping u v unowing ne))
+
+pub moves-count : {ws : List ℕ} {s : Settings} {t : code.Target} → Moves ws s t → length (cellsUpTo ws s (t .cell)) ≡ length (freedBy (read ws .row))
+moves-count =
+    on-moves (λ u ws s k. length (cellsUpTo ws s (k .cell)) ≡ length (freedBy (u .row)))
+    (λ u v unowing ne. ap length (freed-read u v ne) ∙ length-map (freedBy (u .row)) (λ y. y .cell))
+
+pub moves-reaches : {ws : List ℕ} {s : Settings} {t : code.Target} → Moves ws s t → Reaches ws s (t .cell) (replicate (s .dimensions) 0)
+moves-reaches =
+    on-moves (λ u ws s k. Reaches ws s (k .cell) (replicate (s .dimensions) 0))
+    (λ u v unowing ne.
+    reaches-over (freed-read u v ne) (omega (arith, freed-below u v ne, length-map (freedBy (u .row)) (λ y. y .cell)))
+    (all-map (λ c r. r .0) (map (λ y. y .cell) (freedBy (u .row))) (swept-dropping u v unowing ne .range)))
+
+-- the words that are left
+pub moves-swept : {ws : List ℕ} {s : Settings} {t : code.Target} → Moves ws s t → droppedTo ws s t ≡ picture (swept (read ws))
+moves-swept =
+    on-moves (λ u ws s k. dropChained (s .dimensions) ws (k .cell) (k .number) (k .path) (zerosOf ws s (k .cell)) (cellsUpTo ws s (k .cell)) ≡ picture (swept u))
+    (λ u v unowing ne. rw (zeros-read u v ne, freed-read u v ne) (sym (swept-chained u v unowing ne)))
+
+-- The chain is there when the cells become free: links that are written are no value words, and a cell that becomes free is no later one
+
+chained-same : (D : ℕ) (us ws cells : List ℕ) → All (λ c. wordIn D us c 1 ≡ wordIn D ws c 1) cells → Chained D ws cells → Chained D us cells
+chained-same D us ws [] a chained = tt
+chained-same D us ws (x ∷ []) a chained = tt
+chained-same D us ws (x ∷ y ∷ cells) a chained = (a .0 ∙ chained .0, chained-same D us ws (y ∷ cells) (a .1) (chained .1))
+
+chain-in : (s : Settings) (ws cells : List ℕ) → Distinct cells → All (λ c. c < s .cells) cells → Chained (s .dimensions) ws cells → ChainIn s ws (firstNumber cells) (length cells)
+chain-in s ws [] apart below chained = tt
+chain-in s ws (x ∷ []) apart below chained = (below .0, tt)
+chain-in s ws (x ∷ y ∷ cells) apart below chained =
+    let D = s .dimensions in (
+      below .0,
+      subst (λ c. ChainIn s (freeCell D ws x) c (suc (length cells))) (sym (chained .0))
+          (chain-in s (freeCell D ws x) (y ∷ cells) (apart .1) (below .1)
+          (chained-same D (freeCell D ws x) ws (y ∷ cells) (all-map (λ c ne. freeCell-cell D ws x c 1 (omega arith) (λ e. ne (sym e))) (y ∷ cells) (apart .0)) (chained .1))),
+    )
+
+chain-kept : (s : Settings) {ws : List ℕ} {x number z : ℕ} {between : List ℕ} → Exact (s .dimensions) (s .cells) ws → (path : List ℕ) →
+    Dropping (s .dimensions) (s .cells) x number z between →
+    ChainIn s (relinkHead (s .dimensions) (takeLinks (s .dimensions) (chainValues (s .dimensions) ws between) x path z (number - z)) x z) (firstNumber between) (length between)
+chain-kept s {ws} {x} {number} {z} {between} exact path drop =
+    let D = s .dimensions in
+    let falls = drop .falls in
+    let least = drop .least in
+    let chained = chainValues D ws between in
+    let taken = takeLinks D chained x path z (number - z) in
+    let below = all-map (λ y r. r .1) between (drop .range) in
+    let kept : All (λ c. wordIn D (relinkHead D taken x z) c 1 ≡ wordIn D chained c 1) between =
+    all-map (λ c r.
+    relinkHead-cell D taken x z (drop .inside) c 1 (omega arith) (λ e. let above = r .0 in omega arith)
+    ∙ takeLinks-other D chained x path z (number - z) (omega arith) c 1 (omega arith) (λ e i l u f. omega arith)) between (drop .range) in
+    chain-in s (relinkHead D taken x z) between (drop .distinct) below
+    (chained-same D (relinkHead D taken x z) chained between kept (chain-chained exact between (drop .distinct) below))
+
+pub moves-chain : {ws : List ℕ} {s : Settings} {t : code.Target} → Moves ws s t → {z : ℕ} {r : Freed} {chained taken relinked : List ℕ} → z ≡ zerosOf ws s (t .cell) →
+    ChainedUpTo ws s (t .cell) r chained → taken ≡ takeLinks (s .dimensions) chained (t .cell) (pathOf (t .path)) z (t .number - z) →
+    relinked ≡ relinkHead (s .dimensions) taken (t .cell) z → ChainIn s relinked (r .first) (r .count)
+moves-chain {s = s} {t = t} m zs chains takes relinks =
+    rw (relinks, takes, chains .words, chains .first, chains .count, zs)
+    (chain-kept s (record { size = listed-shaped (m .paid .listed) .long }) (pathOf (t .path)) (moves-dropping m))

@@ -1,0 +1,50 @@
+-- `sweep::chain_between` meets its contract: the first cell after the head is the new position, or the first to be chained.
+use borrow.Author.Needs.{needs}
+use Rattle.paths.proofs.Laws.{zeros-in}
+use Rattle.sweep.proofs.Ways.{between-none, between-onward, between-some}
+use Rattle.sweep.proofs.chain_between.Statement.{statement}
+use Rattle.sweep.proofs.chain_between.Tie as tie
+
+head-path-requires : tie.Need-head-path-requires
+head-path-requires c κs = search needs
+
+next-requires : tie.Need-next-requires
+next-requires c κs =
+    let h = c .before .before .before .pre in
+    let head = c .head-path .ensures in
+    (h .0, zeros-in (h .0 .head) (head .1) (head .0))
+
+same-length : tie.Need-same-length
+same-length c = search needs
+
+returns : tie.Need-returns
+returns c =
+    let h = c .before .before .before .before .before .before .pre in
+    between-none (h .0) (h .1) (c .before .before .before .head-path .ensures .0) (c .before .before .next .ensures) (c .if1 .taken)
+
+chain-from-requires : tie.Need-chain-from-requires
+chain-from-requires c κs =
+    let h = c .before .before .before .before .before .before .before .pre in
+    let n = c .before .before .before .next .ensures in
+    (h .0, (between-onward (h .0) (h .1) (c .before .before .before .before .head-path .ensures .0) n (c .before .if1 .left), (n .path-in, n .below)))
+
+same-length-2 : tie.Need-same-length-2
+same-length-2 c = search needs
+
+returns-2 : tie.Need-returns-2
+returns-2 c =
+    let h = c .before .before .before .before .before .before .before .before .before .before .pre in
+    let e = c .before .before .chain-from .ensures in
+    between-some (h .0) (h .1) (c .before .before .before .before .before .before .before .head-path .ensures .0) (c .before .before .before .before .before .before .next .ensures) (c .before .before .before .before .if1 .left) (e .0) (e .1 .0) (e .1 .1)
+
+pub chain-between-spec : {M : Type 1} → statement M
+chain-between-spec =
+    tie.close
+    (tie.spec
+    head-path-requires
+    next-requires
+    same-length
+    returns
+    chain-from-requires
+    same-length-2
+    returns-2)

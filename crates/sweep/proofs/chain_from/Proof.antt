@@ -1,0 +1,65 @@
+-- `sweep::chain_from` meets its contract: what is left to chain from the last cell on, in the list as it stands, gives the same words as all
+-- of it in the list of the call; a cell less is left with each turn.
+use native.Mathlib.Omega.{arith}
+use lib.ListN.{length}
+use Rattle.words.proofs.Laws.{field-within}
+use Rattle.paths.specs.Paths.{pathOf}
+use Rattle.sweep.specs.Sweeping.{cellsTo}
+use Rattle.sweep.proofs.Ways.{Chaining, chaining-start, chaining-end, chaining-onward, chaining-less}
+use Rattle.sweep.proofs.chain_from.Statement.{statement}
+use Rattle.sweep.proofs.chain_from.Tie as tie
+
+abbrev Inv-loop : tie.InvT-loop
+Inv-loop list₀ s position first path₀ last₀ count₀ list path last count = Chaining list₀ list s position first (pathOf path₀) path last count
+
+abbrev μ-loop : tie.MeasureT-loop
+μ-loop list₀ s position first path₀ last₀ count₀ list path last count = length (cellsTo list s position (pathOf path))
+
+loop-holds : tie.Need-loop-holds Inv-loop μ-loop
+loop-holds c =
+    let h = c .before .pre in
+    chaining-start (h .0) (h .1 .0) (h .1 .1 .0) (h .1 .1 .1)
+
+next-requires : tie.Need-next-requires Inv-loop μ-loop
+next-requires c κs = (c .before .loop .inv .walkable, c .before .loop .inv .path-in)
+
+same-length : tie.Need-same-length Inv-loop μ-loop
+same-length c = omega (arith, c .before .before .before .before .loop .inv .walkable .shaped .long, c .before .before .before .before .before .before .pre .0 .shaped .long)
+
+returns : tie.Need-returns Inv-loop μ-loop
+returns c =
+    let k = c .before .before .before .before .loop .inv in
+    let end = chaining-end k (c .before .before .next .ensures) (c .if1 .taken) in
+    (end .0, (end .1, k .walkable .shaped))
+
+store-requires : tie.Need-store-requires Inv-loop μ-loop
+store-requires c κs =
+    let k = c .before .before .before .before .before .loop .inv in
+    let next = c .before .before .before .next .ensures .below in
+    (k .walkable .shaped, field-within (omega (arith, k .cell, next)) (omega arith))
+
+add-count : tie.Need-add-count Inv-loop μ-loop
+add-count c =
+    let h = c .before .before .before .before .before .before .before .before .before .before .before .pre in
+    omega (arith, c .before .before .before .before .before .before .before .before .before .loop .inv .number, h .1 .0 .ends, h .0 .shaped .cells-most)
+
+loop-less : tie.Need-loop-less Inv-loop μ-loop
+loop-less c = chaining-less (c .before .before .before .before .before .before .before .before .before .loop .inv) (c .before .before .before .before .before .before .before .next .ensures) (c .before .before .before .before .before .if1 .left) (c .before .before .before .store .ensures .0)
+
+loop-again : tie.Need-loop-again Inv-loop μ-loop
+loop-again c = chaining-onward (c .before .before .before .before .before .before .before .before .before .loop .inv) (c .before .before .before .before .before .before .before .next .ensures) (c .before .before .before .before .before .if1 .left) (c .before .before .before .store .ensures .0)
+
+pub chain-from-spec : {M : Type 1} → statement M
+chain-from-spec =
+    tie.close
+    (tie.spec
+    Inv-loop
+    μ-loop
+    loop-holds
+    next-requires
+    same-length
+    returns
+    store-requires
+    add-count
+    loop-less
+    loop-again)

@@ -1,0 +1,49 @@
+-- `sweep::leading_zeros` meets its contract: the coordinates before d are 0, so that cell x shares d of them with the head, or more.
+use Prim.Native.Nat.{_-_, _≤_}
+use native.Mathlib.Omega.{arith}
+use borrow.Author.Needs.{needs}
+use Rattle.sweep.specs.Sweeping.{zerosOf}
+use Rattle.sweep.proofs.Laws.{zero-more, zero-last, zero-all}
+use Rattle.sweep.proofs.leading_zeros.Statement.{statement}
+use Rattle.sweep.proofs.leading_zeros.Tie as tie
+
+abbrev Inv-loop : tie.InvT-loop
+Inv-loop list s x d₀ d = d ≤ zerosOf list s x
+
+abbrev μ-loop : tie.MeasureT-loop
+μ-loop list s x d₀ d = s .dimensions - d
+
+loop-holds : tie.Need-loop-holds Inv-loop μ-loop
+loop-holds c = search needs
+
+coordinate-requires : tie.Need-coordinate-requires Inv-loop μ-loop
+coordinate-requires c κs = search needs
+
+returns : tie.Need-returns Inv-loop μ-loop
+returns c = zero-last (c .before .before .before .before .before .before .pre .1) (c .before .before .before .before .loop .inv) (omega arith) (c .before .coordinate .ensures) (c .if2 .taken)
+
+add-d : tie.Need-add-d Inv-loop μ-loop
+add-d c = search needs
+
+loop-less : tie.Need-loop-less Inv-loop μ-loop
+loop-less c = search needs
+
+loop-again : tie.Need-loop-again Inv-loop μ-loop
+loop-again c = zero-more (c .before .before .before .before .before .before .pre .1) (c .before .before .before .before .loop .inv) (omega arith) (c .before .coordinate .ensures) (omega arith)
+
+returns-2 : tie.Need-returns-2 Inv-loop μ-loop
+returns-2 c = zero-all (c .before .before .before .before .pre .1) (c .before .before .loop .inv) (omega arith)
+
+pub leading-zeros-spec : {M : Type 1} → statement M
+leading-zeros-spec =
+    tie.close
+    (tie.spec
+    Inv-loop
+    μ-loop
+    loop-holds
+    coordinate-requires
+    returns
+    add-d
+    loop-less
+    loop-again
+    returns-2)

@@ -1,0 +1,66 @@
+-- `sweep::seek_target` meets its contract: what is found from the cell at hand is what is found from the head, and a cell less comes after
+-- it with each turn.
+use native.Mathlib.Omega.{arith}
+use lib.ListN.{length}
+use Rattle.words.proofs.Laws.{field-within}
+use Rattle.paths.specs.Paths.{pathOf}
+use Rattle.paths.proofs.Laws.{zeros-in}
+use Rattle.paths.proofs.Listed.{listed-shaped, listed-walkable}
+use Rattle.sweep.specs.Sweeping.{cellsTo}
+use Rattle.sweep.proofs.Ways.{way-less, Seeking, seeking-start, seeking-end, seeking-live, seeking-onward}
+use Rattle.sweep.proofs.Lists.{listed-reaches}
+use Rattle.sweep.proofs.seek_target.Statement.{statement}
+use Rattle.sweep.proofs.seek_target.Tie as tie
+
+abbrev Inv-loop : tie.InvT-loop
+Inv-loop list s at₀ number₀ path₀ at number path = Seeking list s at number path
+
+abbrev μ-loop : tie.MeasureT-loop
+μ-loop list s at₀ number₀ path₀ at number path = length (cellsTo list s 0 (pathOf path))
+
+head-path-requires : tie.Need-head-path-requires Inv-loop μ-loop
+head-path-requires c κs = listed-shaped (c .before .pre) .dimensions-most
+
+loop-holds : tie.Need-loop-holds Inv-loop μ-loop
+loop-holds c =
+    let head = c .head-path .ensures in
+    seeking-start (listed-reaches (c .before .before .pre)) (head .0) (zeros-in (listed-walkable (c .before .before .pre) .head) (head .1) (head .0))
+
+next-requires : tie.Need-next-requires Inv-loop μ-loop
+next-requires c κs = (listed-walkable (c .before .before .before .pre), c .loop .inv .path-in)
+
+returns : tie.Need-returns Inv-loop μ-loop
+returns c =
+    let k = c .before .before .before .loop .inv in
+    (seeking-end (listed-walkable (c .before .before .before .before .before .before .pre)) k (c .before .before .next .ensures) (c .if1 .taken), k .path-in)
+
+word-requires : tie.Need-word-requires Inv-loop μ-loop
+word-requires c κs = (listed-shaped (c .before .before .before .before .before .before .pre), field-within (c .before .before .next .ensures .below) (omega arith))
+
+returns-2 : tie.Need-returns-2 Inv-loop μ-loop
+returns-2 c =
+    let k = c .before .before .before .before .before .loop .inv in
+    (seeking-live (listed-walkable (c .before .before .before .before .before .before .before .before .pre)) k (c .before .before .before .before .next .ensures) (c .before .before .if1 .left) (c .before .word .ensures) (c .if2 .taken), k .path-in)
+
+loop-less : tie.Need-loop-less Inv-loop μ-loop
+loop-less c = way-less (listed-walkable (c .before .before .before .before .before .before .before .before .before .pre)) (c .before .before .before .before .before .before .loop .inv .way) (c .before .before .before .before .before .next .ensures) (c .before .before .before .if1 .left)
+
+loop-again : tie.Need-loop-again Inv-loop μ-loop
+loop-again c =
+    seeking-onward (listed-walkable (c .before .before .before .before .before .before .before .before .before .pre)) (c .before .before .before .before .before .before .loop .inv) (c .before .before .before .before .before .next .ensures) (c .before .before .before .if1 .left) (c .before .before .word .ensures)
+    (c .before .if2 .left)
+
+pub seek-target-spec : {M : Type 1} → statement M
+seek-target-spec =
+    tie.close
+    (tie.spec
+    Inv-loop
+    μ-loop
+    head-path-requires
+    loop-holds
+    next-requires
+    returns
+    word-requires
+    returns-2
+    loop-less
+    loop-again)

@@ -1,0 +1,72 @@
+-- `sweep::sweep` meets its contract: where the position stays the head, and where it moves, what is left is the picture of the swept state; the
+-- way out with refusal 9 is never gone, since on a list a cell owed from stands.
+use borrow.Author.Needs.{needs}
+use Rattle.paths.proofs.Listed.{listed-shaped}
+use Rattle.sweep.proofs.Call.{never-meets, stays-meets, moves-meets}
+use Rattle.sweep.proofs.sweep.Statement.{statement}
+use Rattle.sweep.proofs.sweep.Tie as tie
+
+some-owes-from-free-requires : tie.Need-some-owes-from-free-requires
+some-owes-from-free-requires c κs = listed-shaped (c .before .before .pre)
+
+refused-requires : tie.Need-refused-requires
+refused-requires c κs = search needs
+
+same-length : tie.Need-same-length
+same-length c = search needs
+
+returns : tie.Need-returns
+returns c = never-meets (c .before .before .before .before .before .pre) (c .before .before .some-owes-from-free .ensures) (c .before .if1 .taken)
+
+finish-all-requires : tie.Need-finish-all-requires
+finish-all-requires c κs = search needs
+
+seek-target-requires : tie.Need-seek-target-requires
+seek-target-requires c κs = search needs
+
+accepted-requires : tie.Need-accepted-requires
+accepted-requires c κs = search needs
+
+same-length-2 : tie.Need-same-length-2
+same-length-2 c = search needs
+
+returns-2 : tie.Need-returns-2
+returns-2 c =
+    let paid = c .before .before .before .before .before .before .before .finish-all .ensures in
+    let t = c .before .before .before .seek-target in
+    stays-meets (c .before .before .before .before .before .before .before .before .before .before .before .before .before .pre) (paid .0) (t .result) (paid .1) (t .ensures .0) (c .before .if2 .taken) (c .accepted .ensures)
+
+drop-front-requires : tie.Need-drop-front-requires
+drop-front-requires c κs = search needs
+
+accepted-requires-2 : tie.Need-accepted-requires-2
+accepted-requires-2 c κs = search needs
+
+same-length-3 : tie.Need-same-length-3
+same-length-3 c = search needs
+
+returns-3 : tie.Need-returns-3
+returns-3 c =
+    let paid = c .before .before .before .before .before .before .before .before .before .before .before .finish-all .ensures in
+    let t = c .before .before .before .before .before .before .before .seek-target .ensures in
+    let left = c .before .before .before .drop-front .ensures in
+    moves-meets (c .before .before .before .before .before .before .before .before .before .before .before .before .before .before .before .before .before .pre) (paid .0) (record { paid = paid .1; target = t .0; other = c .before .before .before .before .before .if2 .left; path-in = t .1 }) (left .0) (left .1)
+    (c .accepted2 .ensures)
+
+pub sweep-spec : {M : Type 1} → statement M
+sweep-spec =
+    tie.close
+    (tie.spec
+    some-owes-from-free-requires
+    refused-requires
+    same-length
+    returns
+    finish-all-requires
+    seek-target-requires
+    accepted-requires
+    same-length-2
+    returns-2
+    drop-front-requires
+    accepted-requires-2
+    same-length-3
+    returns-3)

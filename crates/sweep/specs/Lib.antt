@@ -1,0 +1,2 @@
+-- What the functions of a sweep ask and answer.
+pub mod Sweeping
