@@ -88,7 +88,7 @@ order-is-lexicographic ws e x y hx hy =
     (lexicographic (baseAt ws) (dimensionsAt ws) x y (k .0) (omega arith) (omega arith), coordinates-determine (baseAt ws) (dimensionsAt ws) x y (k .0) (omega arith) (omega arith))
 
 pub one-outcome : OneOutcome
-one-outcome call before r s ws vs m n = (m .answered ∙ sym (n .answered), m .words ∙ sym (n .words))
+one-outcome o r s ws vs m n = (m .answered ∙ sym (n .answered), m .words ∙ sym (n .words))
 
 -- The counts of insert and find, where they answer looked.
 

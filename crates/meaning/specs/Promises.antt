@@ -14,7 +14,7 @@ use Rattle.meaning.specs.State.{occurrences}
 use Rattle.meaning.specs.Row.{Entry, entryAt}
 use Rattle.meaning.specs.Picture.{firstNumber}
 use Rattle.meaning.specs.Reading.{read, isList}
-use Rattle.meaning.specs.Refusals.{Meets}
+use Rattle.meaning.specs.Refusals.{Outcome, Meets}
 use Rattle.meaning.specs.Rule.{rule}
 use Rattle.meaning.specs.Walk.{keyAt, markAt, owedAt, lowAt, highAt, walk, walkFrom, ends}
 use Rattle.meaning.specs.Operations.{takeOut, freedBy, slotFor}
@@ -208,8 +208,6 @@ OrderIsLexicographic =
     → ((x < y) ↔ (precedes (coordinates (baseAt ws) (dimensionsAt ws) x) (coordinates (baseAt ws) (dimensionsAt ws) y) ≡ true))
     × (coordinates (baseAt ws) (dimensionsAt ws) x ≡ coordinates (baseAt ws) (dimensionsAt ws) y → x ≡ y)
 
--- Any two outcomes that a contract allows are equal.
+-- Any two outcomes that a contract allows are equal: the six exported functions all ensure `Meets o r ws`, of the outcome o of their call.
 abbrev pub OneOutcome : Type 0
-OneOutcome =
-    (call : Call) (before : List ℕ) (r s : Answer) (ws vs : List ℕ)
-    → Meets (outcome call before) r ws → Meets (outcome call before) s vs → (r ≡ s) × (ws ≡ vs)
+OneOutcome = (o : Outcome) (r s : Answer) (ws vs : List ℕ) → Meets o r ws → Meets o s vs → (r ≡ s) × (ws ≡ vs)

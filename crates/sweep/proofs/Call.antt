@@ -30,8 +30,8 @@ none-owes ws f x zero = refl
 none-owes ws f x (suc n) = ap (λ t. t || someOwesFrom ws (suc x) n) (f x) ∙ none-owes ws f (suc x) n
 
 pub never-meets :
-    {ws : List ℕ} {s : Settings} → Listed ws s → {r : Answer} {left : List ℕ} {owes : Bool} → owes ≡ someOwesFrom ws 1 (s .cells - 1) → owes ≡ true →
-    Meets (sweepOut ws) r left
+    {ws : List ℕ} {s : Settings} → Listed ws s → {r : Answer} {left : List ℕ} {owes : Bool} → owes ≡ someOwesFrom ws 1 (s .cells - 1) →
+    owes ≡ true → Meets (sweepOut ws) r left
 never-meets {ws} {s} h e owes = absurd (false≢true (sym (e ∙ none-owes ws (listed-owes h) 1 (s .cells - 1)) ∙ owes))
 
 -- The swept state
@@ -47,8 +47,8 @@ listed-outcome = on-listed (λ t ws s. sweepOut ws ≡ accepted 0 0 (length (fre
 
 module _ {ws : List ℕ} {s : Settings} (h : Listed ws s) {all : List ℕ} (pays : all ≡ finishAll (s .dimensions) ws 1 (s .cells - 1)) where
   swept-meets :
-      {r : Answer} {left : List ℕ} {count : ℕ} → left ≡ picture (swept (read all)) → count ≡ length (freedBy (read all .row)) → r ≡ answer 0 0 0 count →
-      Meets (sweepOut ws) r left
+      {r : Answer} {left : List ℕ} {count : ℕ} → left ≡ picture (swept (read all)) → count ≡ length (freedBy (read all .row)) →
+      r ≡ answer 0 0 0 count → Meets (sweepOut ws) r left
   swept-meets words freed a =
       let same = paid-read h pays in
       let result : swept (read all) ≡ swept (read ws) = ap swept same ∙ swept-paid (read ws) in

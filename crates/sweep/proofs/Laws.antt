@@ -21,8 +21,7 @@ use Rattle.meaning.proofs.SweepRow.{zeros-past, zeros-stop}
 use Rattle.words.specs.Shaped.{Shaped}
 use Rattle.words.proofs.Laws.{shaped-dimensions, word-is, link-is, set-shaped}
 use Rattle.paths.specs.declared.Path.{Path}
-use Rattle.paths.specs.Paths.{pathOf, Formed, PathIn}
-use Rattle.paths.proofs.Laws.{formed-cell}
+use Rattle.paths.specs.Paths.{pathOf, Formed}
 use Rattle.sweep.specs.Sweeping.{someOwesFrom, zerosOf, Keyed, ChainIn}
 
 -- Every cell's debt
@@ -79,25 +78,21 @@ module _ {ws : List ℕ} {s : Settings} {x : ℕ} (k : Keyed ws s x) {d : ℕ} (
 
 -- Links taken from a path's cells
 
-pub path-cell : {s : Settings} {p : Path} → PathIn s p → (d : ℕ) → d < s .dimensions → getD (p .cells) d 0 < s .cells
-path-cell i d h = rw (formed-cell (i .formed) d h) (i .below d h)
-
 pub take-more :
-    {ws : List ℕ} {s : Settings} → Shaped ws s → (x : ℕ) {p : Path} → PathIn s p → (d : ℕ) {number y : ℕ} → d < number → number ≤ s .dimensions →
-    y ≡ linkAt ws (getD (p .cells) d 0) d →
-    takeLinks (s .dimensions) ws x (pathOf p) d (number - d)
-    ≡ takeLinks (s .dimensions) (store (s .dimensions) ws x (linkField (s .dimensions) d) y) x (pathOf p) (d + 1) (number - (d + 1))
+    {ws : List ℕ} {s : Settings} → Shaped ws s → (x : ℕ) (path : List ℕ) (d : ℕ) {number from y : ℕ} → d < number → from ≡ getD path d 0 →
+    y ≡ linkAt ws from d →
+    takeLinks (s .dimensions) ws x path d (number - d)
+    ≡ takeLinks (s .dimensions) (store (s .dimensions) ws x (linkField (s .dimensions) d) y) x path (d + 1) (number - (d + 1))
 unfolding takeLinks
-take-more {ws} {s} h x {p} i d {number} {y} below most e =
-    rw (add-one d, e, formed-cell (i .formed) d (omega arith), ← link-is h (getD (pathOf p) d 0) d, shaped-dimensions h)
-    (more (number - d) (number - suc d) (omega arith))
+take-more {ws} {s} h x path d {number} {from} {y} below f e =
+    rw (add-one d, e, f, ← link-is h (getD path d 0) d, shaped-dimensions h) (more (number - d) (number - suc d) (omega arith))
   where
     D : ℕ
     D = s .dimensions
 
     more : (n rest : ℕ) → n ≡ suc rest →
-        takeLinks D ws x (pathOf p) d n
-        ≡ takeLinks D (store D ws x (linkField D d) (getD ws (place D (getD (pathOf p) d 0) (linkField D d)) 0)) x (pathOf p) (suc d) rest
+        takeLinks D ws x path d n
+        ≡ takeLinks D (store D ws x (linkField D d) (getD ws (place D (getD path d 0) (linkField D d)) 0)) x path (suc d) rest
     more n rest q = rw q refl
 
 pub take-all : (D : ℕ) (ws : List ℕ) (x : ℕ) (path : List ℕ) (d : ℕ) {number : ℕ} → number ≤ d → takeLinks D ws x path d (number - d) ≡ ws
@@ -186,7 +181,7 @@ pub head-redrawn :
 head-redrawn is f z x e = e ∙ ap₂ (λ n p. onward n p z x) (f .used) is
 
 pub front-dropped :
-    (D : ℕ) (ws : List ℕ) (x number : ℕ) (path : List ℕ) (between : List ℕ) {zeros z first count : ℕ} {chained taken relinked freed way left : List ℕ} →
+    (D : ℕ) (ws : List ℕ) (x number : ℕ) (path between : List ℕ) {zeros z first count : ℕ} {chained taken relinked freed way left : List ℕ} →
     z ≡ zeros → chained ≡ chainValues D ws between → first ≡ firstNumber between → count ≡ length between →
     taken ≡ takeLinks D chained x path z (number - z) → relinked ≡ relinkHead D taken x z → freed ≡ freeChained D relinked first count →
     way ≡ onward D (replicate D 0) z x → left ≡ writePath freed way → left ≡ dropChained D ws x number path zeros between

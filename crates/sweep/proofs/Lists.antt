@@ -49,13 +49,16 @@ picture-listed t v = record { list = picture-is-list t v; settings = picture-sha
 pub finish-listed : {ws : List ℕ} {s : Settings} → Listed ws s → (x : ℕ) → x < s .cells → Listed (finishWords (s .dimensions) ws x) s
 finish-listed =
     on-listed (λ t ws s. (x : ℕ) → x < s .cells → Listed (finishWords (s .dimensions) ws x) s)
-    (λ t v x h. subst (λ ws. Listed ws (t .settings)) (sym (finish-cell t v x h)) (picture-listed (withRow t (finished x (t .row))) (finished-sound t x v)))
+    (λ t v x h.
+    subst (λ ws. Listed ws (t .settings)) (sym (finish-cell t v x h)) (picture-listed (withRow t (finished x (t .row))) (finished-sound t x v)))
 
 -- the state in which all is paid
 abbrev allPaid : State → State
 allPaid t = withRow t (map paid (t .row))
 
-pub paid-read : {ws : List ℕ} {s : Settings} → Listed ws s → {left : List ℕ} → left ≡ finishAll (s .dimensions) ws 1 (s .cells - 1) → read left ≡ allPaid (read ws)
+pub paid-read :
+    {ws : List ℕ} {s : Settings} → Listed ws s → {left : List ℕ} → left ≡ finishAll (s .dimensions) ws 1 (s .cells - 1) →
+    read left ≡ allPaid (read ws)
 paid-read h {left} e =
     on-listed (λ t ws s. left ≡ finishAll (s .dimensions) ws 1 (s .cells - 1) → read left ≡ allPaid t)
     (λ t v p. ap read (p ∙ finish-all t v) ∙ read-of-picture (allPaid t) (paid-sound t v)) h e
@@ -65,7 +68,8 @@ all-paid {ws} {s} h {left} e =
     record {
       listed =
           on-listed (λ t ws s. left ≡ finishAll (s .dimensions) ws 1 (s .cells - 1) → Listed left s)
-          (λ t v p. subst (λ l. Listed l (t .settings)) (sym (p ∙ finish-all t v)) (picture-listed (allPaid t) (paid-sound t v))) h e;
+          (λ t v p. subst (λ l. Listed l (t .settings)) (sym (p ∙ finish-all t v)) (picture-listed (allPaid t) (paid-sound t v)))
+          h e;
       unowing =
           subst (λ t. map paid (t .row) ≡ t .row) (sym (paid-read h e)) (paid-unowing (map paid (read ws .row)) (paid-owes-nothing (read ws .row)));
     }
@@ -82,8 +86,8 @@ all-index (c ∷ cells) a zero h = a .0
 all-index (c ∷ cells) a (suc i) h = all-index cells (a .1) i (omega arith)
 
 reaches-over :
-    {ws : List ℕ} {s : Settings} {x : ℕ} {path cells : List ℕ} → cellsTo ws s x path ≡ cells → length cells < s .cells → All (λ c. 0 < c) cells →
-    Reaches ws s x path
+    {ws : List ℕ} {s : Settings} {x : ℕ} {path cells : List ℕ} → cellsTo ws s x path ≡ cells → length cells < s .cells →
+    All (λ c. 0 < c) cells → Reaches ws s x path
 reaches-over {cells = cells} e h a =
     record {
       ends = omega (arith, ap length e);
@@ -102,9 +106,11 @@ module _ (t : State) (v : Sound t) where
       let D = t .settings .dimensions in
       let here : PathOf t (wayTo t front) front (y ∷ later) = record { split = split; is = refl } in
       let other = cell-alone t v front y later split .standing in
-      before-past (picture t) D (dimensions-read t) fuel 0 (wayTo t front) (y .cell) (shared b D (lastFrom headEntry front .key) (y .key)) (way-next v here) (λ e. omega arith)
+      before-past (picture t) D (dimensions-read t) fuel 0 (wayTo t front) (y .cell) (shared b D (lastFrom headEntry front .key) (y .key))
+      (way-next v here) (λ e. omega arith)
       ∙ ap {B = List ℕ} (λ path. y .cell ∷ cellsBefore fuel (picture t) 0 path) (way-on v here .is)
-      ∙ ap {B = List ℕ} (λ cells. y .cell ∷ cells) (before-all fuel (front ++ y ∷ []) later (split ∙ sym (append-snoc front y later)) (omega arith))
+      ∙ ap {B = List ℕ} (λ cells. y .cell ∷ cells)
+      (before-all fuel (front ++ y ∷ []) later (split ∙ sym (append-snoc front y later)) (omega arith))
 
   row-below : length (t .row) < t .settings .cells
   row-below = omega (arith, v .cells-least, free-length t v)
@@ -121,7 +127,8 @@ listed-reaches = on-listed (λ t ws s. Reaches ws s 0 (replicate (s .dimensions)
 -- The new position
 
 module _ (t : State) (v : Sound t) where
-  pub target-read : sweptTo (picture t) (t .settings) ≡ record { cell = lastOf (deadFront (t .row)) .cell; number = sweptNumber t; path = sweptPath t }
+  pub target-read :
+      sweptTo (picture t) (t .settings) ≡ record { cell = lastOf (deadFront (t .row)) .cell; number = sweptNumber t; path = sweptPath t }
   target-read =
       let least = v .cells-least in
       target-is t v (t .settings .cells)
@@ -137,7 +144,9 @@ module _ (t : State) (v : Sound t) where
     freed-read = freed-is t v (t .settings .cells) freed-below ne
 
     standing-place : HasPlace t (lastOf (deadFront (t .row)))
-    standing-place = all-at (HasPlace t) (freedBy (t .row)) (lastOf (deadFront (t .row))) (fromLive (t .row)) (subst (All (HasPlace t)) (swept-front (t .row) ne) (row-placed v))
+    standing-place =
+        all-at (HasPlace t) (freedBy (t .row)) (lastOf (deadFront (t .row))) (fromLive (t .row))
+        (subst (All (HasPlace t)) (swept-front (t .row) ne) (row-placed v))
 
     key-read : keyAt (picture t) (lastOf (deadFront (t .row)) .cell) ≡ lastOf (deadFront (t .row)) .key
     key-read = place-key v (standing-place .placed) ∙ ap (λ y. y .key) (standing-place .entry)
@@ -196,7 +205,8 @@ moves-reaches =
 -- the words that are left
 pub moves-swept : {ws : List ℕ} {s : Settings} {t : code.Target} → Moves ws s t → droppedTo ws s t ≡ picture (swept (read ws))
 moves-swept =
-    on-moves (λ u ws s k. dropChained (s .dimensions) ws (k .cell) (k .number) (k .path) (zerosOf ws s (k .cell)) (cellsUpTo ws s (k .cell)) ≡ picture (swept u))
+    on-moves (λ u ws s k.
+    dropChained (s .dimensions) ws (k .cell) (k .number) (k .path) (zerosOf ws s (k .cell)) (cellsUpTo ws s (k .cell)) ≡ picture (swept u))
     (λ u v unowing ne. rw (zeros-read u v ne, freed-read u v ne) (sym (swept-chained u v unowing ne)))
 
 -- The chain is there when the cells become free: links that are written are no value words, and a cell that becomes free is no later one
@@ -206,7 +216,9 @@ chained-same D us ws [] a chained = tt
 chained-same D us ws (x ∷ []) a chained = tt
 chained-same D us ws (x ∷ y ∷ cells) a chained = (a .0 ∙ chained .0, chained-same D us ws (y ∷ cells) (a .1) (chained .1))
 
-chain-in : (s : Settings) (ws cells : List ℕ) → Distinct cells → All (λ c. c < s .cells) cells → Chained (s .dimensions) ws cells → ChainIn s ws (firstNumber cells) (length cells)
+chain-in :
+    (s : Settings) (ws cells : List ℕ) → Distinct cells → All (λ c. c < s .cells) cells → Chained (s .dimensions) ws cells →
+    ChainIn s ws (firstNumber cells) (length cells)
 chain-in s ws [] apart below chained = tt
 chain-in s ws (x ∷ []) apart below chained = (below .0, tt)
 chain-in s ws (x ∷ y ∷ cells) apart below chained =
@@ -214,12 +226,15 @@ chain-in s ws (x ∷ y ∷ cells) apart below chained =
       below .0,
       subst (λ c. ChainIn s (freeCell D ws x) c (suc (length cells))) (sym (chained .0))
           (chain-in s (freeCell D ws x) (y ∷ cells) (apart .1) (below .1)
-          (chained-same D (freeCell D ws x) ws (y ∷ cells) (all-map (λ c ne. freeCell-cell D ws x c 1 (omega arith) (λ e. ne (sym e))) (y ∷ cells) (apart .0)) (chained .1))),
+          (chained-same D (freeCell D ws x) ws (y ∷ cells)
+          (all-map (λ c ne. freeCell-cell D ws x c 1 (omega arith) (λ e. ne (sym e))) (y ∷ cells) (apart .0)) (chained .1))),
     )
 
-chain-kept : (s : Settings) {ws : List ℕ} {x number z : ℕ} {between : List ℕ} → Exact (s .dimensions) (s .cells) ws → (path : List ℕ) →
+chain-kept :
+    (s : Settings) {ws : List ℕ} {x number z : ℕ} {between : List ℕ} → Exact (s .dimensions) (s .cells) ws → (path : List ℕ) →
     Dropping (s .dimensions) (s .cells) x number z between →
-    ChainIn s (relinkHead (s .dimensions) (takeLinks (s .dimensions) (chainValues (s .dimensions) ws between) x path z (number - z)) x z) (firstNumber between) (length between)
+    ChainIn s (relinkHead (s .dimensions) (takeLinks (s .dimensions) (chainValues (s .dimensions) ws between) x path z (number - z)) x z)
+    (firstNumber between) (length between)
 chain-kept s {ws} {x} {number} {z} {between} exact path drop =
     let D = s .dimensions in
     let falls = drop .falls in
@@ -234,8 +249,9 @@ chain-kept s {ws} {x} {number} {z} {between} exact path drop =
     chain-in s (relinkHead D taken x z) between (drop .distinct) below
     (chained-same D (relinkHead D taken x z) chained between kept (chain-chained exact between (drop .distinct) below))
 
-pub moves-chain : {ws : List ℕ} {s : Settings} {t : code.Target} → Moves ws s t → {z : ℕ} {r : Freed} {chained taken relinked : List ℕ} → z ≡ zerosOf ws s (t .cell) →
-    ChainedUpTo ws s (t .cell) r chained → taken ≡ takeLinks (s .dimensions) chained (t .cell) (pathOf (t .path)) z (t .number - z) →
+pub moves-chain :
+    {ws : List ℕ} {s : Settings} {t : code.Target} → Moves ws s t → {z : ℕ} {r : Freed} {chained taken relinked : List ℕ} →
+    z ≡ zerosOf ws s (t .cell) → ChainedUpTo ws s (t .cell) r chained → taken ≡ takeLinks (s .dimensions) chained (t .cell) (pathOf (t .path)) z (t .number - z) →
     relinked ≡ relinkHead (s .dimensions) taken (t .cell) z → ChainIn s relinked (r .first) (r .count)
 moves-chain {s = s} {t = t} m zs chains takes relinks =
     rw (relinks, takes, chains .words, chains .first, chains .count, zs)

@@ -21,11 +21,13 @@ use Rattle.paths.specs.declared.Path.{Path}
 use Rattle.paths.specs.declared.Reached.{Reached}
 use Rattle.paths.specs.Paths.{pathOf, PathIn, Walkable, NextIs}
 use Rattle.paths.proofs.Alike.{value-next, value-walkable}
-use Rattle.sweep.specs.Sweeping.{sweptTo, cellsTo, cellsUpTo, Reaches, ChainedUpTo}
+use Rattle.sweep.specs.Sweeping.{sweptTo, cellsTo, cellsUpTo, Reaches, ChainedFrom, ChainedUpTo}
 
 -- One cell more allowed
 
-before-more : (f : ℕ) (ws : List ℕ) (x : ℕ) (path : List ℕ) → length (cellsBefore f ws x path) < f → cellsBefore (suc f) ws x path ≡ cellsBefore f ws x path
+before-more :
+    (f : ℕ) (ws : List ℕ) (x : ℕ) (path : List ℕ) → length (cellsBefore f ws x path) < f →
+    cellsBefore (suc f) ws x path ≡ cellsBefore f ws x path
 unfolding cellsBefore
 before-more zero ws x path h = absurd (omega arith)
 before-more (suc f) ws x path h = at (eqb (next .cell) x) h (before-more f ws x there)
@@ -152,7 +154,8 @@ module _ {ws : List ℕ} {s : Settings} (h : Walkable ws s) {at number : ℕ} {p
 
   pub seeking-end : r .cell ≡ 0 → record { cell = at; number = number; path = pathOf p } ≡ sweptTo ws s
   seeking-end e =
-      sym (k .found ∙ step-end ws (s .dimensions) is-D (s .cells) here (r .number) (h .head) (n .is ∙ ap {B = NextCell} (λ c. record { cell = c; number = r .number }) e))
+      let next = n .is ∙ ap {B = NextCell} (λ c. record { cell = c; number = r .number }) e in
+      sym (k .found ∙ step-end ws (s .dimensions) is-D (s .cells) here (r .number) (h .head) next)
 
   module _ (some : r .cell ≡ 0 → ⊥) where
     pub seeking-live : {m : ℕ} → m ≡ markAt ws (r .cell) → m ≡ 1 → record { cell = at; number = number; path = pathOf p } ≡ sweptTo ws s
@@ -177,8 +180,10 @@ module _ {ws : List ℕ} {s : Settings} (h : Shaped ws s) (x v : ℕ) where
   unfolding cellsBefore
   value-before zero y path = refl
   value-before (suc f) y path =
-      ap₂ {C = List ℕ} (λ D t. cond (eqb (t .cell) y) [] (t .cell ∷ cellsBefore f (store (s .dimensions) ws x 1 v) y (onward D path (t .number) (t .cell)))) first same
-      ∙ ap {B = List ℕ} (λ cells. cond (eqb (next .cell) y) [] (next .cell ∷ cells)) (value-before f y (onward (getD ws 0 0) path (next .number) (next .cell)))
+      ap₂ {C = List ℕ}
+      (λ D t. cond (eqb (t .cell) y) [] (t .cell ∷ cellsBefore f (store (s .dimensions) ws x 1 v) y (onward D path (t .number) (t .cell)))) first same
+      ∙ ap {B = List ℕ} (λ cells. cond (eqb (next .cell) y) [] (next .cell ∷ cells))
+      (value-before f y (onward (getD ws 0 0) path (next .number) (next .cell)))
     where
       first : getD (store (s .dimensions) ws x 1 v) 0 0 ≡ getD ws 0 0
       first = store-below (s .dimensions) ws x 1 v 0 (omega arith)
@@ -219,16 +224,17 @@ pub chaining-start :
     Chaining ws ws s x first (pathOf p) p first 1
 chaining-start h w i below = record { walkable = h; way = w; path-in = i; cell = below; words = refl; number = omega arith }
 
-module _ {before ws : List ℕ} {s : Settings} {x first : ℕ} {start : List ℕ} {p : Path} {last count : ℕ} (k : Chaining before ws s x first start p last count)
-    {r : Reached} (n : NextIs ws s p r) where
-  pub chaining-end :
-      r .cell ≡ x →
-      (ws ≡ chainValues (s .dimensions) before (first ∷ cellsTo before s x start))
-      × (count ≡ 1 + length (cellsTo before s x start))
+module _ {before ws : List ℕ} {s : Settings} {x first : ℕ} {start : List ℕ} {p : Path} {last count : ℕ}
+    (k : Chaining before ws s x first start p last count) {r : Reached} (n : NextIs ws s p r) where
+  pub chaining-end : r .cell ≡ x → ChainedFrom before s x first start count ws
   unfolding chainValues
   chaining-end e =
       let none = way-here (k .walkable) (k .way) n e in
-      (sym (k .words ∙ ap (λ cells. chainValues (s .dimensions) ws (last ∷ cells)) none), omega (arith, k .number, ap length none))
+      record {
+        words = sym (k .words ∙ ap (λ cells. chainValues (s .dimensions) ws (last ∷ cells)) none);
+        count = omega (arith, k .number, ap length none);
+        shaped = k .walkable .shaped;
+      }
 
   module _ (ne : r .cell ≡ x → ⊥) {after : List ℕ} (written : after ≡ store (s .dimensions) ws last 1 (r .cell)) where
     pub chaining-onward : Chaining before after s x first start (r .path) (r .cell) (count + 1)
@@ -251,8 +257,8 @@ module _ {before ws : List ℕ} {s : Settings} {x first : ℕ} {start : List ℕ
 
     pub chaining-less : length (cellsTo after s x (pathOf (r .path))) < length (cellsTo ws s x (pathOf p))
     chaining-less =
-        rw written
-        (omega (arith, ap length (value-before (k .walkable .shaped) last (r .cell) (s .cells) x (pathOf (r .path))), way-less (k .walkable) (k .way) n ne))
+        let same = value-before (k .walkable .shaped) last (r .cell) (s .cells) x (pathOf (r .path)) in
+        rw written (omega (arith, ap length same, way-less (k .walkable) (k .way) n ne))
 
 -- From the head: the first cell is the first of the chain
 
@@ -265,22 +271,26 @@ module _ {ws : List ℕ} {s : Settings} (h : Walkable ws s) {x : ℕ} (w : Reach
   unfolding chainValues
   between-none e =
       let none : cellsUpTo ws s x ≡ [] = ap (cellsTo ws s x) (sym is) ∙ way-here h from-head n e in
-      record { words = ap (chainValues (s .dimensions) ws) (sym none); first = ap firstNumber (sym none); count = ap length (sym none); shaped = h .shaped }
+      record {
+        words = ap (chainValues (s .dimensions) ws) (sym none);
+        first = ap firstNumber (sym none);
+        count = ap length (sym none);
+        shaped = h .shaped;
+      }
 
   module _ (ne : r .cell ≡ x → ⊥) where
     pub between-onward : Reaches ws s x (pathOf (r .path))
     between-onward = way-onward h from-head n ne
 
     pub between-some :
-        {after : List ℕ} {count : ℕ} → after ≡ chainValues (s .dimensions) ws (r .cell ∷ cellsTo ws s x (pathOf (r .path))) →
-        count ≡ 1 + length (cellsTo ws s x (pathOf (r .path))) → Shaped after s →
+        {after : List ℕ} {count : ℕ} → ChainedFrom ws s x (r .cell) (pathOf (r .path)) count after →
         ChainedUpTo ws s x (record { first = r .cell; count = count }) after
-    between-some words number shaped =
+    between-some chained =
         let all : cellsUpTo ws s x ≡ r .cell ∷ cellsTo ws s x (pathOf (r .path)) =
         ap (cellsTo ws s x) (sym is) ∙ way-past h from-head n ne in
         record {
-          words = words ∙ ap (chainValues (s .dimensions) ws) (sym all);
+          words = chained .words ∙ ap (chainValues (s .dimensions) ws) (sym all);
           first = ap firstNumber (sym all);
-          count = omega (arith, ap length all);
-          shaped = shaped;
+          count = chained .count ∙ ap length (sym all);
+          shaped = chained .shaped;
         }

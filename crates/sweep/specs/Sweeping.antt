@@ -1,7 +1,7 @@
 -- What the functions of a sweep ask and answer, where the definitions of the meaning do not say it.
 use mathlib.Core.Path.{_≡_}
 use mathlib.Core.Bool.{Bool, false, _||_}
-use mathlib.Core.List.{List, map}
+use mathlib.Core.List.{List, _∷_, map}
 use Prim.Native.Nat.{ℕ, zero, suc, _^_, _<_}
 use lib.ListN.{length, getD, replicate}
 use Rattle.settings.specs.declared.Settings.{Settings}
@@ -62,6 +62,12 @@ pub record Keyed (ws : List ℕ) (s : Settings) (x : ℕ) : Type 0 where
 abbrev pub ChainIn : Settings → List ℕ → ℕ → ℕ → Type 0
 ChainIn s ws x zero = Unit {0}
 ChainIn s ws x (suc n) = (x < s .cells) × ChainIn s (freeCell (s .dimensions) ws x) (getD ws (place (s .dimensions) x 1) 0) n
+
+-- cell `first`, which has a path, and the cells after it and before cell x are chained, and they are r
+pub record ChainedFrom (ws : List ℕ) (s : Settings) (x first : ℕ) (path : List ℕ) (r : ℕ) (after : List ℕ) : Type 0 where
+  pub words : after ≡ chainValues (s .dimensions) ws (first ∷ cellsTo ws s x path)
+  pub count : r ≡ suc (length (cellsTo ws s x path))
+  pub shaped : Shaped after s
 
 -- the cells after the head and before cell x are chained, and r tells the first of them and how many they are
 pub record ChainedUpTo (ws : List ℕ) (s : Settings) (x : ℕ) (r : Freed) (after : List ℕ) : Type 0 where

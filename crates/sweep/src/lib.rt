@@ -1,16 +1,15 @@
 // Sweep: finishes all that is owed, moves the position to the last dead cell before the first live one, frees the cells between the
 // head and it, and leaves the settled shape of the rest.
 ghost use mathlib.Core.Path.{_≡_};
-ghost use mathlib.Core.List.{_∷_};
-ghost use Prim.Native.Nat.{_+_, _-_, _≤_, _<_};
-ghost use lib.ListN.{length, replicate};
+ghost use Prim.Native.Nat.{_-_, _≤_, _<_};
+ghost use lib.ListN.{length, getD, replicate};
 ghost use Rattle.meaning.specs.Reading.{Listed};
 ghost use Rattle.meaning.specs.Refusals.{Meets};
 ghost use Rattle.meaning.specs.Operations.{sweepOut};
-ghost use Rattle.meaning.specs.SweepStores.{finishAll, takeLinks, relinkHead, freeCell, chainValues, freeChained};
+ghost use Rattle.meaning.specs.SweepStores.{finishAll, takeLinks, relinkHead, freeCell, freeChained};
 ghost use Rattle.words.specs.Shaped.{Shaped};
-ghost use Rattle.paths.specs.Paths.{pathOf, PathIn, Walkable};
-ghost use Rattle.sweep.specs.Sweeping.{someOwesFrom, Paid, targetOf, sweptTo, cellsTo, cellsUpTo, zerosOf, Reaches, Keyed, ChainIn, ChainedUpTo, Moves, droppedTo};
+ghost use Rattle.paths.specs.Paths.{pathOf, Formed, PathIn, Walkable};
+ghost use Rattle.sweep.specs.Sweeping.{someOwesFrom, Paid, targetOf, sweptTo, cellsUpTo, zerosOf, Reaches, Keyed, ChainIn, ChainedFrom, ChainedUpTo, Moves, droppedTo};
 use meaning::Answer;
 use paths::Path;
 use settings::Settings;
@@ -89,7 +88,7 @@ fn seek_target(list: &[u32], s: Settings) -> Target
 // dead cell. Answers how many they are.
 fn chain_from(list: &mut [u32], s: Settings, position: u32, first: u32, start: Path) -> u32
     requires { ⌜ Walkable (now list) s × (Reaches (now list) s position (pathOf start) × (PathIn s start × (first < s .cells))) ⌝ }
-    ensures { λ r. ⌜ (now (list .exit) ≡ chainValues (s .dimensions) (now (list .entry)) (first ∷ cellsTo (now (list .entry)) s position (pathOf start))) × ((r ≡ 1 + length (cellsTo (now (list .entry)) s position (pathOf start))) × Shaped (now (list .exit)) s) ⌝ }
+    ensures { λ r. ⌜ ChainedFrom (now (list .entry)) s position first (pathOf start) r (now (list .exit)) ⌝ }
 {
     let mut path = start;
     let mut last = first;
@@ -137,17 +136,24 @@ fn leading_zeros(list: &[u32], s: Settings, x: u32) -> u32
     d
 }
 
+// Word d of a path.
+fn path_word(path: Path, d: u32) -> u32
+    requires { ⌜ Formed (path .used) path × (d < path .used) ⌝ }
+    ensures { λ r. ⌜ r ≡ getD (pathOf path) d 0 ⌝ }
+{
+    path.cells[d as usize]
+}
+
 // The new position's links from z up to its old dimension: those of the cells on its path.
 fn take_links(list: &mut [u32], s: Settings, t: Target, z: u32)
     requires { ⌜ Shaped (now list) s × ((t .cell < s .cells) × ((t .number ≤ s .dimensions) × PathIn s (t .path))) ⌝ }
     ensures { λ r. ⌜ (now (list .exit) ≡ takeLinks (s .dimensions) (now (list .entry)) (t .cell) (pathOf (t .path)) z (t .number - z)) × Shaped (now (list .exit)) s ⌝ }
 {
     let first = words::COORDINATES + s.dimensions;
-    let path = t.path;
     let mut d = z;
     while d < t.number {
-        let i = d as usize;
-        let y = words::link(list, s, path.cells[i], d);
+        let from = path_word(t.path, d);
+        let y = words::link(list, s, from, d);
         words::store(list, s, t.cell, first + d, y);
         d += 1;
     }

@@ -10,9 +10,9 @@ head-path-requires c κs = search needs
 
 next-requires : tie.Need-next-requires
 next-requires c κs =
-    let h = c .before .before .before .pre in
+    let h = c .before .before .before .pre .0 in
     let head = c .head-path .ensures in
-    (h .0, zeros-in (h .0 .head) (head .1) (head .0))
+    (h, zeros-in (h .head) (head .1) (head .0))
 
 same-length : tie.Need-same-length
 same-length c = search needs
@@ -33,9 +33,12 @@ same-length-2 c = search needs
 
 returns-2 : tie.Need-returns-2
 returns-2 c =
-    let h = c .before .before .before .before .before .before .before .before .before .before .pre in
-    let e = c .before .before .chain-from .ensures in
-    between-some (h .0) (h .1) (c .before .before .before .before .before .before .before .head-path .ensures .0) (c .before .before .before .before .before .before .next .ensures) (c .before .before .before .before .if1 .left) (e .0) (e .1 .0) (e .1 .1)
+    let from = c .before .before in
+    let other = from .before .before in
+    let next = other .before .before in
+    let h = next .before .before .before .before .pre in
+    between-some (h .0) (h .1) (next .before .head-path .ensures .0) (next .next .ensures) (other .if1 .left)
+    (from .chain-from .ensures)
 
 pub chain-between-spec : {M : Type 1} → statement M
 chain-between-spec =

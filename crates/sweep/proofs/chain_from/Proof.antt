@@ -24,13 +24,12 @@ next-requires : tie.Need-next-requires Inv-loop μ-loop
 next-requires c κs = (c .before .loop .inv .walkable, c .before .loop .inv .path-in)
 
 same-length : tie.Need-same-length Inv-loop μ-loop
-same-length c = omega (arith, c .before .before .before .before .loop .inv .walkable .shaped .long, c .before .before .before .before .before .before .pre .0 .shaped .long)
+same-length c =
+    let v = c .before .before .before .before in
+    omega (arith, v .loop .inv .walkable .shaped .long, v .before .before .pre .0 .shaped .long)
 
 returns : tie.Need-returns Inv-loop μ-loop
-returns c =
-    let k = c .before .before .before .before .loop .inv in
-    let end = chaining-end k (c .before .before .next .ensures) (c .if1 .taken) in
-    (end .0, (end .1, k .walkable .shaped))
+returns c = chaining-end (c .before .before .before .before .loop .inv) (c .before .before .next .ensures) (c .if1 .taken)
 
 store-requires : tie.Need-store-requires Inv-loop μ-loop
 store-requires c κs =
@@ -40,14 +39,23 @@ store-requires c κs =
 
 add-count : tie.Need-add-count Inv-loop μ-loop
 add-count c =
-    let h = c .before .before .before .before .before .before .before .before .before .before .before .pre in
-    omega (arith, c .before .before .before .before .before .before .before .before .before .loop .inv .number, h .1 .0 .ends, h .0 .shaped .cells-most)
+    let v = c .before .before .before .before .before .before .before .before .before in
+    let h = v .before .before .pre in
+    omega (arith, v .loop .inv .number, h .1 .0 .ends, h .0 .shaped .cells-most)
 
 loop-less : tie.Need-loop-less Inv-loop μ-loop
-loop-less c = chaining-less (c .before .before .before .before .before .before .before .before .before .loop .inv) (c .before .before .before .before .before .before .before .next .ensures) (c .before .before .before .before .before .if1 .left) (c .before .before .before .store .ensures .0)
+loop-less c =
+    let store = c .before .before .before in
+    let other = store .before .before in
+    let next = other .before .before in
+    chaining-less (next .before .before .loop .inv) (next .next .ensures) (other .if1 .left) (store .store .ensures .0)
 
 loop-again : tie.Need-loop-again Inv-loop μ-loop
-loop-again c = chaining-onward (c .before .before .before .before .before .before .before .before .before .loop .inv) (c .before .before .before .before .before .before .before .next .ensures) (c .before .before .before .before .before .if1 .left) (c .before .before .before .store .ensures .0)
+loop-again c =
+    let store = c .before .before .before in
+    let other = store .before .before in
+    let next = other .before .before in
+    chaining-onward (next .before .before .loop .inv) (next .next .ensures) (other .if1 .left) (store .store .ensures .0)
 
 pub chain-from-spec : {M : Type 1} → statement M
 chain-from-spec =

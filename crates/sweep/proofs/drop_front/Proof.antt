@@ -29,26 +29,34 @@ take-links-requires c κs =
 
 relink-head-requires : tie.Need-relink-head-requires
 relink-head-requires c κs =
-    let m = c .before .before .before .before .before .before .before .before .before .before .before .before .pre in
-    (c .before .before .before .take-links .ensures .1, (listed-walkable (m .paid .listed) .head, omega (arith, moves-dropping m .inside, c .before .before .before .before .before .before .before .before .before .leading-zeros .ensures)))
+    let zeros = c .before .before .before .before .before .before .before .before .before in
+    let m = zeros .before .before .before .pre in (
+      c .before .before .before .take-links .ensures .1,
+      (listed-walkable (m .paid .listed) .head, omega (arith, moves-dropping m .inside, zeros .leading-zeros .ensures)),
+    )
 
 free-chained-requires : tie.Need-free-chained-requires
 free-chained-requires c κs =
-    let links = c .before .before .before .relink-head .ensures in (
-      links .1,
-      moves-chain (c .before .before .before .before .before .before .before .before .before .before .before .before .before .before .before .before .pre) (c .before .before .before .before .before .before .before .before .before .before .before .before .before .leading-zeros .ensures) (c .before .before .before .before .before .before .before .before .before .before .before .chain-between .ensures) (c .before .before .before .before .before .before .before .take-links .ensures .0) (links .0),
+    let links = c .before .before .before in
+    let takes = links .before .before .before .before in
+    let chains = takes .before .before .before .before in
+    let zeros = chains .before .before in
+    let e = links .relink-head .ensures in (
+      e .1,
+      moves-chain (zeros .before .before .before .pre) (zeros .leading-zeros .ensures) (chains .chain-between .ensures) (takes .take-links .ensures .0) (e .0),
     )
 
 head-path-requires : tie.Need-head-path-requires
 head-path-requires c κs =
-    let h = c .before .before .before .before .before .before .before .before .before .before .before .before .before .before .before .before .before .before .before .pre .paid .listed in
-    listed-shaped h .dimensions-most
+    let zeros = c .before .before .before .before .before .before .before .before .before .before .before .before .before .before .before .before in
+    listed-shaped (zeros .before .before .before .pre .paid .listed) .dimensions-most
 
 onward-requires : tie.Need-onward-requires
 onward-requires c κs =
     let f = c .head-path .ensures .1 in
-    let fits = moves-dropping (c .before .before .before .before .before .before .before .before .before .before .before .before .before .before .before .before .before .before .before .before .pre) in
-    (formed-own f, omega (arith, f .used, fits .inside, fits .least, c .before .before .before .before .before .before .before .before .before .before .before .before .before .before .before .before .before .leading-zeros .ensures))
+    let zeros = c .before .before .before .before .before .before .before .before .before .before .before .before .before .before .before .before .before in
+    let fits = moves-dropping (zeros .before .before .before .pre) in
+    (formed-own f, omega (arith, f .used, fits .inside, fits .least, zeros .leading-zeros .ensures))
 
 write-path-requires : tie.Need-write-path-requires
 write-path-requires c κs = search needs
@@ -58,15 +66,21 @@ same-length c = search needs
 
 returns : tie.Need-returns
 returns c =
-    let a = c .before .before .before .before .before .before .before .before .before .before .before .before .before .before .before .before .before .before .before .before .before .before .before .before .before .args in
+    let on = c .before .before .before .before in
+    let frees = on .before .before .before .before in
+    let links = frees .before .before .before .before in
+    let takes = links .before .before .before .before in
+    let chains = takes .before .before .before .before in
+    let zeros = chains .before .before in
+    let a = zeros .before .before .before .args in
     let x = a .t .cell in
-    let z = c .before .before .before .before .before .before .before .before .before .before .before .before .before .before .before .before .before .before .before .before .before .before .leading-zeros in
-    let chained = c .before .before .before .before .before .before .before .before .before .before .before .before .before .before .before .before .before .before .before .before .chain-between .ensures in
-    let head = c .before .before .before .before .before .head-path .ensures in
-    let way = head-redrawn (head .0) (head .1) (z .result) x (c .before .before .before .before .onward .ensures .0) in (
-      front-dropped (a .s .dimensions) (a .list .now) x (a .t .number) (pathOf (a .t .path)) (cellsUpTo (a .list .now) (a .s) x) (z .ensures) (chained .words)
-          (chained .first) (chained .count) (c .before .before .before .before .before .before .before .before .before .before .before .before .before .before .before .before .take-links .ensures .0) (c .before .before .before .before .before .before .before .before .before .before .before .before .relink-head .ensures .0) (c .before .before .before .before .before .before .before .before .free-chained .ensures .0) way
-          (c .before .before .write-path .ensures .0),
+    let z = zeros .leading-zeros in
+    let chained = chains .chain-between .ensures in
+    let head = on .before .head-path .ensures in
+    let way = head-redrawn (head .0) (head .1) (z .result) x (on .onward .ensures .0) in (
+      front-dropped (a .s .dimensions) (a .list .now) x (a .t .number) (pathOf (a .t .path)) (cellsUpTo (a .list .now) (a .s) x) (z .ensures)
+          (chained .words) (chained .first) (chained .count) (takes .take-links .ensures .0) (links .relink-head .ensures .0)
+          (frees .free-chained .ensures .0) way (c .before .before .write-path .ensures .0),
       chained .count,
     )
 

@@ -16,7 +16,9 @@ use Rattle.sweep.proofs.finish_all.Tie as tie
 
 abbrev Inv-loop : tie.InvT-loop
 Inv-loop list₀ s n₀ list n =
-    Listed list s × ((length list ≡ length list₀) × (finishAll (s .dimensions) list₀ 1 (s .cells - 1) ≡ finishAll (s .dimensions) list n (s .cells - n)))
+    Listed list s
+    × ((length list ≡ length list₀)
+    × (finishAll (s .dimensions) list₀ 1 (s .cells - 1) ≡ finishAll (s .dimensions) list n (s .cells - n)))
 
 abbrev μ-loop : tie.MeasureT-loop
 μ-loop list₀ s n₀ list n = s .cells - n
@@ -38,9 +40,9 @@ loop-less c = search needs
 loop-again : tie.Need-loop-again Inv-loop μ-loop
 loop-again c =
     let v = c .before .before .before .before .before .before .loop in
-    let a = c .before .before .before .before .before .before .before .before .args in
+    let D = c .before .before .before .before .before .before .before .before .args .s .dimensions in
     let e = c .before .before .finish-cell .ensures .0 in
-    (rw e (finish-listed (v .inv .0) (v .n) (omega arith)), (search needs, v .inv .1 .1 ∙ rw e (finish-more (a .s .dimensions) (v .list) (v .n) (omega arith))))
+    (rw e (finish-listed (v .inv .0) (v .n) (omega arith)), (search needs, v .inv .1 .1 ∙ rw e (finish-more D (v .list) (v .n) (omega arith))))
 
 same-length : tie.Need-same-length Inv-loop μ-loop
 same-length c = search needs

@@ -51,14 +51,17 @@ loop-again : tie.Need-loop-again Inv-loop μ-loop
 loop-again c =
     let v = c .before .before .before .before .before .before .loop in
     let a = c .before .before .before .before .before .before .before .before .before .before .before .before .before .args in
+    let D = a .s .dimensions in
     let e = c .before .before .store2 .ensures in
-    (e .1, (search needs, v .inv .1 .1 ∙ rw (e .0) (zeros-more (a .s .dimensions) (v .list) (a .x) (v .j) (v .j + 1) (cellWords (a .s .dimensions)) (omega arith) (omega arith))))
+    (e .1, (search needs, v .inv .1 .1 ∙ rw (e .0) (zeros-more D (v .list) (a .x) (v .j) (v .j + 1) (cellWords D) (omega arith) (omega arith))))
 
 slice-write-list : tie.Need-slice-write-list Inv-loop μ-loop
 slice-write-list c = search needs
 
 same-length : tie.Need-same-length Inv-loop μ-loop
-same-length c = simp length-set (omega (arith, c .before .before .loop .inv .0 .long, c .before .before .before .before .before .before .before .before .before .pre .0 .long))
+same-length c =
+    let v = c .before .before in
+    simp length-set (omega (arith, v .loop .inv .0 .long, v .before .before .before .before .before .before .before .pre .0 .long))
 
 returns : tie.Need-returns Inv-loop μ-loop
 returns c =

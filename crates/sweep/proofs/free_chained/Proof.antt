@@ -45,7 +45,8 @@ loop-again c =
     let v = c .before .before .before .before .before .before .before .loop in
     let next = c .before .before .before .before .word .ensures in
     let e = c .before .before .free-cell .ensures in
-    (e .1, (search needs, (chain-rest (v .inv .0) (v .x) (v .left) (omega arith) next (e .0) (v .inv .1 .1 .0), v .inv .1 .1 .1 ∙ chained-more (v .inv .0) (v .x) (v .left) (omega arith) next (e .0))))
+    let chained = chain-rest (v .inv .0) (v .x) (v .left) (omega arith) next (e .0) (v .inv .1 .1 .0) in
+    (e .1, (search needs, (chained, v .inv .1 .1 .1 ∙ chained-more (v .inv .0) (v .x) (v .left) (omega arith) next (e .0))))
 
 same-length : tie.Need-same-length Inv-loop μ-loop
 same-length c = search needs

@@ -20,7 +20,9 @@ coordinate-requires : tie.Need-coordinate-requires Inv-loop μ-loop
 coordinate-requires c κs = search needs
 
 returns : tie.Need-returns Inv-loop μ-loop
-returns c = zero-last (c .before .before .before .before .before .before .pre .1) (c .before .before .before .before .loop .inv) (omega arith) (c .before .coordinate .ensures) (c .if2 .taken)
+returns c =
+    let v = c .before .before .before .before in
+    zero-last (v .before .before .pre .1) (v .loop .inv) (omega arith) (c .before .coordinate .ensures) (c .if2 .taken)
 
 add-d : tie.Need-add-d Inv-loop μ-loop
 add-d c = search needs
@@ -29,7 +31,9 @@ loop-less : tie.Need-loop-less Inv-loop μ-loop
 loop-less c = search needs
 
 loop-again : tie.Need-loop-again Inv-loop μ-loop
-loop-again c = zero-more (c .before .before .before .before .before .before .pre .1) (c .before .before .before .before .loop .inv) (omega arith) (c .before .coordinate .ensures) (omega arith)
+loop-again c =
+    let v = c .before .before .before .before in
+    zero-more (v .before .before .pre .1) (v .loop .inv) (omega arith) (c .before .coordinate .ensures) (omega arith)
 
 returns-2 : tie.Need-returns-2 Inv-loop μ-loop
 returns-2 c = zero-all (c .before .before .before .before .pre .1) (c .before .before .loop .inv) (omega arith)

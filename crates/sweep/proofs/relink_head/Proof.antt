@@ -56,7 +56,8 @@ loop-again c =
     let v = c .before .before .before .before .before .before .loop in
     let D = c .before .before .before .before .before .before .before .before .before .before .before .before .before .args .s .dimensions in
     let e = c .before .before .store2 .ensures in
-    (e .1, (search needs, v .inv .1 .1 ∙ rw (e .0) (zeros-more D (v .list) 0 (linkField D (v .d)) (linkField D (v .d + 1)) (cellWords D) (omega arith) (omega arith))))
+    let more = zeros-more D (v .list) 0 (linkField D (v .d)) (linkField D (v .d + 1)) (cellWords D) (omega arith) (omega arith) in
+    (e .1, (search needs, v .inv .1 .1 ∙ rw (e .0) more))
 
 same-length : tie.Need-same-length Inv-loop μ-loop
 same-length c = search needs
@@ -65,7 +66,8 @@ returns : tie.Need-returns Inv-loop μ-loop
 returns c =
     let v = c .before .before .loop in
     let a = c .before .before .before .before .before .before .before .before .before .args in
-    (relinked (a .s .dimensions) (a .list .now) (a .position) (a .z) (v .d) (c .before .before .before .before .before .store .ensures .0) (v .inv .1 .1) (omega arith), v .inv .0)
+    let e = c .before .before .before .before .before .store .ensures .0 in
+    (relinked (a .s .dimensions) (a .list .now) (a .position) (a .z) (v .d) e (v .inv .1 .1) (omega arith), v .inv .0)
 
 pub relink-head-spec : {M : Type 1} → statement M
 relink-head-spec =

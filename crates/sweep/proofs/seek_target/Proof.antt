@@ -23,32 +23,41 @@ head-path-requires c κs = listed-shaped (c .before .pre) .dimensions-most
 
 loop-holds : tie.Need-loop-holds Inv-loop μ-loop
 loop-holds c =
+    let h = c .before .before .pre in
     let head = c .head-path .ensures in
-    seeking-start (listed-reaches (c .before .before .pre)) (head .0) (zeros-in (listed-walkable (c .before .before .pre) .head) (head .1) (head .0))
+    seeking-start (listed-reaches h) (head .0) (zeros-in (listed-walkable h .head) (head .1) (head .0))
 
 next-requires : tie.Need-next-requires Inv-loop μ-loop
 next-requires c κs = (listed-walkable (c .before .before .before .pre), c .loop .inv .path-in)
 
 returns : tie.Need-returns Inv-loop μ-loop
 returns c =
-    let k = c .before .before .before .loop .inv in
-    (seeking-end (listed-walkable (c .before .before .before .before .before .before .pre)) k (c .before .before .next .ensures) (c .if1 .taken), k .path-in)
+    let next = c .before .before in
+    let k = next .before .loop .inv in
+    (seeking-end (listed-walkable (next .before .before .before .before .pre)) k (next .next .ensures) (c .if1 .taken), k .path-in)
 
 word-requires : tie.Need-word-requires Inv-loop μ-loop
-word-requires c κs = (listed-shaped (c .before .before .before .before .before .before .pre), field-within (c .before .before .next .ensures .below) (omega arith))
+word-requires c κs =
+    let next = c .before .before in
+    (listed-shaped (next .before .before .before .before .pre), field-within (next .next .ensures .below) (omega arith))
 
 returns-2 : tie.Need-returns-2 Inv-loop μ-loop
 returns-2 c =
-    let k = c .before .before .before .before .before .loop .inv in
-    (seeking-live (listed-walkable (c .before .before .before .before .before .before .before .before .pre)) k (c .before .before .before .before .next .ensures) (c .before .before .if1 .left) (c .before .word .ensures) (c .if2 .taken), k .path-in)
+    let next = c .before .before .before .before in
+    let k = next .before .loop .inv in
+    let h = listed-walkable (next .before .before .before .before .pre) in
+    (seeking-live h k (next .next .ensures) (c .before .before .if1 .left) (c .before .word .ensures) (c .if2 .taken), k .path-in)
 
 loop-less : tie.Need-loop-less Inv-loop μ-loop
-loop-less c = way-less (listed-walkable (c .before .before .before .before .before .before .before .before .before .pre)) (c .before .before .before .before .before .before .loop .inv .way) (c .before .before .before .before .before .next .ensures) (c .before .before .before .if1 .left)
+loop-less c =
+    let next = c .before .before .before .before .before in
+    way-less (listed-walkable (next .before .before .before .before .pre)) (next .before .loop .inv .way) (next .next .ensures) (c .before .before .before .if1 .left)
 
 loop-again : tie.Need-loop-again Inv-loop μ-loop
 loop-again c =
-    seeking-onward (listed-walkable (c .before .before .before .before .before .before .before .before .before .pre)) (c .before .before .before .before .before .before .loop .inv) (c .before .before .before .before .before .next .ensures) (c .before .before .before .if1 .left) (c .before .before .word .ensures)
-    (c .before .if2 .left)
+    let next = c .before .before .before .before .before in
+    let h = listed-walkable (next .before .before .before .before .pre) in
+    seeking-onward h (next .before .loop .inv) (next .next .ensures) (c .before .before .before .if1 .left) (c .before .before .word .ensures) (c .before .if2 .left)
 
 pub seek-target-spec : {M : Type 1} → statement M
 seek-target-spec =

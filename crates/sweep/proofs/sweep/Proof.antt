@@ -32,9 +32,11 @@ same-length-2 c = search needs
 
 returns-2 : tie.Need-returns-2
 returns-2 c =
-    let paid = c .before .before .before .before .before .before .before .finish-all .ensures in
-    let t = c .before .before .before .seek-target in
-    stays-meets (c .before .before .before .before .before .before .before .before .before .before .before .before .before .pre) (paid .0) (t .result) (paid .1) (t .ensures .0) (c .before .if2 .taken) (c .accepted .ensures)
+    let seeks = c .before .before .before in
+    let pays = seeks .before .before .before .before in
+    let paid = pays .finish-all .ensures in
+    let t = seeks .seek-target in
+    stays-meets (pays .before .before .before .before .before .before .pre) (paid .0) (t .result) (paid .1) (t .ensures .0) (c .before .if2 .taken) (c .accepted .ensures)
 
 drop-front-requires : tie.Need-drop-front-requires
 drop-front-requires c κs = search needs
@@ -47,11 +49,15 @@ same-length-3 c = search needs
 
 returns-3 : tie.Need-returns-3
 returns-3 c =
-    let paid = c .before .before .before .before .before .before .before .before .before .before .before .finish-all .ensures in
-    let t = c .before .before .before .before .before .before .before .seek-target .ensures in
-    let left = c .before .before .before .drop-front .ensures in
-    moves-meets (c .before .before .before .before .before .before .before .before .before .before .before .before .before .before .before .before .before .pre) (paid .0) (record { paid = paid .1; target = t .0; other = c .before .before .before .before .before .if2 .left; path-in = t .1 }) (left .0) (left .1)
-    (c .accepted2 .ensures)
+    let drops = c .before .before .before in
+    let other = drops .before .before in
+    let seeks = other .before .before in
+    let pays = seeks .before .before .before .before in
+    let paid = pays .finish-all .ensures in
+    let t = seeks .seek-target .ensures in
+    let left = drops .drop-front .ensures in
+    moves-meets (pays .before .before .before .before .before .before .pre) (paid .0)
+    (record { paid = paid .1; target = t .0; other = other .if2 .left; path-in = t .1 }) (left .0) (left .1) (c .accepted2 .ensures)
 
 pub sweep-spec : {M : Type 1} → statement M
 sweep-spec =

@@ -8,39 +8,37 @@ use borrow.Author.Needs.{needs}
 use Rattle.meaning.specs.SweepStores.{takeLinks}
 use Rattle.words.specs.Shaped.{Shaped}
 use Rattle.paths.specs.Paths.{pathOf}
-use Rattle.sweep.proofs.Laws.{path-cell, take-more, take-all}
+use Rattle.paths.proofs.Laws.{formed-own}
+use Rattle.sweep.proofs.Laws.{take-more, take-all}
 use Rattle.sweep.proofs.take_links.Statement.{statement}
 use Rattle.sweep.proofs.take_links.Tie as tie
 
 abbrev Inv-loop : tie.InvT-loop
-Inv-loop list₀ s t z first path d₀ list d =
+Inv-loop list₀ s t z first d₀ list d =
     Shaped list s
-    × ((z ≤ d) × ((length list ≡ length list₀)
-    × (takeLinks (s .dimensions) list₀ (t .cell) (pathOf (t .path)) z (t .number - z) ≡ takeLinks (s .dimensions) list (t .cell) (pathOf (t .path)) d (t .number - d))))
+    × ((z ≤ d)
+    × ((length list ≡ length list₀)
+    × (takeLinks (s .dimensions) list₀ (t .cell) (pathOf (t .path)) z (t .number - z)
+    ≡ takeLinks (s .dimensions) list (t .cell) (pathOf (t .path)) d (t .number - d))))
 
 abbrev μ-loop : tie.MeasureT-loop
-μ-loop list₀ s t z first path d₀ list d = t .number - d
+μ-loop list₀ s t z first d₀ list d = t .number - d
 
 add-first : tie.Need-add-first Inv-loop μ-loop
 add-first c = search needs
 
 loop-holds : tie.Need-loop-holds Inv-loop μ-loop
-loop-holds c = (c .before .before .before .pre .0, (omega arith, (refl, refl)))
+loop-holds c = (c .before .before .pre .0, (omega arith, (refl, refl)))
 
-cast-i : tie.Need-cast-i Inv-loop μ-loop
-cast-i c = search needs
-
-mul-link : tie.Need-mul-link Inv-loop μ-loop
-mul-link c = search needs
-
-element-copy-out-link : tie.Need-element-copy-out-link Inv-loop μ-loop
-element-copy-out-link c = search needs
+path-word-requires : tie.Need-path-word-requires Inv-loop μ-loop
+path-word-requires c κs =
+    let f = c .before .before .before .before .before .pre .1 .1 .1 .formed in
+    (formed-own f, omega (arith, f .used))
 
 link-requires : tie.Need-link-requires Inv-loop μ-loop
 link-requires c κs =
-    let v = c .before .before .before .before .loop in
-    let h = c .before .before .before .before .before .before .before .before .pre in
-    (v .inv .0, (path-cell (h .1 .1 .1) _ (omega arith), omega arith))
+    let i = c .before .before .before .before .before .before .before .pre .1 .1 .1 in
+    (c .before .before .before .before .loop .inv .0, (rw (c .before .path-word .ensures) (i .below _ (omega arith)), omega arith))
 
 add-store : tie.Need-add-store Inv-loop μ-loop
 add-store c = search needs
@@ -57,9 +55,11 @@ loop-less c = search needs
 loop-again : tie.Need-loop-again Inv-loop μ-loop
 loop-again c =
     let v = c .before .before .before .before .before .before .before .before .before .loop in
-    let s = c .before .before .before .before .before .before .before .before .before .before .before .before .before in
+    let t = c .before .before .before .before .before .before .before .before .before .before .before .before .args .t in
     let e = c .before .before .store .ensures in
-    (e .1, (search needs, (search needs, v .inv .1 .1 .1 ∙ rw (e .0) (take-more (v .inv .0) (s .args .t .cell) (s .pre .1 .1 .1) (v .d) (omega arith) (s .pre .1 .1 .0) (c .before .before .before .before .link .ensures)))))
+    let from = c .before .before .before .before .before .before .path-word .ensures in
+    let y = c .before .before .before .before .link .ensures in
+    (e .1, (search needs, (search needs, v .inv .1 .1 .1 ∙ rw (e .0) (take-more (v .inv .0) (t .cell) (pathOf (t .path)) (v .d) (omega arith) from y))))
 
 same-length : tie.Need-same-length Inv-loop μ-loop
 same-length c = search needs
@@ -67,7 +67,7 @@ same-length c = search needs
 returns : tie.Need-returns Inv-loop μ-loop
 returns c =
     let v = c .before .before .loop in
-    let a = c .before .before .before .before .before .before .args in
+    let a = c .before .before .before .before .before .args in
     (sym (v .inv .1 .1 .1 ∙ take-all (a .s .dimensions) (v .list) (a .t .cell) (pathOf (a .t .path)) (v .d) (omega arith)), v .inv .0)
 
 pub take-links-spec : {M : Type 1} → statement M
@@ -78,9 +78,7 @@ take-links-spec =
     μ-loop
     add-first
     loop-holds
-    cast-i
-    mul-link
-    element-copy-out-link
+    path-word-requires
     link-requires
     add-store
     store-requires
