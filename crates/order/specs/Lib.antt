@@ -1,0 +1,3 @@
+-- What the order program keeps to, so that it is safe.
+pub mod Kept
+pub mod Printed

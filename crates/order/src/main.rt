@@ -1,0 +1,143 @@
+// The order program: reads lines from standard input, asks the list what each line says, and prints one line for each. Document 01, "Entries
+// and the order program".
+//
+//     N class unit value    insert
+//     F class unit          find
+//     A class unit          finish
+//     T                     take
+//     S                     sweep
+//
+// The list has D = 8, K = 1,048,575 and C = 512, in an array of 11,277 words. The input comes in parts of any size, and each answer is
+// written as soon as its line has been read, by one write. A read or a write that fails ends the program with a message on standard error;
+// what was answered until then has been written, and a line begun at a read that fails is not answered.
+//
+// The file stdout has the answers of the separate ordered set: compare/ordered_set/target/release/ordered_set order < stdin > stdout
+mod answer; // answer.rt: the line printed
+
+ghost use mathlib.Core.Path.{_≡_};
+ghost use lib.ListN.{length};
+ghost use Rattle.text.specs.Lines.{mostBytes};
+ghost use Rattle.text.specs.Feeding.{Ready};
+ghost use Rattle.order.specs.Kept.{LineIn};
+use text::feed::Feed;
+use text::feed::Told;
+
+const DIMENSIONS: u32 = 8;
+
+const LARGEST_KEY: u32 = 1048575;
+
+const CELLS: u32 = 512;
+
+// 5 + D + C x (6 + 2D)
+const WORDS: usize = 11277;
+
+// What is kept from one byte to the next, beside the words and the bytes of the line begun: whether every answer has been written.
+pub struct State {
+    pub feed: Feed,
+    pub written: bool,
+}
+
+// How the program ends.
+pub enum End {
+    AllAnswered,
+    NotRead,
+    NotWritten,
+}
+
+// Answers the line that ended, if one did; whether the answer was written.
+fn take_line(words: &mut [u32], line: &[u8], ended: Told) -> bool
+    requires { ⌜ LineIn (now line) ended ⌝ }
+{
+    match ended {
+        Told::NoLine => return true,
+        Told::Line(n) => return answer::print(order_step::step(words, &line[0..n])),
+        Told::LongLine => return answer::print(order_step::long_line(words)),
+    }
+}
+
+fn take_byte(words: &mut [u32], line: &mut [u8], feed: Feed, byte: u8) -> State
+    requires { ⌜ Ready (now line) feed ⌝ }
+    ensures { λ r. ⌜ Ready (now (line .exit)) (r .feed) ⌝ }
+{
+    let fed = text::feed::feed_byte(line, feed, byte);
+    let next = fed.feed;
+    let ended = fed.told;
+    let written = take_line(words, line, ended);
+    State {
+        feed: next,
+        written,
+    }
+}
+
+// A part of the input, to its end or to an answer that is not written.
+fn take_part(words: &mut [u32], line: &mut [u8], feed: Feed, part: &[u8]) -> State
+    requires { ⌜ Ready (now line) feed ⌝ }
+    ensures { λ r. ⌜ Ready (now (line .exit)) (r .feed) ⌝ }
+{
+    let mut s = State {
+        feed,
+        written: true,
+    };
+    let mut i = 0;
+    while i < part.len() {
+        s = take_byte(words, line, s.feed, part[i]);
+        if !s.written {
+            return s;
+        }
+        i += 1;
+    }
+    s
+}
+
+// The end of the input: a line begun counts.
+fn take_last(words: &mut [u32], line: &[u8], feed: Feed) -> End
+    requires { ⌜ Ready (now line) feed ⌝ }
+{
+    let last = text::feed::finish(feed);
+    if take_line(words, line, last) {
+        return End::AllAnswered;
+    }
+    End::NotWritten
+}
+
+// The input, in parts, to its end. Nothing says that an input ends, so the turns are counted down from a number that no run uses up.
+fn take_all(words: &mut [u32], line: &mut [u8]) -> End
+    requires { ⌜ length (now line) ≡ mostBytes ⌝ }
+{
+    let mut feed = text::feed::start();
+    let mut part = io::large_buffer();
+    let mut turns = u64::MAX;
+    while 0 < turns {
+        let got = libc::read(0, &mut part);
+        if got < 0 {
+            return End::NotRead;
+        }
+        if got == 0 {
+            return take_last(words, line, feed);
+        }
+        let n = io::count(got, &part);
+        let s = take_part(words, line, feed, &part[..n]);
+        if !s.written {
+            return End::NotWritten;
+        }
+        feed = s.feed;
+        turns -= 1;
+    }
+    End::NotRead
+}
+
+fn main() {
+    let mut words = [0u32; WORDS];
+    let mut line = [0u8; text::feed::MOST_BYTES];
+    mdlist::mdlist_set_up(DIMENSIONS, LARGEST_KEY, CELLS, &mut words);
+    let end = take_all(&mut words, &mut line);
+    match end {
+        End::AllAnswered => return,
+        End::NotRead => {
+            io::write_all(2, b"order: standard input cannot be read\n");
+        }
+        End::NotWritten => {
+            io::write_all(2, b"order: standard output cannot be written\n");
+        }
+    }
+}

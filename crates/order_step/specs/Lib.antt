@@ -1,0 +1,2 @@
+-- One line of the order program.
+pub mod Step

@@ -1,0 +1,32 @@
+-- What one line of the order program answers and leaves: document 01, "Entries and the order program".
+use mathlib.Core.List.{List}
+use Prim.Native.Nat.{ℕ}
+use Rattle.text.specs.Lines.{Handed, line, tooLong}
+use Rattle.meaning.specs.Refusals.{Outcome, answer}
+use Rattle.meaning.specs.Calls.{Call, insert-key, find-key, finish-key, take-least, sweep-dead, outcome}
+use Rattle.lines.specs.Grammar.{keyOf, parsedOf}
+use Rattle.lines.specs.declared.Kind.{Kind}
+use Rattle.lines.specs.declared.Kind.the-variants.{Insert, Find, Finish, Take, Sweep}
+use Rattle.lines.specs.declared.Parsed.{Parsed}
+use Rattle.lines.specs.declared.Parsed.the-variants.{Readable, Unreadable}
+
+-- the call that a kind of line asks for
+abbrev pub callOf : Kind → Call
+callOf (Insert e value) = insert-key (keyOf e) value
+callOf (Find e) = find-key (keyOf e)
+callOf (Finish e) = finish-key (keyOf e)
+callOf Take = take-least
+callOf Sweep = sweep-dead
+
+-- "10: program: line not readable"; "10 is given before the list is called"
+abbrev pub unreadable : List ℕ → Outcome
+unreadable ws = record { answered = answer 10 0 0 0; words = ws }
+
+abbrev pub parsedOutcome : Parsed → List ℕ → Outcome
+parsedOutcome (Readable l) ws = outcome (callOf (l .kind)) ws
+parsedOutcome Unreadable ws = unreadable ws
+
+-- the outcome of a line as it is handed on
+unfoldable pub lineOutcome : Handed → List ℕ → Outcome
+lineOutcome (line bytes) ws = parsedOutcome (parsedOf bytes) ws
+lineOutcome tooLong ws = unreadable ws

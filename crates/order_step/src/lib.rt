@@ -1,0 +1,32 @@
+// One line of the order program on the list's words: 10 for a line that is not readable, before the list is called; else the call that
+// the line asks for.
+ghost use Rattle.text.specs.Lines.{line, tooLong};
+ghost use Rattle.meaning.specs.Refusals.{Meets};
+ghost use Rattle.order_step.specs.Step.{lineOutcome};
+use lines::Kind;
+use lines::Parsed;
+use meaning::Answer;
+
+// A line with more than 64 bytes.
+pub fn long_line(list: &[u32]) -> Answer
+    ensures { λ r. ⌜ Meets (lineOutcome tooLong (now (list .entry))) r (now (list .entry)) ⌝ }
+{
+    meaning::refused(10)
+}
+
+// A line of at most 64 bytes, or any other that is handed over whole.
+pub fn step(list: &mut [u32], bytes: &[u8]) -> Answer
+    ensures { λ r. ⌜ Meets (lineOutcome (line (now (bytes .entry))) (now (list .entry))) r (now (list .exit)) ⌝ }
+{
+    let Parsed::Readable(l) = lines::parse(bytes) else {
+        return meaning::refused(10);
+    };
+    let kind = l.kind;
+    match kind {
+        Kind::Insert(e, value) => return mdlist::mdlist_insert(list, lines::key(e), value),
+        Kind::Find(e) => return mdlist::mdlist_find(list, lines::key(e)),
+        Kind::Finish(e) => return mdlist::mdlist_finish(list, lines::key(e)),
+        Kind::Take => return mdlist::mdlist_take(list),
+        Kind::Sweep => return mdlist::mdlist_sweep(list),
+    }
+}
