@@ -8,12 +8,15 @@ pub mod Refusals
 pub mod Operations
 pub mod Rule
 pub mod Walk
-pub mod Paths
 pub mod Calls
 pub mod Fourteen
+-- Document 01's sentences one by one, what a call leaves alone, what an ordered map would do, and what is promised.
 pub mod Sentences
-pub mod Stores
 pub mod Leaves
-pub mod SweepStores
 pub mod Book
 pub mod Promises
+-- The layer between the meaning and the code: what is written, word by word, and how paths are followed. Contracts of inner functions cite it.
+-- Nothing of it has to be believed, since it is proved to come to the same as the meaning.
+pub mod Paths
+pub mod Stores
+pub mod SweepStores
