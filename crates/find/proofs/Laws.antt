@@ -11,13 +11,13 @@ use Rattle.meaning.specs.Picture.{mark, picture}
 use Rattle.meaning.specs.Reading.{read, Listed}
 use Rattle.meaning.specs.Refusals.{answer, keyNotLive, answerOf}
 use Rattle.meaning.specs.Operations.{looked, findOut}
-use Rattle.meaning.specs.Walk.{valueAt, markAt}
+use Rattle.meaning.specs.Words.{valueAt, markAt}
 use Rattle.meaning.proofs.State.{Sound}
 use Rattle.meaning.proofs.SentencesCells.{place-value, place-mark}
 use Rattle.meaning.proofs.Outcomes.{find-outcome-bad-key, find-outcome-absent, find-outcome-dead, find-outcome-live}
 use Rattle.search.specs.Found.{foundOf}
 use Rattle.search.specs.declared.Found.{Found}
-use Rattle.search.proofs.Laws.{on-listed}
+use Rattle.words.proofs.Listed.{on-listed}
 use Rattle.search.proofs.Slots.{Present, entry-placed, found-standing, found-missing}
 
 -- the mark and the value that are read are those of the entry

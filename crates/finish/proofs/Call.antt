@@ -8,13 +8,13 @@ use Rattle.meaning.specs.Reading.{read, Listed}
 use Rattle.meaning.specs.Refusals.{answer, Meets}
 use Rattle.meaning.specs.Operations.{owesFromFree, finishOut}
 use Rattle.meaning.specs.Stores.{finishWords}
-use Rattle.meaning.specs.Walk.{lowAt, highAt}
+use Rattle.meaning.specs.Words.{lowAt, highAt}
 use Rattle.meaning.specs.declared.Answer.{Answer}
 use Rattle.meaning.proofs.FinishWords.{finish-words, finish-moved}
 use Rattle.meaning.proofs.Outcomes.{finish-outcome-bad-key, finish-outcome-absent, finish-outcome-standing}
 use Rattle.search.specs.Found.{foundOf}
 use Rattle.search.specs.declared.Found.{Found}
-use Rattle.search.proofs.Laws.{on-listed}
+use Rattle.words.proofs.Listed.{on-listed}
 use Rattle.search.proofs.Slots.{found-standing, found-missing}
 use Rattle.finish.proofs.Debts.{listed-owes}
 

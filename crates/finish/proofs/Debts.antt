@@ -13,13 +13,13 @@ use Rattle.meaning.specs.State.{State}
 use Rattle.meaning.specs.Picture.{picture}
 use Rattle.meaning.specs.Reading.{Listed}
 use Rattle.meaning.specs.Operations.{owesFromFree}
-use Rattle.meaning.specs.Walk.{lowAt, highAt}
+use Rattle.meaning.specs.Words.{lowAt, highAt}
 use Rattle.meaning.proofs.Keys.{shared-le}
 use Rattle.meaning.proofs.State.{Sound, Debt}
 use Rattle.meaning.proofs.SentencesCells.{placesIn, Placed, placed-has, place-low, place-high, free-cell-rest}
 use Rattle.meaning.proofs.PathWithin.{owed-within}
 use Rattle.meaning.proofs.Outcomes.{owed-never-free}
-use Rattle.search.proofs.Laws.{on-listed}
+use Rattle.words.proofs.Listed.{on-listed}
 use Rattle.finish.specs.Payable.{Payable}
 
 -- numbers that stand only where there is a debt

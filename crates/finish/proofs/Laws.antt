@@ -12,7 +12,7 @@ use lib.ListN.{length, getD, List·getD-eq-default}
 use borrow.Author.Tests.{eq-eqb, ne-eqb}
 use Rattle.settings.specs.Numbers.{cellWords}
 use Rattle.settings.specs.declared.Settings.{Settings}
-use Rattle.meaning.specs.Walk.{place, markAt, owedAt, lowAt, highAt, linkAt}
+use Rattle.meaning.specs.Words.{place, markAt, owedAt, lowAt, highAt, linkAt}
 use Rattle.meaning.specs.Operations.{owesFromFree}
 use Rattle.meaning.specs.Stores.{store, linkField, moveLinks, clearDebt, finishWords}
 use Rattle.meaning.proofs.Stores.{finishWords-none, finishWords-some}

@@ -2,7 +2,7 @@
 use mathlib.Core.List.{List}
 use Prim.Native.Nat.{ℕ, _≤_, _<_}
 use Rattle.settings.specs.declared.Settings.{Settings}
-use Rattle.meaning.specs.Walk.{owedAt, highAt}
+use Rattle.meaning.specs.Words.{owedAt, highAt}
 
 pub record Payable (ws : List ℕ) (s : Settings) (n : ℕ) : Type 0 where
   pub cell : n < s .cells

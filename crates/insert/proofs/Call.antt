@@ -17,7 +17,7 @@ use Rattle.meaning.specs.State.{State, positionKey}
 use Rattle.meaning.specs.Picture.{firstNumber, mark, path, picture}
 use Rattle.meaning.specs.Reading.{read, Listed}
 use Rattle.meaning.specs.Refusals.{answer, Meets, accepted}
-use Rattle.meaning.specs.Walk.{place, wordAt, markAt}
+use Rattle.meaning.specs.Words.{place, wordAt, markAt}
 use Rattle.meaning.specs.Operations.{owesFromFree, positionAfter, revived, Slot, slotFor, added, insertOut}
 use Rattle.meaning.specs.Stores.{store, linkField, finishWords, writePath, writeEntry, newWords, insertWords}
 use Rattle.meaning.specs.declared.Answer.{Answer}
@@ -41,7 +41,7 @@ use Rattle.words.specs.Shaped.{Shaped}
 use Rattle.words.proofs.Laws.{word-is}
 use Rattle.search.specs.Found.{foundOf}
 use Rattle.search.specs.declared.Found.{Found}
-use Rattle.search.proofs.Laws.{on-listed}
+use Rattle.words.proofs.Listed.{on-listed}
 use Rattle.search.proofs.Slots.{Present, SlotFound, entry-placed, found-standing, found-missing, found-slot}
 use Rattle.finish.specs.Payable.{Payable}
 use Rattle.finish.proofs.Debts.{payable, listed-payable, listed-owes}

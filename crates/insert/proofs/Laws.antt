@@ -14,7 +14,7 @@ use borrow.Rule.Slice.PartMut.{midOf, putMid, mid-len}
 use Rattle.settings.specs.Numbers.{fieldsBeforeCoordinates}
 use Rattle.settings.specs.declared.Settings.{Settings}
 use Rattle.meaning.specs.Keys.{coordinates}
-use Rattle.meaning.specs.Walk.{place}
+use Rattle.meaning.specs.Words.{place}
 use Rattle.meaning.specs.Stores.{store, finishWords, writeEntry}
 use Rattle.meaning.proofs.Keys.{coordinates-length}
 use Rattle.words.specs.Shaped.{Shaped}

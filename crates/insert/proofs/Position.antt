@@ -12,11 +12,11 @@ use Rattle.meaning.specs.Picture.{path, picture}
 use Rattle.meaning.specs.Paths.{pathFor}
 use Rattle.meaning.specs.Reading.{read, Listed}
 use Rattle.meaning.specs.Stores.{writePath}
-use Rattle.meaning.specs.Walk.{keyAt}
+use Rattle.meaning.specs.Words.{keyAt}
 use Rattle.meaning.proofs.State.{valid-sound}
 use Rattle.meaning.proofs.Reading.{position-read}
 use Rattle.meaning.proofs.SentencesCells.{placed-keyOf, placed-below, place-key, position-placed}
-use Rattle.search.proofs.Laws.{on-listed}
+use Rattle.words.proofs.Listed.{on-listed}
 use Rattle.paths.specs.Paths.{pathOf, StandsIn, Standing, CellPath}
 use Rattle.paths.specs.declared.Path.{Path}
 use Rattle.insert.specs.Inserting.{Ending, Due, PathWritten}

@@ -10,8 +10,8 @@ ghost use Rattle.meaning.specs.State.{positionKey};
 ghost use Rattle.meaning.specs.Reading.{read, Listed};
 ghost use Rattle.meaning.specs.Refusals.{Meets};
 ghost use Rattle.meaning.specs.Operations.{owesFromFree, insertOut};
-ghost use Rattle.meaning.specs.Walk as walk;
-ghost use Rattle.meaning.specs.Walk.{markAt};
+ghost use Rattle.meaning.specs.Words as words;
+ghost use Rattle.meaning.specs.Words.{markAt};
 ghost use Rattle.meaning.specs.Stores.{finishWords};
 ghost use Rattle.words.specs.Shaped.{Shaped};
 ghost use Rattle.finish.specs.Payable.{Payable};
@@ -72,7 +72,7 @@ fn write_links(part: &mut [u32], q: u32, c: u32)
 // Owed, low and high of cell n.
 fn write_debt(list: &mut [u32], s: Settings, n: u32, owed: u32, low: u32, high: u32)
     requires { ⌜ Shaped (now list) s × (n < s .cells) ⌝ }
-    ensures { λ r. ⌜ (now (list .exit) ≡ sets (now (list .entry)) (walk.place (s .dimensions) n 3) (owed ∷ low ∷ high ∷ [])) × Shaped (now (list .exit)) s ⌝ }
+    ensures { λ r. ⌜ (now (list .exit) ≡ sets (now (list .entry)) (words.place (s .dimensions) n 3) (owed ∷ low ∷ high ∷ [])) × Shaped (now (list .exit)) s ⌝ }
 {
     words::store(list, s, n, words::OWED, owed);
     words::store(list, s, n, words::LOW, low);
@@ -82,7 +82,7 @@ fn write_debt(list: &mut [u32], s: Settings, n: u32, owed: u32, low: u32, high: 
 // The words of new cell n before its coordinates: live, its debt if p is below q.
 fn write_entry(list: &mut [u32], s: Settings, n: u32, f: Found, key: u32, value: u32)
     requires { ⌜ Shaped (now list) s × (n < s .cells) ⌝ }
-    ensures { λ r. ⌜ (now (list .exit) ≡ sets (now (list .entry)) (walk.place (s .dimensions) n 0) (entryWords key value f)) × Shaped (now (list .exit)) s ⌝ }
+    ensures { λ r. ⌜ (now (list .exit) ≡ sets (now (list .entry)) (words.place (s .dimensions) n 0) (entryWords key value f)) × Shaped (now (list .exit)) s ⌝ }
 {
     words::store(list, s, n, words::KEY, key);
     words::store(list, s, n, words::VALUE, value);
@@ -97,7 +97,7 @@ fn write_entry(list: &mut [u32], s: Settings, n: u32, f: Found, key: u32, value:
 // The coordinates of cell n become the key's.
 fn put_coordinates(list: &mut [u32], s: Settings, n: u32, key: u32)
     requires { ⌜ Shaped (now list) s × ((n < s .cells) × (0 < s .base)) ⌝ }
-    ensures { λ r. ⌜ (now (list .exit) ≡ sets (now (list .entry)) (walk.place (s .dimensions) n 6) (coordinates (s .base) (s .dimensions) key)) × Shaped (now (list .exit)) s ⌝ }
+    ensures { λ r. ⌜ (now (list .exit) ≡ sets (now (list .entry)) (words.place (s .dimensions) n 6) (coordinates (s .base) (s .dimensions) key)) × Shaped (now (list .exit)) s ⌝ }
 {
     let start = words::place(s, n, words::COORDINATES);
     let end = start + s.dimensions as usize;
@@ -107,7 +107,7 @@ fn put_coordinates(list: &mut [u32], s: Settings, n: u32, key: u32)
 // The links of cell n become those of a new cell.
 fn put_links(list: &mut [u32], s: Settings, n: u32, q: u32, c: u32)
     requires { ⌜ Shaped (now list) s × ((n < s .cells) × ((c ≡ 0 → ⊥) → q < s .dimensions)) ⌝ }
-    ensures { λ r. ⌜ (now (list .exit) ≡ sets (now (list .entry)) (walk.place (s .dimensions) n (6 + s .dimensions)) (linkWords (s .dimensions) q c)) × Shaped (now (list .exit)) s ⌝ }
+    ensures { λ r. ⌜ (now (list .exit) ≡ sets (now (list .entry)) (words.place (s .dimensions) n (6 + s .dimensions)) (linkWords (s .dimensions) q c)) × Shaped (now (list .exit)) s ⌝ }
 {
     let start = words::place(s, n, words::COORDINATES + s.dimensions);
     let end = start + s.dimensions as usize;
@@ -117,7 +117,7 @@ fn put_links(list: &mut [u32], s: Settings, n: u32, q: u32, c: u32)
 // The words of new cell n: those of its entry, its key's coordinates, its links.
 fn write_cell(list: &mut [u32], s: Settings, n: u32, f: Found, key: u32, value: u32)
     requires { ⌜ Shaped (now list) s × ((n < s .cells) × ((0 < s .base) × ((f .c ≡ 0 → ⊥) → f .q < s .dimensions))) ⌝ }
-    ensures { λ r. ⌜ (now (list .exit) ≡ sets (now (list .entry)) (walk.place (s .dimensions) n 0) (cellFor (s .base) (s .dimensions) key value f)) × Shaped (now (list .exit)) s ⌝ }
+    ensures { λ r. ⌜ (now (list .exit) ≡ sets (now (list .entry)) (words.place (s .dimensions) n 0) (cellFor (s .base) (s .dimensions) key value f)) × Shaped (now (list .exit)) s ⌝ }
 {
     write_entry(list, s, n, f, key, value);
     put_coordinates(list, s, n, key);

@@ -11,7 +11,7 @@ use borrow.Author.Tests.{not-true, lt-ltb, le-ltb, eq-eqb, ne-eqb}
 use Rattle.settings.specs.Numbers.{cellWords, lengthOf, inRange}
 use Rattle.settings.specs.Base.{isBase}
 use Rattle.settings.specs.declared.Settings.{Settings}
-use Rattle.meaning.specs.Walk.{wordAt, keyAt, valueAt, markAt, owedAt, lowAt, highAt, coordinateAt}
+use Rattle.meaning.specs.Words.{wordAt, keyAt, valueAt, markAt, owedAt, lowAt, highAt, coordinateAt}
 use Rattle.meaning.specs.Reading.{settingsAt}
 use Rattle.meaning.proofs.Order.{both, and-both}
 use Rattle.words.specs.Shaped.{Shaped}

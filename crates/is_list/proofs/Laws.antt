@@ -1,24 +1,15 @@
 -- What the check's answer says of the words, for callers; and what a test says of several numbers, for the loops.
 use mathlib.Core.Path.{_≡_, refl, sym, _∙_}
-use mathlib.Core.Bool.{Bool, true, false, cond, _&&_, not, false≢true}
+use mathlib.Core.Bool.{Bool, true, false, cond, not, false≢true}
 use mathlib.Core.List.{List}
 use Prim.Native.Nat.{ℕ, suc, _+_, _-_, _≤_, _<_}
 use native.Mathlib.Nat.{sub-zero}
 use native.Mathlib.Numerals.{add-one}
 use native.Mathlib.Omega.{arith}
-use lib.Dec.{eqb}
-use lib.ListN.{length, getD}
-use borrow.Author.Tests.{eqb-true, not-true, not-false}
-use Rattle.settings.specs.Numbers.{inRange, lengthOf}
+use borrow.Author.Tests.{not-true, not-false}
 use Rattle.settings.specs.declared.Settings.{Settings}
-use Rattle.settings.proofs.Laws.{ranges}
-use Rattle.meaning.specs.Reading.{settingsAt, read, sized, same, isList, Listed}
-use Rattle.meaning.specs.Picture.{picture}
-use Rattle.meaning.specs.State.{valid}
-use Rattle.meaning.proofs.Order.{both}
-use Rattle.words.specs.Shaped.{Shaped}
+use Rattle.meaning.specs.Reading.{settingsAt, isList, Listed}
 use Rattle.tree.specs.Tree.{allFrom}
-use Rattle.is_list.specs.declared.Reading.{Reading}
 use Rattle.is_list.specs.declared.Reading.the-variants as variants
 use Rattle.is_list.specs.Reading.{readingOf}
 
@@ -39,30 +30,6 @@ reading-none ws e = at (isList ws) e
     at : (t : Bool) → cond t (variants.List (settingsAt ws)) variants.NotAList ≡ variants.NotAList → t ≡ false
     at true e = absurd (let z : _≡_ {A = ℕ} 0 1 = cc in omega arith)
     at false e = refl
-
-list-sized : (ws : List ℕ) → isList ws ≡ true → sized ws ≡ true
-unfolding isList
-list-sized ws e = at (sized ws) e
-  where
-    at : (t : Bool) → elim t [ true ↦ valid (read ws) && same (picture (read ws)) ws | false ↦ false ] ≡ true → t ≡ true
-    at true h = refl
-    at false h = h
-
-pub listed-shaped : {ws : List ℕ} {s : Settings} → Listed ws s → Shaped ws s
-unfolding sized
-listed-shaped {ws} {s} h =
-    let D = getD ws 0 0 in
-    let C = getD ws 2 0 in
-    let t = both (inRange D (getD ws 1 0) C) (eqb (length ws) (lengthOf D C)) (list-sized ws (h .list)) in
-    let r = ranges D (getD ws 1 0) C (t .0) in
-    rw (← h .settings)
-    (record {
-      header = refl;
-      long = eqb-true (length ws) (lengthOf D C) (t .1);
-      dimensions-least = r .least-dimensions;
-      dimensions-most = r .most-dimensions;
-      cells-most = r .most-cells;
-    })
 
 -- Tests
 

@@ -13,7 +13,7 @@ use borrow.Author.Tests.{ltb-true, eqb-true, eqb-false, lt-ltb, le-ltb, le-leb, 
 use borrow.Rule.Slice.PartMut.{midOf}
 use Rattle.settings.specs.Numbers.{fieldsBeforeCoordinates}
 use Rattle.settings.specs.declared.Settings.{Settings}
-use Rattle.meaning.specs.Walk.{place, keyAt, valueAt, markAt, owedAt, lowAt, highAt, coordinateAt, linkAt}
+use Rattle.meaning.specs.Words.{place, keyAt, valueAt, markAt, owedAt, lowAt, highAt, coordinateAt, linkAt}
 use Rattle.meaning.proofs.Order.{both}
 use Rattle.words.specs.Shaped.{Shaped}
 use Rattle.words.proofs.Laws.{shaped-dimensions, shaped-base, part-coordinates}

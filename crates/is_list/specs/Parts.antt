@@ -7,7 +7,7 @@ use lib.Dec.{eqb, ltb}
 use lib.ListN.{getD}
 use Rattle.settings.specs.declared.Settings.{Settings}
 use Rattle.meaning.specs.Reading.{settingsAt}
-use Rattle.meaning.specs.Walk.{owedAt, coordinateAt, linkAt}
+use Rattle.meaning.specs.Words.{owedAt, coordinateAt, linkAt}
 use Rattle.tree.specs.declared.Seen.{Seen}
 use Rattle.tree.specs.Tree.{allFrom, dueTo, follows, writesKey, entryRight, linksBelow, debtRight, entered, children, headerRight}
 use Rattle.is_list.specs.declared.Reading.{Reading}

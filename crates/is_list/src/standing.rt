@@ -1,7 +1,7 @@
 // The standing cells, read in ascending order of keys: each child's own children in turn, with the path's words beside the way down.
 ghost use mathlib.Core.Path.{_≡_};
 ghost use Prim.Native.Nat.{_-_, _≤_, _<_};
-ghost use Rattle.meaning.specs.Walk.{owedAt};
+ghost use Rattle.meaning.specs.Words.{owedAt};
 ghost use Rattle.words.specs.Shaped.{Shaped};
 ghost use Rattle.tree.specs.Tree.{pathRun, agreedAt, positionWord};
 ghost use Rattle.tree.specs.Tree as tree;

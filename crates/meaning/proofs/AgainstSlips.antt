@@ -12,7 +12,8 @@ use Rattle.meaning.specs.Row.{Entry, entryAt}
 use Rattle.meaning.specs.State.{State, positionKey}
 use Rattle.meaning.specs.Picture.{picture}
 use Rattle.meaning.specs.Refusals.{accepted, keyLive, refused}
-use Rattle.meaning.specs.Walk.{owedAt, lowAt, highAt, linkAt, linkRead}
+use Rattle.meaning.specs.Words.{owedAt, lowAt, highAt, linkAt}
+use Rattle.meaning.specs.Walk.{linkRead}
 use Rattle.meaning.specs.Operations.{looked, parentIn, positionAfter, revived, insertAt}
 
 -- "Taking a key for present when only some leading coordinates agree": the entry found for a key has that same key.

@@ -11,7 +11,7 @@ use lib.ListN.{length, getD, getD-replicate}
 use Rattle.meaning.specs.Row.{Entry, Place, places, placeOf, entryAt}
 use Rattle.meaning.specs.State.{State}
 use Rattle.meaning.specs.Picture.{mark, standingWords, freeWords, wordsOf, picture}
-use Rattle.meaning.specs.Walk.{keyAt, markAt}
+use Rattle.meaning.specs.Words.{keyAt, markAt}
 use Rattle.meaning.specs.Operations.{insertOut, findOut}
 use Rattle.meaning.specs.Calls.{outcome}
 use Rattle.meaning.specs.Sentences.{largestAt}

@@ -16,7 +16,7 @@ use Rattle.meaning.specs.Row.{headEntry, Place, places, link, placeOf}
 use Rattle.meaning.specs.State.{State, occurrences}
 use Rattle.meaning.specs.Picture.{numbersFrom, firstNumber, nextFree, standingWords, freeWords, wordsOf, firstWith, pathWord, picture}
 use Rattle.meaning.specs.Reading.{isList}
-use Rattle.meaning.specs.Walk.{wordAt, keyAt}
+use Rattle.meaning.specs.Words.{wordAt, keyAt}
 use Rattle.meaning.specs.Sentences.{dimensionsAt, countAt, baseAt, sharedAt, Free, Standing, Chained, ended, onward, positionAt, AList}
 use Rattle.meaning.proofs.Order.{All}
 use Rattle.meaning.proofs.Keys.{shared-sym, coordinates-length}

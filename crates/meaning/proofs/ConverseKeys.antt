@@ -8,7 +8,7 @@ use native.Mathlib.Decide.{ℕ-discrete, decLt}
 use native.Mathlib.Omega.{arith}
 use Rattle.settings.proofs.Laws.{base-at-least-two}
 use Rattle.meaning.specs.Keys.{coordinate, shared}
-use Rattle.meaning.specs.Walk.{keyAt, markAt}
+use Rattle.meaning.specs.Words.{keyAt, markAt}
 use Rattle.meaning.specs.Sentences.{dimensionsAt, countAt, baseAt, sharedAt, Free, Standing, NextSmaller, NextLarger, Dimension, of-head, of-other, LargerAt, Settled, leads, leads-nowhere, below-dimension, AList}
 use Rattle.meaning.proofs.Keys.{shared-sym, shared-agreed, coordinate-less, coordinate-rises}
 

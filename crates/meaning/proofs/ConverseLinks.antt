@@ -9,7 +9,7 @@ use lib.Dec.{leb, ltb}
 use borrow.Author.Tests.{leb-true, leb-false, ltb-true, le-leb, lt-ltb}
 use Rattle.meaning.specs.Keys.{shared}
 use Rattle.meaning.specs.Row.{Entry, firstOf, firstSharing, Place, settledLink, owed, low, high, between, link}
-use Rattle.meaning.specs.Walk.{keyAt, owedAt, lowAt, highAt, linkAt}
+use Rattle.meaning.specs.Words.{keyAt, owedAt, lowAt, highAt, linkAt}
 use Rattle.meaning.specs.Sentences.{dimensionsAt, baseAt, NextLarger, LargerAt, Settled, leads, leads-nowhere, below-dimension, Owing, AList}
 use Rattle.meaning.proofs.Order.{All, both, and-both, asc-above}
 use Rattle.meaning.proofs.Cells.{all-zip}

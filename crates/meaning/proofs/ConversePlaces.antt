@@ -9,7 +9,7 @@ use native.Mathlib.Omega.{arith}
 use Rattle.meaning.specs.Keys.{shared}
 use Rattle.meaning.specs.Row.{Entry, headEntry, Place, placesAfter, places}
 use Rattle.meaning.specs.State.{occurrences}
-use Rattle.meaning.specs.Walk.{keyAt}
+use Rattle.meaning.specs.Words.{keyAt}
 use Rattle.meaning.specs.Sentences.{dimensionsAt, countAt, baseAt, sharedAt, Standing, NextSmaller, NextLarger, Dimension, of-head, of-other, AList}
 use Rattle.meaning.proofs.Order.{All, Asc, all-map, asc-above}
 use Rattle.meaning.proofs.Cells.{all-zip, occurrences-past}

@@ -12,7 +12,7 @@ use borrow.Author.Tests.{eqb-true, eqb-false, eq-eqb, ne-eqb, leb-true, leb-fals
 use Rattle.meaning.specs.Row.{Entry, headEntry, put}
 use Rattle.meaning.specs.State.{keyOf, occurrences}
 use Rattle.meaning.specs.Picture.{mark}
-use Rattle.meaning.specs.Walk.{keyAt, valueAt, markAt, owedAt}
+use Rattle.meaning.specs.Words.{keyAt, valueAt, markAt, owedAt}
 use Rattle.meaning.specs.Sentences.{countAt, Free, Standing, AList}
 use Rattle.meaning.proofs.Order.{All, Asc, all-map}
 use Rattle.meaning.proofs.Cells.{occurrences-here, occurrences-past}

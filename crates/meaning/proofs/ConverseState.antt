@@ -14,7 +14,7 @@ use Rattle.meaning.specs.Row.{Entry, headEntry, firstOf, Place, places}
 use Rattle.meaning.specs.State.{State, occurrences, positionKey}
 use Rattle.meaning.specs.Picture.{mark}
 use Rattle.meaning.specs.Reading.{settingsAt}
-use Rattle.meaning.specs.Walk.{keyAt, owedAt, lowAt, highAt}
+use Rattle.meaning.specs.Words.{keyAt, owedAt, lowAt, highAt}
 use Rattle.meaning.specs.Sentences.{dimensionsAt, largestAt, countAt, baseAt, sharedAt, Free, Standing, NextLarger, positionAt, AList}
 use Rattle.meaning.proofs.Order.{All, all-map, all-append}
 use Rattle.meaning.proofs.State.{cellsIn, Debt, Sound}

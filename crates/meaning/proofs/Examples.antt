@@ -10,7 +10,8 @@ use Rattle.settings.specs.Numbers.{lengthOf}
 use Rattle.meaning.specs.Row.{entryAt}
 use Rattle.meaning.specs.State.{positionKey}
 use Rattle.meaning.specs.Reading.{read, isList}
-use Rattle.meaning.specs.Walk.{keyAt, owedAt, walk}
+use Rattle.meaning.specs.Words.{keyAt, owedAt}
+use Rattle.meaning.specs.Walk.{walk}
 use Rattle.meaning.specs.Calls.{Call, set-up, insert-key, find-key, finish-key, take-least, sweep-dead, outcome, afterCalls}
 use Rattle.meaning.specs.Promises.{FromFresh, Live}
 use Rattle.meaning.proofs.Computing.{computing}

@@ -2,7 +2,7 @@
 -- cleared. Only two cells' words depend on that debt: those of n and those of the standing cell after it.
 use mathlib.Core.Path.{_≡_, refl, sym, ap, ap₂, _∙_, subst}
 use mathlib.Core.Bool.{Bool, true, false, cond, _&&_}
-use mathlib.Core.List.{List, _∷_, map}
+use mathlib.Core.List.{_∷_, map}
 use mathlib.Core.Option.{Option, none, some}
 use Prim.Native.Nat.{ℕ, zero, suc, _+_, _-_, _≤_, _<_}
 use native.Mathlib.Nat.{pos-of-ne-zero}
@@ -18,7 +18,7 @@ use Rattle.meaning.specs.State.{State, occurrences}
 use Rattle.meaning.specs.Picture.{picture}
 use Rattle.meaning.specs.Operations.{paid, finished, withRow, placesOf, due}
 use Rattle.meaning.specs.Leaves.{Finished, OwesNothing, OwesSame}
-use Rattle.meaning.specs.Walk.{wordAt, owedAt, lowAt, highAt}
+use Rattle.meaning.specs.Words.{wordAt, owedAt, lowAt, highAt}
 use Rattle.meaning.specs.Stores.{linkField, finishWords}
 use Rattle.meaning.proofs.Order.{Asc}
 use Rattle.meaning.proofs.Keys.{shared-le}

@@ -18,7 +18,7 @@ use Rattle.meaning.specs.Keys.{coordinates, coordinate, shared}
 use Rattle.meaning.specs.Row.{Entry, headEntry, firstOf, Place, places, owed, low, high, link, placeOf}
 use Rattle.meaning.specs.State.{State}
 use Rattle.meaning.specs.Picture.{numbersFrom, firstNumber, mark, standingWords, nextFree, freeWords, wordsOf, pathWord, path, picture}
-use Rattle.meaning.specs.Walk.{place, wordAt, coordinateAt, linkAt}
+use Rattle.meaning.specs.Words.{place, wordAt, coordinateAt, linkAt}
 use Rattle.meaning.specs.Operations.{Slot, newEntry, slotOwes}
 use Rattle.meaning.specs.Stores.{store, linkField, writePath, newWords}
 use Rattle.meaning.proofs.Order.{All, both, all-left}

@@ -15,7 +15,7 @@ use Rattle.meaning.specs.Keys.{shared}
 use Rattle.meaning.specs.Row.{Entry, headEntry, firstOf, Place, headPlace, places, placeOf}
 use Rattle.meaning.specs.State.{State, occurrences}
 use Rattle.meaning.specs.Picture.{firstNumber, nextFree, picture}
-use Rattle.meaning.specs.Walk.{wordAt}
+use Rattle.meaning.specs.Words.{wordAt}
 use Rattle.meaning.specs.Operations.{withRow, Slot, newEntry, slotOwes}
 use Rattle.meaning.proofs.Order.{All, Asc, all-left, all-right, all-append}
 use Rattle.meaning.proofs.Keys.{shared-less}

@@ -3,7 +3,7 @@
 -- comes into the row of the state with both debts paid, where it changes only those words.
 use mathlib.Core.Path.{_≡_, refl, sym, _∙_, ap, subst}
 use mathlib.Core.Bool.{Bool, true, false, cond, _&&_, not}
-use mathlib.Core.List.{List, _∷_, map}
+use mathlib.Core.List.{_∷_, map}
 use mathlib.Core.Option.{none}
 use Prim.Native.Nat.{ℕ, zero, suc, _≤_, _<_}
 use native.Mathlib.Decide.{ℕ-discrete, decLt}
@@ -12,13 +12,12 @@ use lib.Dec.{eqb, ltb}
 use lib.ListN.{length, getD, drop}
 use borrow.Author.Tests.{eq-eqb, ne-eqb, lt-ltb, le-ltb, le-leb, lt-leb}
 use Rattle.settings.specs.Numbers.{fieldsBeforeCoordinates, cellWords}
-use Rattle.meaning.specs.Keys.{coordinate}
 use Rattle.meaning.specs.Row.{Entry, Place, entryAt}
 use Rattle.meaning.specs.State.{State, occurrences, positionKey}
 use Rattle.meaning.specs.Picture.{path, picture}
 use Rattle.meaning.specs.Operations.{paid, finished, withRow, Slot, newEntry, slotFor, slotOwes, added}
 use Rattle.meaning.specs.Leaves.{Unmoved, OwesNothing, OwesSame, Inserted}
-use Rattle.meaning.specs.Walk.{wordAt, keyAt, valueAt, markAt, owedAt, lowAt, highAt, coordinateAt, linkAt}
+use Rattle.meaning.specs.Words.{wordAt, owedAt, lowAt, highAt, linkAt}
 use Rattle.meaning.specs.Stores.{linkField, finishWords, writePath, newWords, insertWords}
 use Rattle.meaning.proofs.Order.{All, and-both, all-map}
 use Rattle.meaning.proofs.State.{Sound}

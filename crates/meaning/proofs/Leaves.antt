@@ -11,7 +11,7 @@ use Rattle.meaning.specs.Row.{Entry, entryAt, placeOf}
 use Rattle.meaning.specs.State.{State, occurrences}
 use Rattle.meaning.specs.Picture.{picture, path}
 use Rattle.meaning.specs.Refusals.{Outcome, refused, badKey, keyLive, noFreeCell, nothingLive, keyNotStanding}
-use Rattle.meaning.specs.Walk.{keyAt}
+use Rattle.meaning.specs.Words.{keyAt}
 use Rattle.meaning.specs.Operations.{looked, insertOut, finishOut, takeOut, sweepOut, deadFront, fromLive, taken, revived, slotFor, finished, withRow, due, placesOf, keysAbove}
 use Rattle.meaning.specs.Calls.{outcome}
 use Rattle.meaning.specs.Leaves.{OwesNothing, Inserted, Marked}

@@ -17,6 +17,7 @@ pub mod RowWalk
 pub mod WalkRead
 pub mod Walk
 pub mod WalkStop
+pub mod WalkSteps
 pub mod Keeps
 pub mod KeepsSetUp
 pub mod KeepsFinish

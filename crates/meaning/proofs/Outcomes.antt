@@ -21,7 +21,7 @@ use Rattle.meaning.specs.State.{State, positionKey}
 use Rattle.meaning.specs.Picture.{mark, standingWords, freeWords, wordsOf, picture}
 use Rattle.meaning.specs.Reading.{read, isList}
 use Rattle.meaning.specs.Refusals.{Outcome, accepted, Refusal, outOfRange, wrongLength, notAList, badKey, keyLive, noFreeCell, nothingLive, keyNotLive, keyNotStanding, owedNotStanding, refused}
-use Rattle.meaning.specs.Walk.{markAt, owedAt}
+use Rattle.meaning.specs.Words.{markAt, owedAt}
 use Rattle.meaning.specs.Operations.{onList, onKey, owesFromFree, placesOf, looked, fresh, setUpOut, finished, withRow, due, finishAt, finishOut, findAt, findOut, revived, slotFor, added, insertNew, insertAt, insertOut, fromLive, keysAbove, keysPassed, taken, takeFrom, takeOut, freedBy, swept, someOwesFromFree, sweepOn, sweepOut}
 use Rattle.meaning.specs.Calls.{set-up, insert-key, find-key, finish-key, take-least, sweep-dead, outcome}
 use Rattle.meaning.specs.Promises.{RefusedAltersNothing}

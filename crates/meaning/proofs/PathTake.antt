@@ -14,7 +14,7 @@ use Rattle.meaning.specs.Keys.{shared}
 use Rattle.meaning.specs.Row.{Entry, headEntry, those}
 use Rattle.meaning.specs.State.{State, positionKey}
 use Rattle.meaning.specs.Picture.{numbersFrom, mark, firstWith, picture, path}
-use Rattle.meaning.specs.Walk.{markAt}
+use Rattle.meaning.specs.Words.{markAt}
 use Rattle.meaning.specs.Operations.{deadFront, fromLive, deadEntry, keysAbove, keysPassed, taken}
 use Rattle.meaning.specs.Paths.{pathFor, onward, nextFrom, Ahead, aheadFrom}
 use Rattle.meaning.proofs.Order.{All, and-both, Asc, all-map, all-append, all-left, asc-above}

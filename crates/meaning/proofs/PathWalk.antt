@@ -16,7 +16,8 @@ use Rattle.meaning.specs.Keys.{shared}
 use Rattle.meaning.specs.Row.{Entry, headEntry, Place, placesAfter, headPlace, places, entryAt}
 use Rattle.meaning.specs.State.{State}
 use Rattle.meaning.specs.Picture.{firstWith, picture}
-use Rattle.meaning.specs.Walk.{keyAt, along, stepAt, endsAfter, ends, restAfter, restFrom, rest}
+use Rattle.meaning.specs.Words.{keyAt}
+use Rattle.meaning.specs.Walk.{along, stepAt, endsAfter, ends, restAfter, restFrom, rest}
 use Rattle.meaning.specs.Paths.{pathFor, onward, pathAfter, pathAlong}
 use Rattle.meaning.specs.declared.Step.{Step}
 use Rattle.meaning.specs.declared.Step.the-variants.{Go, Up, End}
@@ -35,7 +36,7 @@ use Rattle.meaning.proofs.Path.{path-same, path-next-own, path-head, pa
 use Rattle.meaning.proofs.PathNext.{last-snoc}
 
 -- a walk that has come to its end builds no more of a path in more steps
-pub ends-path : (fuel more : ℕ) (ws : List ℕ) (k : ℕ) (path : List ℕ) (x d : ℕ) → ends fuel ws k x d ≡ true → fuel ≤ more → pathAlong more ws k path x d ≡ pathAlong fuel ws k path x d
+ends-path : (fuel more : ℕ) (ws : List ℕ) (k : ℕ) (path : List ℕ) (x d : ℕ) → ends fuel ws k x d ≡ true → fuel ≤ more → pathAlong more ws k path x d ≡ pathAlong fuel ws k path x d
 unfolding ends pathAlong
 ends-path zero more ws k path x d e h = absurd (let z : _≡_ {A = ℕ} 0 1 = cc in omega arith)
 ends-path (suc fuel) zero ws k path x d e h = absurd (omega arith)
@@ -90,17 +91,40 @@ module _ (b D : ℕ) (pos : 0 < b) (all : List Entry) (asc : Asc 0 all) where
 -- Steps
 
 module _ (ws : List ℕ) (D : ℕ) (is-D : getD ws 0 0 ≡ D) (k fuel : ℕ) (path : List ℕ) (x d : ℕ) where
-  pub along-end : stepAt ws k x d ≡ End → pathAlong (suc fuel) ws k path x d ≡ path
+  along-end : stepAt ws k x d ≡ End → pathAlong (suc fuel) ws k path x d ≡ path
   unfolding pathAlong
   along-end e = ap (pathAfter (pathAlong fuel ws k) (getD ws 0 0) path x d) e
 
-  pub along-up : stepAt ws k x d ≡ Up → pathAlong (suc fuel) ws k path x d ≡ pathAlong fuel ws k path x (suc d)
+  along-up : stepAt ws k x d ≡ Up → pathAlong (suc fuel) ws k path x d ≡ pathAlong fuel ws k path x (suc d)
   unfolding pathAlong
   along-up e = ap (pathAfter (pathAlong fuel ws k) (getD ws 0 0) path x d) e
 
-  pub along-to : (y : ℕ) → stepAt ws k x d ≡ Go y → pathAlong (suc fuel) ws k path x d ≡ pathAlong fuel ws k (onward D path d y) y d
+  along-to : (y : ℕ) → stepAt ws k x d ≡ Go y → pathAlong (suc fuel) ws k path x d ≡ pathAlong fuel ws k (onward D path d y) y d
   unfolding pathAlong
   along-to y e = ap (pathAfter (pathAlong fuel ws k) (getD ws 0 0) path x d) e ∙ ap (λ n. pathAlong fuel ws k (onward n path d y) y d) is-D
+
+-- a step of a walk that ends keeps the path that it builds
+
+module _ (ws : List ℕ) (D : ℕ) (is-D : getD ws 0 0 ≡ D) (k : ℕ) (path : List ℕ) (x d : ℕ) where
+  pub built-go :
+      (fuel y : ℕ) → ends fuel ws k x d ≡ true → stepAt ws k x d ≡ Go y → pathAlong fuel ws k path x d ≡ pathAlong fuel ws k (onward D path d y) y d
+  unfolding ends
+  built-go zero y e t = absurd (let z : _≡_ {A = ℕ} 0 1 = cc in omega arith)
+  built-go (suc fuel) y e t =
+      let f : ends fuel ws k y d ≡ true = sym (ap (endsAfter (ends fuel ws k) x d) t) ∙ e in
+      along-to ws D is-D k fuel path x d y t ∙ sym (ends-path fuel (suc fuel) ws k (onward D path d y) y d f (omega arith))
+
+  pub built-up : (fuel : ℕ) → ends fuel ws k x d ≡ true → stepAt ws k x d ≡ Up → pathAlong fuel ws k path x d ≡ pathAlong fuel ws k path x (suc d)
+  unfolding ends
+  built-up zero e t = absurd (let z : _≡_ {A = ℕ} 0 1 = cc in omega arith)
+  built-up (suc fuel) e t =
+      let f : ends fuel ws k x (suc d) ≡ true = sym (ap (endsAfter (ends fuel ws k) x d) t) ∙ e in
+      along-up ws D is-D k fuel path x d t ∙ sym (ends-path fuel (suc fuel) ws k path x (suc d) f (omega arith))
+
+  pub built-end : (fuel : ℕ) → ends fuel ws k x d ≡ true → stepAt ws k x d ≡ End → pathAlong fuel ws k path x d ≡ path
+  unfolding ends
+  built-end zero e t = absurd (let z : _≡_ {A = ℕ} 0 1 = cc in omega arith)
+  built-end (suc fuel) e t = along-end ws D is-D k fuel path x d t
 
 rest-step : (ws : List ℕ) (k fuel from number x d n : ℕ) (t : Step) → stepAt ws k x d ≡ t → restFrom (suc fuel) ws k from number x d n ≡ restAfter (restFrom fuel ws k) from number x d n t
 unfolding restFrom

@@ -12,7 +12,8 @@ use Rattle.meaning.specs.Keys.{shared}
 use Rattle.meaning.specs.Row.{Entry, firstOf, firstSharing, Place, placeOf, settledLink, low, high, between, link, owed}
 use Rattle.meaning.specs.State.{State}
 use Rattle.meaning.specs.Picture.{picture}
-use Rattle.meaning.specs.Walk.{wordAt, owedAt, lowAt, highAt, linkAt, linkRead}
+use Rattle.meaning.specs.Words.{wordAt, owedAt, lowAt, highAt, linkAt}
+use Rattle.meaning.specs.Walk.{linkRead}
 use Rattle.meaning.proofs.Order.{All, all-map}
 use Rattle.meaning.proofs.State.{Sound}
 use Rattle.meaning.proofs.WalkRead.{dimensions-read}

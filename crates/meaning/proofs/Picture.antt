@@ -16,7 +16,7 @@ use Rattle.meaning.specs.Keys.{coordinates, shared}
 use Rattle.meaning.specs.Row.{Entry, headEntry, firstOf, Place, placesAfter, places, placeOf, link}
 use Rattle.meaning.specs.State.{State}
 use Rattle.meaning.specs.Picture.{numbersFrom, firstNumber, standingWords, freeWords, wordsOf, pathWord, path, cells, picture}
-use Rattle.meaning.specs.Walk.{wordAt}
+use Rattle.meaning.specs.Words.{wordAt}
 use Rattle.meaning.proofs.Order.{All, all-map}
 use Rattle.meaning.proofs.Keys.{coordinates-length}
 use Rattle.meaning.proofs.State.{Sound}

@@ -16,7 +16,8 @@ use Rattle.meaning.specs.Refusals.{Outcome, badKey, refused}
 use Rattle.meaning.specs.Operations.{looked, insertOut, findOut}
 use Rattle.meaning.specs.Calls.{outcome}
 use Rattle.meaning.specs.Rule.{rule}
-use Rattle.meaning.specs.Walk.{keyAt, walk, walkFrom, ends}
+use Rattle.meaning.specs.Words.{keyAt}
+use Rattle.meaning.specs.Walk.{walk, walkFrom, ends}
 use Rattle.meaning.specs.Sentences.{dimensionsAt, largestAt, baseAt}
 use Rattle.meaning.specs.Book.{standingKeys}
 use Rattle.meaning.specs.Promises.{ListsStayLists, CallsKeepLists, RefusedAltersNothing, Looks, answersLooked, LookedIsWalk, PresentMeansThatKey, TakesInTurn, TakesEnd, CallsAreBooked, FindWritesNothing, TakeWrites, ReviveWrites, InsertWrites, FinishWrites, SweepWrites, EachCellOnce, SweptCellsFirst, InsertUsesFirst, SharedMeansLeading, ListMeansSentences, WalkIsRule, WalkBounded, WalkEnds, WalkByKeysAlone, OrderIsLexicographic, OneOutcome}

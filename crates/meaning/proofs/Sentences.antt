@@ -15,7 +15,8 @@ use Rattle.meaning.specs.Row.{headEntry, firstOf, firstSharing, Place, h
 use Rattle.meaning.specs.State.{State, positionKey}
 use Rattle.meaning.specs.Picture.{firstNumber, mark, pathWord, picture}
 use Rattle.meaning.specs.Reading.{read, isList}
-use Rattle.meaning.specs.Walk.{keyAt, valueAt, markAt, owedAt, lowAt, highAt, linkAt, linkRead}
+use Rattle.meaning.specs.Words.{keyAt, valueAt, markAt, owedAt, lowAt, highAt, linkAt}
+use Rattle.meaning.specs.Walk.{linkRead}
 use Rattle.meaning.specs.Sentences.{Standing, sharedAt, positionAt, NextLarger, Dimension, Settled, Chained, FreeChain, Owing, MayOwe, Sharing, OnPath, AList}
 use Rattle.meaning.specs.Sentences.Chained.{ended, onward}
 use Rattle.meaning.proofs.Order.{All, both, and-both, all-map}

@@ -14,7 +14,7 @@ use Rattle.meaning.specs.Keys.{coordinate, shared}
 use Rattle.meaning.specs.Row.{Entry, headEntry, Place, headPlace, placesAfter, places, owed, low, high, link, placeOf}
 use Rattle.meaning.specs.State.{State, keyOf, occurrences}
 use Rattle.meaning.specs.Picture.{mark, standingWords, nextFree, freeWords, wordsOf, picture}
-use Rattle.meaning.specs.Walk.{wordAt, keyAt, valueAt, markAt, owedAt, lowAt, highAt, coordinateAt, linkAt}
+use Rattle.meaning.specs.Words.{wordAt, keyAt, valueAt, markAt, owedAt, lowAt, highAt, coordinateAt, linkAt}
 use Rattle.meaning.specs.Sentences.{Free, Standing}
 use Rattle.meaning.proofs.Order.{All, all-map, all-right}
 use Rattle.meaning.proofs.State.{Sound, cellsIn}

@@ -12,7 +12,7 @@ use Rattle.meaning.specs.Keys.{coordinate, coordinates, shared}
 use Rattle.meaning.specs.Row.{Entry, headEntry, firstOf, Place, placesAfter, places, settledLink}
 use Rattle.meaning.specs.State.{State}
 use Rattle.meaning.specs.Picture.{picture}
-use Rattle.meaning.specs.Walk.{keyAt}
+use Rattle.meaning.specs.Words.{keyAt}
 use Rattle.meaning.specs.Sentences.{agreed, sharedAt, digitAt, NextSmaller, NextLarger, Dimension, Settled}
 use Rattle.meaning.specs.Sentences.Dimension.{of-head, of-other}
 use Rattle.meaning.specs.Sentences.Settled.{leads, leads-nowhere, below-dimension}

@@ -16,7 +16,7 @@ use Rattle.settings.specs.Numbers.{headerWords, fieldsBeforeCoordinates, cellWo
 use Rattle.meaning.specs.State.{State}
 use Rattle.meaning.specs.Picture.{picture}
 use Rattle.meaning.specs.Leaves.{Finished}
-use Rattle.meaning.specs.Walk.{place, wordAt, owedAt, lowAt, highAt, linkAt}
+use Rattle.meaning.specs.Words.{place, wordAt, owedAt, lowAt, highAt, linkAt}
 use Rattle.meaning.specs.Stores.{store, linkField, moveLinks, clearDebt, finishWords, writePath}
 use Rattle.meaning.proofs.Picture.{picture-length}
 

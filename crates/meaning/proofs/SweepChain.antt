@@ -13,7 +13,8 @@ use Rattle.settings.specs.Numbers.{headerWords, cellWords}
 use Rattle.meaning.specs.Row.{between}
 use Rattle.meaning.specs.State.{State}
 use Rattle.meaning.specs.Picture.{firstNumber, freeWords, picture}
-use Rattle.meaning.specs.Walk.{place, wordAt, owedAt, lowAt, highAt, linkAt, linkRead}
+use Rattle.meaning.specs.Words.{place, wordAt, owedAt, lowAt, highAt, linkAt}
+use Rattle.meaning.specs.Walk.{linkRead}
 use Rattle.meaning.specs.Operations.{deadFront, lastOf, freedBy, swept}
 use Rattle.meaning.specs.Paths.{onward, nextFrom}
 use Rattle.meaning.specs.Stores.{store, linkField, writePath}

@@ -11,7 +11,7 @@ use Rattle.meaning.specs.Keys.{shared}
 use Rattle.meaning.specs.Row.{Entry, Place, firstOf, placeOf, those}
 use Rattle.meaning.specs.State.{State, occurrences}
 use Rattle.meaning.specs.Picture.{mark, firstNumber, picture}
-use Rattle.meaning.specs.Walk.{keyAt, valueAt, markAt}
+use Rattle.meaning.specs.Words.{keyAt, valueAt, markAt}
 use Rattle.meaning.specs.Operations.{paid, deadFront, lastAlone, freedBy, swept}
 use Rattle.meaning.specs.Sentences.{Free}
 use Rattle.meaning.specs.Leaves.{OwesNothing}

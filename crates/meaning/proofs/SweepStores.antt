@@ -12,7 +12,7 @@ use lib.Seq.{sets, getD-set-other}
 use borrow.Author.Tests.{eq-eqb, ne-eqb}
 use Rattle.settings.specs.Numbers.{headerWords, cellWords}
 use Rattle.meaning.specs.Picture.{firstNumber, nextFree, freeWords}
-use Rattle.meaning.specs.Walk.{place}
+use Rattle.meaning.specs.Words.{place}
 use Rattle.meaning.specs.Paths.{onward}
 use Rattle.meaning.specs.Stores.{store, linkField}
 use Rattle.meaning.specs.SweepStores.{takeLinks, relinkHead, freeCell, freeAll, dropFront}

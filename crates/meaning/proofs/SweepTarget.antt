@@ -14,7 +14,7 @@ use Rattle.meaning.specs.Keys.{shared}
 use Rattle.meaning.specs.Row.{Entry, headEntry}
 use Rattle.meaning.specs.State.{State}
 use Rattle.meaning.specs.Picture.{mark, picture}
-use Rattle.meaning.specs.Walk.{keyAt, markAt}
+use Rattle.meaning.specs.Words.{keyAt, markAt}
 use Rattle.meaning.specs.Operations.{paid, withRow, deadFront, fromLive, lastOf, freedBy, swept}
 use Rattle.meaning.specs.Paths.{pathFor, onward, nextFrom}
 use Rattle.meaning.specs.SweepStores.{finishAll, dropFront, Target, headTarget, targetFrom, cellsBefore, sweepWords}

@@ -12,7 +12,7 @@ use Rattle.settings.specs.Numbers.{headerWords, cellWords}
 use Rattle.meaning.specs.Row.{Entry, Place, placeOf, entryAt}
 use Rattle.meaning.specs.State.{State, positionKey}
 use Rattle.meaning.specs.Picture.{mark, path, picture}
-use Rattle.meaning.specs.Walk.{place}
+use Rattle.meaning.specs.Words.{place}
 use Rattle.meaning.specs.Operations.{positionAfter, revivedEntry, revived, deadFront, fromLive, deadEntry, taken}
 use Rattle.meaning.specs.Stores.{writePath, writeEntry}
 use Rattle.meaning.proofs.State.{Sound}

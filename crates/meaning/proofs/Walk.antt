@@ -18,7 +18,8 @@ use Rattle.meaning.specs.State.{State, occurrences}
 use Rattle.meaning.specs.Picture.{picture}
 use Rattle.meaning.specs.Operations.{looked}
 use Rattle.meaning.specs.Rule.{rule}
-use Rattle.meaning.specs.Walk.{keyAt, coordinateAt, linkRead, along, stepAt, after, walkFrom, walk, endsAfter, ends}
+use Rattle.meaning.specs.Words.{keyAt, coordinateAt}
+use Rattle.meaning.specs.Walk.{linkRead, along, stepAt, after, walkFrom, walk, endsAfter, ends}
 use Rattle.meaning.specs.declared.Step.{Step}
 use Rattle.meaning.specs.declared.Step.the-variants.{Go, Up, End}
 use Rattle.meaning.proofs.Order.{All, Asc, all-map}

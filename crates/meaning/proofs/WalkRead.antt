@@ -16,7 +16,8 @@ use Rattle.meaning.specs.Keys.{coordinates, coordinate, shared}
 use Rattle.meaning.specs.Row.{Entry, headEntry, firstOf, firstSharing, Place, headPlace, placesAfter, places, settledLink, owed, low, high, between, link, placeOf}
 use Rattle.meaning.specs.State.{State}
 use Rattle.meaning.specs.Picture.{numbersFrom, standingWords, wordsOf, picture}
-use Rattle.meaning.specs.Walk.{wordAt, keyAt, owedAt, lowAt, highAt, coordinateAt, linkAt, linkRead}
+use Rattle.meaning.specs.Words.{wordAt, keyAt, owedAt, lowAt, highAt, coordinateAt, linkAt}
+use Rattle.meaning.specs.Walk.{linkRead}
 use Rattle.meaning.proofs.Order.{All, all-map, all-left}
 use Rattle.meaning.proofs.Keys.{coordinates-length}
 use Rattle.meaning.proofs.State.{Debt, Sound}

@@ -59,6 +59,33 @@ ends-rest (suc fuel) (suc more) ws k from number x d n e h = go (stepAt ws k x d
     go Up f onward = onward from number x (suc d) n f
     go End f onward = refl
 
+-- a step of a walk that ends keeps where it comes to rest
+
+pub rested-go :
+    (fuel : ℕ) (ws : List ℕ) (k from number x d n y : ℕ) → ends fuel ws k x d ≡ true → stepAt ws k x d ≡ Go y →
+    restFrom fuel ws k from number x d n ≡ restFrom fuel ws k x d y d (suc n)
+unfolding ends restFrom
+rested-go zero ws k from number x d n y e t = absurd (let z : _≡_ {A = ℕ} 0 1 = cc in omega arith)
+rested-go (suc fuel) ws k from number x d n y e t =
+    let f : ends fuel ws k y d ≡ true = sym (ap (endsAfter (ends fuel ws k) x d) t) ∙ e in
+    ap (restAfter (restFrom fuel ws k) from number x d n) t ∙ sym (ends-rest fuel (suc fuel) ws k x d y d (suc n) f (omega arith))
+
+pub rested-up :
+    (fuel : ℕ) (ws : List ℕ) (k from number x d n : ℕ) → ends fuel ws k x d ≡ true → stepAt ws k x d ≡ Up →
+    restFrom fuel ws k from number x d n ≡ restFrom fuel ws k from number x (suc d) n
+unfolding ends restFrom
+rested-up zero ws k from number x d n e t = absurd (let z : _≡_ {A = ℕ} 0 1 = cc in omega arith)
+rested-up (suc fuel) ws k from number x d n e t =
+    let f : ends fuel ws k x (suc d) ≡ true = sym (ap (endsAfter (ends fuel ws k) x d) t) ∙ e in
+    ap (restAfter (restFrom fuel ws k) from number x d n) t ∙ sym (ends-rest fuel (suc fuel) ws k from number x (suc d) n f (omega arith))
+
+pub rested-end :
+    (fuel : ℕ) (ws : List ℕ) (k from number x d n : ℕ) → ends fuel ws k x d ≡ true → stepAt ws k x d ≡ End →
+    restFrom fuel ws k from number x d n ≡ record { from = from; number = number; at = x; coordinate = d; looked = n }
+unfolding ends restFrom
+rested-end zero ws k from number x d n e t = absurd (let z : _≡_ {A = ℕ} 0 1 = cc in omega arith)
+rested-end (suc fuel) ws k from number x d n e t = ap (restAfter (restFrom fuel ws k) from number x d n) t
+
 -- p is the parent of k, if k does not stand: from p's dimension up it has a link of the number of coordinates that it shares with k, and
 -- every later cell up to k shares more with it.
 pub record Parent (b D k : ℕ) (p : Place) : Type 0 where

@@ -11,7 +11,7 @@ use Rattle.meaning.specs.Row.{Entry, entryAt}
 use Rattle.meaning.specs.State.{positionKey}
 use Rattle.meaning.specs.Reading.{read, same}
 use Rattle.meaning.specs.Refusals.{answer}
-use Rattle.meaning.specs.Walk.{owedAt, lowAt, highAt}
+use Rattle.meaning.specs.Words.{owedAt, lowAt, highAt}
 use Rattle.meaning.specs.Calls.{Call, set-up, insert-key, find-key, take-least, sweep-dead, outcome}
 
 -- the remarks beside the steps, of the words after the step

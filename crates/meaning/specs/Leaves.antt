@@ -5,7 +5,7 @@ use Prim.Native.Nat.{ℕ, _+_, _≤_, _<_}
 use lib.ListN.{length, getD}
 use Rattle.settings.specs.Numbers.{headerWords, fieldsBeforeCoordinates, cellWords}
 use Rattle.meaning.specs.Keys.{coordinate}
-use Rattle.meaning.specs.Walk.{wordAt, keyAt, valueAt, markAt, owedAt, lowAt, highAt, coordinateAt, linkAt}
+use Rattle.meaning.specs.Words.{wordAt, keyAt, valueAt, markAt, owedAt, lowAt, highAt, coordinateAt, linkAt}
 use Rattle.meaning.specs.Operations.{Slot}
 use Rattle.meaning.specs.Stores.{linkField, writePath, writeEntry}
 

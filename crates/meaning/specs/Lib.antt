@@ -6,6 +6,7 @@ pub mod Picture
 pub mod Reading
 pub mod Refusals
 pub mod Operations
+pub mod Words
 pub mod Rule
 pub mod Walk
 pub mod Calls

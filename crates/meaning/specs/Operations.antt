@@ -15,7 +15,7 @@ use Rattle.meaning.specs.Picture.{numbersFrom, picture, firstNumber}
 use Rattle.meaning.specs.Reading.{read, isList}
 use Rattle.meaning.specs.Refusals.{Outcome, accepted, outOfRange, wrongLength, notAList, badKey, keyLive, noFreeCell, nothingLive, keyNotLive, keyNotStanding, owedNotStanding, refused}
 use Rattle.meaning.specs.Rule.{rule}
-use Rattle.meaning.specs.Walk.{markAt, owedAt}
+use Rattle.meaning.specs.Words.{markAt, owedAt}
 
 -- "3: the buffer is not a list (all but set up)"
 unfoldable pub onList : List ℕ → (State → Outcome) → Outcome

@@ -7,7 +7,8 @@ use lib.Dec.{eqb}
 use lib.ListN.{getD, take, replicate}
 use Rattle.meaning.specs.Row.{Entry, headEntry}
 use Rattle.meaning.specs.Picture.{numbersFrom, firstWith}
-use Rattle.meaning.specs.Walk.{markAt, linkRead, stepAt}
+use Rattle.meaning.specs.Words.{markAt}
+use Rattle.meaning.specs.Walk.{linkRead, stepAt}
 use Rattle.meaning.specs.declared.Step.{Step}
 use Rattle.meaning.specs.declared.Step.the-variants.{Go, Up, End}
 

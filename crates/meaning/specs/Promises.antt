@@ -16,7 +16,8 @@ use Rattle.meaning.specs.Picture.{firstNumber}
 use Rattle.meaning.specs.Reading.{read, isList}
 use Rattle.meaning.specs.Refusals.{Outcome, Meets}
 use Rattle.meaning.specs.Rule.{rule}
-use Rattle.meaning.specs.Walk.{keyAt, markAt, owedAt, lowAt, highAt, walk, walkFrom, ends}
+use Rattle.meaning.specs.Words.{keyAt, markAt, owedAt, lowAt, highAt}
+use Rattle.meaning.specs.Walk.{walk, walkFrom, ends}
 use Rattle.meaning.specs.Operations.{takeOut, freedBy, slotFor}
 use Rattle.meaning.specs.SweepStores.{sweepWords}
 use Rattle.meaning.specs.Leaves.{OwesNothing, OwesSame, Finished, Inserted, Marked}

@@ -11,7 +11,7 @@ use Rattle.settings.specs.Numbers.{leastDimensions, mostDimensions, leastLarges
 use Rattle.settings.specs.Base.{IsBase}
 use Rattle.meaning.specs.Keys.{coordinates, coordinate}
 use Rattle.meaning.specs.State.{occurrences}
-use Rattle.meaning.specs.Walk.{wordAt, keyAt, valueAt, markAt, owedAt, lowAt, highAt, coordinateAt, linkAt}
+use Rattle.meaning.specs.Words.{wordAt, keyAt, valueAt, markAt, owedAt, lowAt, highAt, coordinateAt, linkAt}
 
 -- how many leading members of two lists are equal
 unfoldable pub agreed : List ℕ → List ℕ → ℕ

@@ -8,7 +8,7 @@ use lib.ListN.{getD, set, replicate}
 use lib.Seq.{sets}
 use Rattle.settings.specs.Numbers.{headerWords, fieldsBeforeCoordinates}
 use Rattle.meaning.specs.Keys.{coordinates}
-use Rattle.meaning.specs.Walk.{place, owedAt, lowAt, highAt}
+use Rattle.meaning.specs.Words.{place, owedAt, lowAt, highAt}
 use Rattle.meaning.specs.Operations.{Slot, slotOwes}
 
 -- word j of cell x becomes v

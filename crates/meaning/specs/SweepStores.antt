@@ -8,7 +8,7 @@ use lib.ListN.{length, getD, set, replicate}
 use lib.Seq.{sets}
 use Rattle.meaning.specs.Keys.{shared}
 use Rattle.meaning.specs.Picture.{firstNumber, freeWords}
-use Rattle.meaning.specs.Walk.{place, keyAt, markAt}
+use Rattle.meaning.specs.Words.{place, keyAt, markAt}
 use Rattle.meaning.specs.Paths.{onward, nextFrom}
 use Rattle.meaning.specs.Stores.{store, linkField, finishWords, writePath}
 

@@ -1,48 +1,15 @@
 -- The walk on the words, link by link: document 01, "The walk".
 use mathlib.Core.Bool.{Bool, true, false, cond, _&&_, not}
 use mathlib.Core.List.{List, [], _∷_}
-use Prim.Native.Nat.{ℕ, zero, suc, _+_, _*_}
+use Prim.Native.Nat.{ℕ, zero, suc, _*_}
 use lib.Dec.{eqb, ltb}
 use lib.ListN.{getD}
-use Rattle.settings.specs.Numbers.{headerWords, fieldsBeforeCoordinates, cellWords}
 use Rattle.meaning.specs.Keys.{coordinate}
 use Rattle.meaning.specs.Row.{between}
+use Rattle.meaning.specs.Words.{owedAt, lowAt, highAt, coordinateAt, linkAt}
 use Rattle.meaning.specs.declared.Rest.{Rest}
 use Rattle.meaning.specs.declared.Step.{Step}
 use Rattle.meaning.specs.declared.Step.the-variants.{Go, Up, End}
-
--- where word j of cell x stands
-abbrev pub place : ℕ → ℕ → ℕ → ℕ
-place D x j = headerWords + D + x * cellWords D + j
-
--- word j of cell x
-abbrev pub wordAt : List ℕ → ℕ → ℕ → ℕ
-wordAt ws x j = getD ws (place (getD ws 0 0) x j) 0
-
--- "key, value, mark, owed cell, low, high, D coordinates, D links"
-abbrev pub keyAt : List ℕ → ℕ → ℕ
-keyAt ws x = wordAt ws x 0
-
-abbrev pub valueAt : List ℕ → ℕ → ℕ
-valueAt ws x = wordAt ws x 1
-
-abbrev pub markAt : List ℕ → ℕ → ℕ
-markAt ws x = wordAt ws x 2
-
-abbrev pub owedAt : List ℕ → ℕ → ℕ
-owedAt ws x = wordAt ws x 3
-
-abbrev pub lowAt : List ℕ → ℕ → ℕ
-lowAt ws x = wordAt ws x 4
-
-abbrev pub highAt : List ℕ → ℕ → ℕ
-highAt ws x = wordAt ws x 5
-
-abbrev pub coordinateAt : List ℕ → ℕ → ℕ → ℕ
-coordinateAt ws x d = wordAt ws x (fieldsBeforeCoordinates + d)
-
-abbrev pub linkAt : List ℕ → ℕ → ℕ → ℕ
-linkAt ws x d = wordAt ws x (fieldsBeforeCoordinates + getD ws 0 0 + d)
 
 -- "Where the cell owes and the link's number is at least low and below high, the link is read from the owed cell"
 unfoldable pub linkRead : List ℕ → ℕ → ℕ → ℕ

@@ -4,7 +4,7 @@ use mathlib.Core.Path.{_≡_, refl}
 use mathlib.Core.List.{List}
 use Prim.Native.Nat.{ℕ}
 use Rattle.text.specs.Lines.{line, tooLong}
-use Rattle.meaning.specs.Refusals.{Outcome, Meets, answer}
+use Rattle.meaning.specs.Refusals.{Meets, answer}
 use Rattle.meaning.specs.Calls.{outcome}
 use Rattle.meaning.specs.Operations.{insertOut, findOut, finishOut, takeOut, sweepOut}
 use Rattle.meaning.specs.declared.Answer.{Answer}

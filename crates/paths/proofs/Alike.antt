@@ -12,7 +12,8 @@ use Rattle.settings.specs.Numbers.{headerWords, fieldsBeforeCoordinates, cellWo
 use Rattle.settings.specs.declared.Settings.{Settings}
 use Rattle.meaning.specs.Row.{between}
 use Rattle.meaning.specs.Reading.{settingsAt}
-use Rattle.meaning.specs.Walk.{wordAt, owedAt, lowAt, highAt, linkAt, linkRead, stepAt, endsAfter, ends}
+use Rattle.meaning.specs.Words.{wordAt, owedAt, lowAt, highAt, linkAt}
+use Rattle.meaning.specs.Walk.{linkRead, stepAt, endsAfter, ends}
 use Rattle.meaning.specs.Paths.{onward, NextCell, nextFrom, pathAfter, pathAlong}
 use Rattle.meaning.specs.Stores.{store, writePath}
 use Rattle.meaning.specs.declared.Step.{Step}

@@ -1,7 +1,7 @@
 -- What a list gives to whoever goes from cell to cell on its words: they are the picture of a state in order, so every cell that they name
 -- is one of the list's, walks end, and the walk for a standing key builds the path of its cell. It is so too where the words of path
 -- are not yet those of the state.
-use mathlib.Core.Path.{_≡_, refl, sym, ap, _∙_, subst, subst₂}
+use mathlib.Core.Path.{_≡_, refl, sym, ap, _∙_, subst}
 use mathlib.Core.Bool.{true}
 use mathlib.Core.List.{List, _∷_, map}
 use Prim.Native.Nat.{ℕ, _≤_, _<_}
@@ -11,14 +11,14 @@ use Rattle.settings.specs.declared.Settings.{Settings}
 use Rattle.meaning.specs.Row.{headEntry, Place}
 use Rattle.meaning.specs.State.{State, keyOf, occurrences}
 use Rattle.meaning.specs.Picture.{path, picture}
-use Rattle.meaning.specs.Reading.{settingsAt, read, Listed}
-use Rattle.meaning.specs.Walk.{keyAt, ends}
+use Rattle.meaning.specs.Reading.{read, Listed}
+use Rattle.meaning.specs.Words.{keyAt}
+use Rattle.meaning.specs.Walk.{ends}
 use Rattle.meaning.specs.Paths.{pathFor, pathAlong}
 use Rattle.meaning.specs.Stores.{writePath}
 use Rattle.meaning.proofs.Order.{all-map, asc-above}
 use Rattle.meaning.proofs.State.{Sound, valid-sound, sound-valid, base-positive}
-use Rattle.meaning.proofs.Picture.{picture-length, path-length}
-use Rattle.meaning.proofs.Reading.{list-is-picture, list-sound}
+use Rattle.meaning.proofs.Picture.{path-length}
 use Rattle.meaning.proofs.Walk.{walk-ends}
 use Rattle.meaning.proofs.WalkRead.{dimensions-read}
 use Rattle.meaning.proofs.Stores.{path-sets-header}
@@ -27,51 +27,15 @@ use Rattle.meaning.proofs.SentencesCells.{Placed, placed-entry, placed-cell, pl
 use Rattle.meaning.proofs.PathWithin.{owed-within, linkRead-within}
 use Rattle.meaning.proofs.Path.{path-is, path-head}
 use Rattle.meaning.proofs.PathWalk.{path-of-cell}
-use Rattle.words.specs.Shaped.{Shaped}
+use Rattle.words.proofs.Listed.{picture-shaped, on-listed}
 use Rattle.paths.specs.declared.Path.{Path}
 use Rattle.paths.specs.Paths.{pathOf, Formed, Walkable, StandsIn, CellPath}
 use Rattle.paths.proofs.Steps.{enough}
 use Rattle.paths.proofs.Alike.{Alike, path-alike, alike-walkable, alike-ends, alike-along}
 
--- The picture of a state in order
-
-pub picture-shaped : (t : State) → Sound t → Shaped (picture t) (t .settings)
-picture-shaped t v =
-    record {
-      header = header;
-      long = picture-length t;
-      dimensions-least = v .dimensions-least;
-      dimensions-most = v .dimensions-most;
-      cells-most = v .cells-most;
-    }
-  where
-    header : settingsAt (picture t) ≡ t .settings
-    header = unfold picture in refl
-
 pub picture-walkable : (t : State) → Sound t → Walkable (picture t) (t .settings)
 picture-walkable t v =
     record { shaped = picture-shaped t v; head = omega (arith, v .cells-least); owed = owed-within t v; links = linkRead-within t v }
-
--- A list
-
--- its words are the picture of the state that they hold, which is in order
-pub record Pictured (ws : List ℕ) (s : Settings) : Type 0 where
-  pub pictured : picture (read ws) ≡ ws
-  pub sound : Sound (read ws)
-  pub settings : read ws .settings ≡ s
-
-pub listed-picture : {ws : List ℕ} {s : Settings} → Listed ws s → Pictured ws s
-unfolding read
-listed-picture {ws} h = record { pictured = list-is-picture ws (h .list); sound = list-sound ws (h .list); settings = h .settings }
-
--- what holds of each state in order, its picture and its settings holds of a list
-pub on-listed :
-    (P : State → List ℕ → Settings → Type 0) → ((t : State) → Sound t → P t (picture t) (t .settings)) → {ws : List ℕ} {s : Settings} →
-    Listed ws s → P (read ws) ws s
-on-listed P f {ws} h = let p = listed-picture h in subst₂ (P (read ws)) (p .pictured) (p .settings) (f (read ws) (p .sound))
-
-pub listed-shaped : {ws : List ℕ} {s : Settings} → Listed ws s → Shaped ws s
-listed-shaped = on-listed (λ t ws s. Shaped ws s) picture-shaped
 
 pub listed-walkable : {ws : List ℕ} {s : Settings} → Listed ws s → Walkable ws s
 listed-walkable = on-listed (λ t ws s. Walkable ws s) picture-walkable

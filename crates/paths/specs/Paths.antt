@@ -9,7 +9,8 @@ use Rattle.settings.specs.declared.Settings.{Settings}
 use Rattle.meaning.specs.Row.{headEntry}
 use Rattle.meaning.specs.State.{State, keyOf, occurrences, valid}
 use Rattle.meaning.specs.Picture.{path, picture}
-use Rattle.meaning.specs.Walk.{owedAt, linkRead}
+use Rattle.meaning.specs.Words.{owedAt}
+use Rattle.meaning.specs.Walk.{linkRead}
 use Rattle.meaning.specs.Paths.{pathFor, onward, nextFrom}
 use Rattle.meaning.specs.Stores.{writePath}
 use Rattle.words.specs.Shaped.{Shaped}

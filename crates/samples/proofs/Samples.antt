@@ -5,7 +5,7 @@ use mathlib.Core.List.{[], _∷_}
 use Rattle.meaning.specs.Picture.{picture}
 use Rattle.meaning.specs.Reading.{isList}
 use Rattle.meaning.specs.Operations.{fresh}
-use Rattle.meaning.specs.Walk.{place}
+use Rattle.meaning.specs.Words.{place}
 use Rattle.meaning.proofs.Computing.{computing}
 use Rattle.samples.specs.Samples.{joined, larger, smaller, figures, raised, lowered, refusedFrom}
 

@@ -1,14 +1,13 @@
 -- Sample buffers, made by calls from a fresh list: with debts, a position, dead cells and freed ones.
-use mathlib.Core.Bool.{Bool, true, false, cond, _&&_}
-use mathlib.Core.List.{List, [], _∷_, map}
+use mathlib.Core.Bool.{cond}
+use mathlib.Core.List.{List, [], _∷_}
 use Prim.Native.Nat.{ℕ, zero, suc, _+_}
 use lib.Dec.{eqb}
 use lib.ListN.{length, getD, set, replicate}
-use Rattle.settings.specs.Numbers.{lengthOf, headerWords, cellWords}
+use Rattle.settings.specs.Numbers.{lengthOf}
 use Rattle.meaning.specs.Row.{those}
 use Rattle.meaning.specs.Reading.{read, isList}
 use Rattle.meaning.specs.Calls.{Call, set-up, insert-key, finish-key, take-least, sweep-dead, outcome, afterCalls}
-use Rattle.meaning.specs.Walk.{place, markAt}
 
 -- a fresh list with D, K and C
 abbrev pub freshWith : ℕ → ℕ → ℕ → List ℕ

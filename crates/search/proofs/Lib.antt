@@ -1,5 +1,4 @@
 -- The laws that the search's proofs rest on, and those that its callers cite.
-pub mod Steps
 pub mod Laws
 pub mod Sides
 pub mod Resting

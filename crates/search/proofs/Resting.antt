@@ -16,7 +16,8 @@ use Rattle.meaning.specs.State.{State}
 use Rattle.meaning.specs.Picture.{picture}
 use Rattle.meaning.specs.Reading.{read, Listed}
 use Rattle.meaning.specs.Operations.{looked, settledLinkAt}
-use Rattle.meaning.specs.Walk.{keyAt, rest}
+use Rattle.meaning.specs.Words.{keyAt}
+use Rattle.meaning.specs.Walk.{rest}
 use Rattle.meaning.specs.declared.Rest.{Rest}
 use Rattle.meaning.proofs.Order.{Asc, all-map}
 use Rattle.meaning.proofs.Keys.{shared-sym, shared-less}
@@ -32,7 +33,7 @@ use Rattle.meaning.proofs.WalkStop.{rest-looked, Wanting, Moved, rests}
 use Rattle.meaning.proofs.SentencesCells.{placed-entry, placed-below, place-key}
 use Rattle.search.specs.Found.{slotNumber, slotParent, slotShared, slotCell, foundAt, foundOf}
 use Rattle.search.specs.declared.Found.{Found}
-use Rattle.search.proofs.Laws.{on-listed}
+use Rattle.words.proofs.Listed.{on-listed}
 use Rattle.search.proofs.Sides.{Sides, sides-absent, sides-present, slot-at, Hangs, hung-at}
 
 -- What is answered, part by part

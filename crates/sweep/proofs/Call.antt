@@ -17,7 +17,7 @@ use Rattle.meaning.specs.declared.Answer.{Answer}
 use Rattle.meaning.proofs.SweepWords.{swept-paid, swept-stays}
 use Rattle.meaning.proofs.Outcomes.{sweep-outcome}
 use Rattle.finish.proofs.Debts.{listed-owes}
-use Rattle.paths.proofs.Listed.{on-listed}
+use Rattle.words.proofs.Listed.{on-listed}
 use Rattle.sweep.specs.declared.Target as code
 use Rattle.sweep.specs.Sweeping.{someOwesFrom, Paid, targetOf, sweptTo, cellsUpTo, Moves, droppedTo}
 use Rattle.sweep.proofs.Lists.{paid-read, target-read, moves-count, moves-swept}

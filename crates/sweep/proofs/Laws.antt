@@ -11,7 +11,7 @@ use lib.Seq.{sets}
 use Rattle.settings.specs.Numbers.{cellWords}
 use Rattle.settings.specs.declared.Settings.{Settings}
 use Rattle.meaning.specs.Picture.{firstNumber, freeWords}
-use Rattle.meaning.specs.Walk.{place, wordAt, keyAt, coordinateAt, linkAt}
+use Rattle.meaning.specs.Words.{place, wordAt, keyAt, coordinateAt, linkAt}
 use Rattle.meaning.specs.Operations.{owesFromFree}
 use Rattle.meaning.specs.Paths.{onward}
 use Rattle.meaning.specs.Stores.{store, linkField, finishWords, writePath}

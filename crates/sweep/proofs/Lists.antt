@@ -13,7 +13,7 @@ use Rattle.meaning.specs.Row.{Entry, headEntry}
 use Rattle.meaning.specs.State.{State}
 use Rattle.meaning.specs.Picture.{firstNumber, picture}
 use Rattle.meaning.specs.Reading.{read, Listed}
-use Rattle.meaning.specs.Walk.{keyAt}
+use Rattle.meaning.specs.Words.{keyAt}
 use Rattle.meaning.specs.Operations.{paid, finished, withRow, deadFront, fromLive, lastOf, freedBy, swept}
 use Rattle.meaning.specs.Stores.{finishWords}
 use Rattle.meaning.specs.SweepStores.{Target, finishAll, cellsBefore, takeLinks, relinkHead, freeCell, chainValues, dropChained}
@@ -36,7 +36,7 @@ use Rattle.meaning.proofs.SweepWords.{swept-front, sweptNumber, sweptZeros, swe
 use Rattle.meaning.proofs.SweepTarget.{before-here, before-past, target-is, freed-is}
 use Rattle.meaning.proofs.SweepChain.{Chained, chain-chained, swept-chained}
 use Rattle.paths.specs.Paths.{pathOf}
-use Rattle.paths.proofs.Listed.{picture-shaped, on-listed, listed-shaped}
+use Rattle.words.proofs.Listed.{picture-shaped, on-listed, listed-shaped}
 use Rattle.sweep.specs.declared.Target as code
 use Rattle.sweep.specs.declared.Freed.{Freed}
 use Rattle.sweep.specs.Sweeping.{Paid, targetOf, sweptTo, cellsTo, cellsUpTo, zerosOf, Reaches, Keyed, ChainIn, ChainedUpTo, Moves, droppedTo}

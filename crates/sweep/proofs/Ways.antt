@@ -9,7 +9,7 @@ use lib.Dec.{eqb}
 use lib.ListN.{length, getD, replicate}
 use Rattle.settings.specs.declared.Settings.{Settings}
 use Rattle.meaning.specs.Picture.{firstNumber}
-use Rattle.meaning.specs.Walk.{markAt}
+use Rattle.meaning.specs.Words.{markAt}
 use Rattle.meaning.specs.Paths.{onward, NextCell, nextFrom}
 use Rattle.meaning.specs.Stores.{store}
 use Rattle.meaning.specs.SweepStores.{Target, targetFrom, cellsBefore, chainValues}

@@ -8,7 +8,7 @@ use Rattle.settings.specs.declared.Settings.{Settings}
 use Rattle.meaning.specs.Keys.{coordinate, shared}
 use Rattle.meaning.specs.Picture.{firstNumber}
 use Rattle.meaning.specs.Reading.{read, Listed}
-use Rattle.meaning.specs.Walk.{place, keyAt, coordinateAt}
+use Rattle.meaning.specs.Words.{place, keyAt, coordinateAt}
 use Rattle.meaning.specs.Operations.{owesFromFree, paid}
 use Rattle.meaning.specs.SweepStores.{headTarget, targetFrom, cellsBefore, freeCell, chainValues, dropChained}
 use Rattle.meaning.specs.SweepStores as stores

@@ -12,7 +12,7 @@ use Rattle.meaning.specs.Row.{Entry}
 use Rattle.meaning.specs.State.{State}
 use Rattle.meaning.specs.Picture.{path, cells, picture}
 use Rattle.meaning.specs.Reading.{read, Listed}
-use Rattle.meaning.specs.Walk.{place, keyAt, valueAt, markAt}
+use Rattle.meaning.specs.Words.{place, keyAt, valueAt, markAt}
 use Rattle.meaning.specs.Paths.{NextCell, nextFrom, aheadFrom}
 use Rattle.meaning.specs.Paths as ahead
 use Rattle.meaning.specs.Stores.{store, writePath, writeEntry}
@@ -35,7 +35,7 @@ use Rattle.meaning.proofs.Outcomes.{take-outcome-none, take-outcome-first}
 use Rattle.paths.specs.declared.Path.{Path}
 use Rattle.paths.specs.declared.Reached.{Reached}
 use Rattle.paths.specs.Paths.{pathOf, Formed, PathIn, NextIs}
-use Rattle.paths.proofs.Listed.{on-listed}
+use Rattle.words.proofs.Listed.{on-listed}
 use Rattle.paths.proofs.Ways.{moves-nowhere, moves-to}
 use Rattle.take.specs.declared.Ahead.{Ahead}
 use Rattle.take.specs.Ahead.{pathWords, FirstLive}

@@ -1,5 +1,5 @@
 -- The lines of an input: "at most 64 bytes before the line feed .. A last line without line feed counts".
-use mathlib.Core.Bool.{Bool, true, false, cond}
+use mathlib.Core.Bool.{cond}
 use mathlib.Core.List.{List, [], _∷_, _++_, map}
 use Prim.Native.Nat.{ℕ}
 use lib.Dec.{eqb, leb}

@@ -17,7 +17,7 @@ use Rattle.meaning.specs.Row.{headEntry, places}
 use Rattle.meaning.specs.State.{State, positionKey, occurrences}
 use Rattle.meaning.specs.Picture.{wordsOf, firstWith, picture}
 use Rattle.meaning.specs.Reading.{settingsAt, isList}
-use Rattle.meaning.specs.Walk.{wordAt, keyAt, markAt}
+use Rattle.meaning.specs.Words.{wordAt, keyAt, markAt}
 use Rattle.meaning.proofs.Order.{All, Asc, both, all-map, all-append}
 use Rattle.meaning.proofs.State.{Sound, cellsIn}
 use Rattle.meaning.proofs.Cells.{Distinct, all-zip, occurrences-here}

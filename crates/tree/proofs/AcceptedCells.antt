@@ -9,7 +9,7 @@ use native.Mathlib.Decide.{ℕ-discrete, decLt}
 use native.Mathlib.Omega.{arith}
 use lib.ListN.{length, getD}
 use Rattle.meaning.specs.State.{occurrences}
-use Rattle.meaning.specs.Walk.{keyAt, valueAt, markAt}
+use Rattle.meaning.specs.Words.{keyAt, valueAt, markAt}
 use Rattle.meaning.proofs.Order.{All, all-map, all-append}
 use Rattle.meaning.proofs.Cells.{Distinct, all-zip, occurrences-here, occurrences-past}
 use Rattle.meaning.proofs.Places.{none-occurs}

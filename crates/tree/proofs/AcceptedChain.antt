@@ -10,7 +10,7 @@ use lib.ListN.{length, getD, getD-replicate}
 use borrow.Author.Tests.{eqb-true}
 use Rattle.settings.specs.Numbers.{cellWords}
 use Rattle.meaning.specs.Picture.{firstNumber, nextFree, freeWords}
-use Rattle.meaning.specs.Walk.{wordAt, markAt}
+use Rattle.meaning.specs.Words.{wordAt, markAt}
 use Rattle.meaning.proofs.Order.{All, all-map}
 use Rattle.meaning.proofs.Cells.{Distinct, all-zip}
 use Rattle.meaning.proofs.Reading.{Follow, distinct-follow}

@@ -15,7 +15,7 @@ use borrow.Author.Tests.{ltb-true, eqb-true, eq-eqb, ne-eqb}
 use Rattle.settings.specs.Numbers.{fieldsBeforeCoordinates, cellWords}
 use Rattle.meaning.specs.Keys.{coordinate, shared}
 use Rattle.meaning.specs.Row.{Entry, firstSharing}
-use Rattle.meaning.specs.Walk.{place, keyAt, valueAt, markAt, owedAt, coordinateAt}
+use Rattle.meaning.specs.Words.{place, keyAt, valueAt, markAt, owedAt, coordinateAt}
 use Rattle.meaning.proofs.Order.{All, Asc, both}
 use Rattle.meaning.proofs.Keys.{shared-same, shared-sym, ultra, coordinate-head, coordinate-same, coordinate-less, coordinate-other, hornerFrom, horner, horner-coordinates}
 use Rattle.tree.specs.declared.Seen.{Seen}

@@ -16,7 +16,7 @@ use Rattle.meaning.specs.Keys.{shared}
 use Rattle.meaning.specs.Row.{headEntry}
 use Rattle.meaning.specs.State.{keyOf, occurrences}
 use Rattle.meaning.specs.Picture.{firstWith}
-use Rattle.meaning.specs.Walk.{keyAt, valueAt, markAt}
+use Rattle.meaning.specs.Words.{keyAt, valueAt, markAt}
 use Rattle.meaning.proofs.Order.{All}
 use Rattle.meaning.proofs.Keys.{shared-same, ultra}
 use Rattle.meaning.proofs.Cells.{occurrences-here, occurrences-past}

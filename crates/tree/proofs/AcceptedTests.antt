@@ -12,7 +12,7 @@ use borrow.Author.Tests.{ltb-true, ltb-false, leb-true, eqb-true, eq-eqb, ne-eqb
 use Rattle.settings.specs.Numbers.{cellWords, lengthOf, inRange}
 use Rattle.settings.specs.Base.{IsBase}
 use Rattle.settings.proofs.Laws.{Ranges, ranges, is-base}
-use Rattle.meaning.specs.Walk.{wordAt, keyAt, valueAt, markAt, owedAt, lowAt, highAt, coordinateAt, linkAt}
+use Rattle.meaning.specs.Words.{wordAt, keyAt, valueAt, markAt, owedAt, lowAt, highAt, coordinateAt, linkAt}
 use Rattle.meaning.proofs.Order.{All, both}
 use Rattle.tree.specs.declared.Seen.{Seen}
 use Rattle.tree.specs.Tree.{allFrom, writesKey, follows, entryRight, dueTo, linksBelow, debtRight, agreedAt, positionWord, cellRight, headRight, freeRight, headerRight}

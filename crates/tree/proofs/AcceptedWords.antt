@@ -16,7 +16,8 @@ use Rattle.settings.specs.Numbers.{fieldsBeforeCoordinates, cellWords}
 use Rattle.meaning.specs.Keys.{coordinates, coordinate, shared}
 use Rattle.meaning.specs.Row.{headEntry, firstSharing, Place, headPlace, placesAfter, places, settledLink, owed, low, high, between, link}
 use Rattle.meaning.specs.Picture.{numbersFrom, mark, standingWords}
-use Rattle.meaning.specs.Walk.{wordAt, keyAt, valueAt, markAt, owedAt, lowAt, highAt, coordinateAt, linkAt, linkRead}
+use Rattle.meaning.specs.Words.{wordAt, keyAt, valueAt, markAt, owedAt, lowAt, highAt, coordinateAt, linkAt}
+use Rattle.meaning.specs.Walk.{linkRead}
 use Rattle.meaning.proofs.Order.{All, both}
 use Rattle.meaning.proofs.Keys.{coordinates-length, coordinate-head}
 use Rattle.meaning.proofs.State.{Debt}

@@ -19,7 +19,7 @@ use Rattle.meaning.specs.Row.{Entry, headEntry, Place, headPlace, placeOf, plac
 use Rattle.meaning.specs.State.{State, positionKey}
 use Rattle.meaning.specs.Picture.{firstNumber, nextFree, freeWords, wordsOf, picture}
 use Rattle.meaning.specs.Reading.{read, isList}
-use Rattle.meaning.specs.Walk.{wordAt, keyAt, valueAt, markAt, owedAt, lowAt, highAt, coordinateAt}
+use Rattle.meaning.specs.Words.{wordAt, keyAt, valueAt, markAt, owedAt, lowAt, highAt, coordinateAt}
 use Rattle.meaning.proofs.Order.{All, Asc, all-map, asc-weaken}
 use Rattle.meaning.proofs.Keys.{shared-same, coordinate-head}
 use Rattle.meaning.proofs.State.{Sound, sound-ranges, base-positive, base-above}

@@ -14,7 +14,7 @@ use borrow.Author.Tests.{lt-ltb, le-leb, lt-leb, eq-eqb, ne-eqb}
 use Rattle.meaning.specs.Keys.{coordinates, shared}
 use Rattle.meaning.specs.Row.{Entry, firstOf, firstSharing, Place, settledLink, owed, low, high, between, link}
 use Rattle.meaning.specs.Picture.{mark}
-use Rattle.meaning.specs.Walk.{keyAt, valueAt, markAt, owedAt, lowAt, highAt, coordinateAt, linkAt}
+use Rattle.meaning.specs.Words.{keyAt, valueAt, markAt, owedAt, lowAt, highAt, coordinateAt, linkAt}
 use Rattle.meaning.proofs.Order.{All, Asc, and-both, all-map, all-append}
 use Rattle.meaning.proofs.Keys.{shared-same, shared-le, shared-less, coordinate-same, coordinate-less, coordinate-inside, coordinates-value, hornerFrom, horner}
 use Rattle.meaning.proofs.State.{Debt}

@@ -15,7 +15,7 @@ use Rattle.meaning.specs.Keys.{coordinates, shared}
 use Rattle.meaning.specs.Row.{Entry, headEntry, Place, placeOf, placesAfter, places}
 use Rattle.meaning.specs.State.{State, positionKey, keyOf, occurrences}
 use Rattle.meaning.specs.Picture.{standingWords, wordsOf, picture}
-use Rattle.meaning.specs.Walk.{place, wordAt}
+use Rattle.meaning.specs.Words.{place, wordAt}
 use Rattle.meaning.proofs.Order.{All, Asc}
 use Rattle.meaning.proofs.Keys.{coordinates-length}
 use Rattle.meaning.proofs.State.{Debt, Sound, base-positive, base-above}

@@ -8,7 +8,8 @@ use lib.Dec.{eqb, leb, ltb}
 use lib.ListN.{length, getD, take, drop}
 use Rattle.settings.specs.Numbers.{headerWords, fieldsBeforeCoordinates, cellWords, lengthOf, inRange}
 use Rattle.meaning.specs.Row.{between}
-use Rattle.meaning.specs.Walk.{place, wordAt, keyAt, valueAt, markAt, owedAt, lowAt, highAt, coordinateAt, linkAt, linkRead}
+use Rattle.meaning.specs.Words.{place, wordAt, keyAt, valueAt, markAt, owedAt, lowAt, highAt, coordinateAt, linkAt}
+use Rattle.meaning.specs.Walk.{linkRead}
 use Rattle.tree.specs.declared.Seen.{Seen}
 
 -- a test holds at each of n numbers from i on

@@ -16,7 +16,8 @@ use Rattle.settings.specs.Numbers.{fieldsBeforeCoordinates, cellWords, lengthOf
 use Rattle.settings.specs.declared.Settings.{Settings}
 use Rattle.settings.proofs.Laws.{cells-fit}
 use Rattle.meaning.specs.Keys.{coordinates}
-use Rattle.meaning.specs.Walk.{place, wordAt, owedAt, lowAt, highAt, coordinateAt, linkAt, linkRead, along, stepAt}
+use Rattle.meaning.specs.Words.{place, wordAt, owedAt, lowAt, highAt, coordinateAt, linkAt}
+use Rattle.meaning.specs.Walk.{linkRead, along, stepAt}
 use Rattle.meaning.specs.Stores.{store, linkField}
 use Rattle.meaning.specs.declared.Step.the-variants.{Go, Up, End}
 use Rattle.meaning.proofs.Keys.{coordinates-length}

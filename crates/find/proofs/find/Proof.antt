@@ -4,7 +4,7 @@ use native.Mathlib.Omega.{arith}
 use borrow.Author.Needs.{needs}
 use borrow.Author.Tests.{not-true, not-false}
 use Rattle.words.proofs.Laws.{field-within}
-use Rattle.search.proofs.Laws.{listed-shaped}
+use Rattle.words.proofs.Listed.{listed-shaped}
 use Rattle.find.proofs.Laws.{find-bad-key, find-missing, find-dead, find-live, find-cell}
 use Rattle.find.proofs.find.Statement.{statement}
 use Rattle.find.proofs.find.Tie as tie

@@ -6,7 +6,7 @@ use native.Mathlib.Omega.{arith}
 use borrow.Author.Needs.{needs}
 use borrow.Author.Tests.{not-true, not-false}
 use Rattle.words.proofs.Laws.{field-within}
-use Rattle.search.proofs.Laws.{listed-shaped}
+use Rattle.words.proofs.Listed.{listed-shaped}
 use Rattle.finish.proofs.Debts.{listed-payable, listed-low}
 use Rattle.finish.proofs.Call.{bad-key-meets, absent-meets, standing-cell, never-meets, standing-meets}
 use Rattle.finish.proofs.finish.Statement.{statement}

@@ -3,7 +3,7 @@
 use native.Mathlib.Omega.{arith}
 use borrow.Author.Needs.{needs}
 use Rattle.words.proofs.Laws.{field-within, link-within, set-shaped}
-use Rattle.search.proofs.Laws.{listed-shaped, listed-base}
+use Rattle.words.proofs.Listed.{listed-shaped, listed-base}
 use Rattle.insert.proofs.Call.{leads-due, leads-words, new-written, parent-cell, p-link, q-link, new-cell, payable-parent, payable-c, new-leads}
 use Rattle.insert.proofs.add.Statement.{statement}
 use Rattle.insert.proofs.add.Tie as tie

@@ -3,7 +3,7 @@
 use mathlib.Core.Path.{refl}
 use native.Mathlib.Omega.{arith}
 use borrow.Author.Needs.{needs}
-use Rattle.search.proofs.Laws.{listed-shaped}
+use Rattle.words.proofs.Listed.{listed-shaped}
 use Rattle.insert.proofs.Call.{leads-meets, parent-cell, c-cell, full-meets, never-meets, new-leads}
 use Rattle.insert.proofs.insert_new.Statement.{statement}
 use Rattle.insert.proofs.insert_new.Tie as tie

@@ -3,7 +3,7 @@ use mathlib.Core.Path.{_∙_}
 use native.Mathlib.Omega.{arith}
 use borrow.Author.Needs.{needs}
 use Rattle.words.proofs.Laws.{field-within}
-use Rattle.search.proofs.Laws.{listed-shaped}
+use Rattle.words.proofs.Listed.{listed-shaped}
 use Rattle.insert.proofs.Call.{leads-meets, standing-cell, live-meets, dead-leads}
 use Rattle.insert.proofs.insert_standing.Statement.{statement}
 use Rattle.insert.proofs.insert_standing.Tie as tie

@@ -3,7 +3,7 @@ use mathlib.Core.Path.{_∙_}
 use native.Mathlib.Omega.{arith}
 use borrow.Author.Needs.{needs}
 use Rattle.words.proofs.Laws.{field-within}
-use Rattle.search.proofs.Laws.{listed-shaped}
+use Rattle.words.proofs.Listed.{listed-shaped}
 use Rattle.insert.proofs.Position.{position-word}
 use Rattle.insert.proofs.position_key.Statement.{statement}
 use Rattle.insert.proofs.position_key.Tie as tie

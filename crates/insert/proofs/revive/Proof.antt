@@ -2,7 +2,7 @@
 use native.Mathlib.Omega.{arith}
 use borrow.Author.Needs.{needs}
 use Rattle.words.proofs.Laws.{field-within}
-use Rattle.search.proofs.Laws.{listed-shaped}
+use Rattle.words.proofs.Listed.{listed-shaped}
 use Rattle.insert.proofs.Laws.{entry-written}
 use Rattle.insert.proofs.Call.{leads-due, leads-words, standing-cell, dead-leads}
 use Rattle.insert.proofs.revive.Statement.{statement}

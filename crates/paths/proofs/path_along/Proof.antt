@@ -3,7 +3,8 @@
 use native.Mathlib.Omega.{arith}
 use borrow.Author.Needs.{needs}
 use Rattle.paths.proofs.Laws.{formed-own}
-use Rattle.paths.proofs.Steps.{stepsLeft, enough, Walking, walking-start, walking-go, walking-up, walking-end, left-go, left-up}
+use Rattle.meaning.proofs.WalkSteps.{stepsLeft}
+use Rattle.paths.proofs.Steps.{enough, Walking, walking-start, walking-go, walking-up, walking-end, left-go, left-up}
 use Rattle.paths.proofs.path_along.Statement.{statement}
 use Rattle.paths.proofs.path_along.Tie as tie
 

@@ -2,8 +2,9 @@
 -- steps that the walk still makes.
 use native.Mathlib.Omega.{arith}
 use borrow.Author.Needs.{needs}
-use Rattle.search.proofs.Steps.{stepsLeft}
-use Rattle.search.proofs.Laws.{listed-shaped, listed-owed, enough, Walking, walking-start, looked-fits, walking-go, walking-up, walking-end, left-go, left-up}
+use Rattle.meaning.proofs.WalkSteps.{stepsLeft}
+use Rattle.words.proofs.Listed.{listed-shaped, listed-owed}
+use Rattle.search.proofs.Laws.{enough, Walking, walking-start, looked-fits, walking-go, walking-up, walking-end, left-go, left-up}
 use Rattle.search.proofs.rest_of.Statement.{statement}
 use Rattle.search.proofs.rest_of.Tie as tie
 

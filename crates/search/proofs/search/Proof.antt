@@ -5,7 +5,7 @@ use native.Mathlib.Omega.{arith}
 use lib.Seq.{length-take-le}
 use borrow.Author.Needs.{needs}
 use Rattle.words.proofs.Laws.{field-within}
-use Rattle.search.proofs.Laws.{listed-shaped, listed-base, listed-sought}
+use Rattle.words.proofs.Listed.{listed-shaped, listed-base, listed-sought}
 use Rattle.search.proofs.Resting.{found-below, found-above, found-here, found-cell}
 use Rattle.search.proofs.search.Statement.{statement}
 use Rattle.search.proofs.search.Tie as tie

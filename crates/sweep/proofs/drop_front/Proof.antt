@@ -4,7 +4,8 @@ use native.Mathlib.Omega.{arith}
 use borrow.Author.Needs.{needs}
 use Rattle.paths.specs.Paths.{pathOf}
 use Rattle.paths.proofs.Laws.{formed-own}
-use Rattle.paths.proofs.Listed.{listed-shaped, listed-walkable}
+use Rattle.words.proofs.Listed.{listed-shaped}
+use Rattle.paths.proofs.Listed.{listed-walkable}
 use Rattle.sweep.specs.Sweeping.{cellsUpTo}
 use Rattle.sweep.proofs.Laws.{head-redrawn, front-dropped}
 use Rattle.sweep.proofs.Lists.{moves-keyed, moves-dropping, moves-reaches, moves-chain}

@@ -8,7 +8,7 @@ use borrow.Author.Needs.{needs}
 use Rattle.meaning.specs.Reading.{Listed}
 use Rattle.meaning.specs.SweepStores.{finishAll}
 use Rattle.finish.proofs.Debts.{listed-payable}
-use Rattle.paths.proofs.Listed.{listed-shaped}
+use Rattle.words.proofs.Listed.{listed-shaped}
 use Rattle.sweep.proofs.Laws.{finish-more, finish-none}
 use Rattle.sweep.proofs.Lists.{finish-listed, all-paid}
 use Rattle.sweep.proofs.finish_all.Statement.{statement}

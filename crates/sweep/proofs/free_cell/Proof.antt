@@ -7,7 +7,7 @@ use lib.ListN.{length, replicate, length-set}
 use lib.Seq.{sets}
 use borrow.Author.Needs.{needs}
 use Rattle.settings.specs.Numbers.{cellWords}
-use Rattle.meaning.specs.Walk.{place}
+use Rattle.meaning.specs.Words.{place}
 use Rattle.words.specs.Shaped.{Shaped}
 use Rattle.sweep.proofs.Laws.{zeros-more, freed}
 use Rattle.sweep.proofs.free_cell.Statement.{statement}

@@ -7,7 +7,7 @@ use lib.ListN.{length, replicate}
 use lib.Seq.{sets}
 use borrow.Author.Needs.{needs}
 use Rattle.settings.specs.Numbers.{cellWords}
-use Rattle.meaning.specs.Walk.{place}
+use Rattle.meaning.specs.Words.{place}
 use Rattle.meaning.specs.Stores.{linkField}
 use Rattle.words.specs.Shaped.{Shaped}
 use Rattle.sweep.proofs.Laws.{zeros-more, relinked}

@@ -5,7 +5,8 @@ use lib.ListN.{length}
 use Rattle.words.proofs.Laws.{field-within}
 use Rattle.paths.specs.Paths.{pathOf}
 use Rattle.paths.proofs.Laws.{zeros-in}
-use Rattle.paths.proofs.Listed.{listed-shaped, listed-walkable}
+use Rattle.words.proofs.Listed.{listed-shaped}
+use Rattle.paths.proofs.Listed.{listed-walkable}
 use Rattle.sweep.specs.Sweeping.{cellsTo}
 use Rattle.sweep.proofs.Ways.{way-less, Seeking, seeking-start, seeking-end, seeking-live, seeking-onward}
 use Rattle.sweep.proofs.Lists.{listed-reaches}

@@ -1,7 +1,7 @@
 -- `sweep::sweep` meets its contract: where the position stays the head, and where it moves, what is left is the picture of the swept state; the
 -- way out with refusal 9 is never gone, since on a list a cell owed from stands.
 use borrow.Author.Needs.{needs}
-use Rattle.paths.proofs.Listed.{listed-shaped}
+use Rattle.words.proofs.Listed.{listed-shaped}
 use Rattle.sweep.proofs.Call.{never-meets, stays-meets, moves-meets}
 use Rattle.sweep.proofs.sweep.Statement.{statement}
 use Rattle.sweep.proofs.sweep.Tie as tie

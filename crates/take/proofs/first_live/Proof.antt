@@ -4,7 +4,8 @@ use Prim.Native.Nat.{_-_}
 use native.Mathlib.Omega.{arith}
 use Rattle.meaning.specs.Reading.{read}
 use Rattle.words.proofs.Laws.{field-within}
-use Rattle.paths.proofs.Listed.{listed-shaped, listed-walkable}
+use Rattle.words.proofs.Listed.{listed-shaped}
+use Rattle.paths.proofs.Listed.{listed-walkable}
 use Rattle.take.proofs.Laws.{Passing, passing-start, passing-end, passing-here, passing-past}
 use Rattle.take.proofs.first_live.Statement.{statement}
 use Rattle.take.proofs.first_live.Tie as tie

@@ -2,7 +2,7 @@
 -- writes.
 use native.Mathlib.Omega.{arith}
 use Rattle.words.proofs.Laws.{field-within}
-use Rattle.paths.proofs.Listed.{listed-shaped}
+use Rattle.words.proofs.Listed.{listed-shaped}
 use Rattle.take.proofs.Laws.{take-none-meets, take-meets}
 use borrow.Author.Needs.{needs}
 use Rattle.take.proofs.take.Statement.{statement}

@@ -4,7 +4,7 @@ use Prim.Native.Nat.{_-_, _≤_}
 use native.Mathlib.Omega.{arith}
 use borrow.Author.Needs.{needs}
 use borrow.Author.Tests.{eq-eqb, ne-eqb}
-use Rattle.meaning.specs.Walk.{coordinateAt}
+use Rattle.meaning.specs.Words.{coordinateAt}
 use Rattle.tree.specs.Tree.{allFrom, follows}
 use Rattle.is_list.proofs.Laws.{all-start, all-next, all-fails, all-done}
 use Rattle.is_list.proofs.OneCell.{sameCoordinate}

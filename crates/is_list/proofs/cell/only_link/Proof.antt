@@ -8,7 +8,7 @@ use lib.Dec.{eqb}
 use lib.ListN.{getD}
 use borrow.Author.Needs.{needs}
 use borrow.Author.Tests.{eq-eqb, ne-eqb}
-use Rattle.meaning.specs.Walk.{linkAt}
+use Rattle.meaning.specs.Words.{linkAt}
 use Rattle.words.proofs.Laws.{shaped-dimensions}
 use Rattle.tree.specs.Tree.{allFrom}
 use Rattle.is_list.specs.Parts.{linkIs, onlyLink}

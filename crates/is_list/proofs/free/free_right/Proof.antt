@@ -6,7 +6,7 @@ use lib.ListN.{getD}
 use borrow.Author.Needs.{needs}
 use borrow.Author.Tests.{eq-eqb, ne-eqb}
 use Rattle.settings.specs.Numbers.{cellWords}
-use Rattle.meaning.specs.Walk.{wordAt}
+use Rattle.meaning.specs.Words.{wordAt}
 use Rattle.words.proofs.Laws.{shaped-dimensions, shaped-cells}
 use Rattle.tree.specs.Tree.{allFrom}
 use Rattle.is_list.proofs.Laws.{all-next, all-fails, all-done}

@@ -6,7 +6,7 @@ use native.Mathlib.Omega.{arith}
 use lib.ListN.{getD}
 use borrow.Author.Needs.{needs}
 use borrow.Author.Tests.{eq-eqb, ne-eqb}
-use Rattle.meaning.specs.Walk.{coordinateAt}
+use Rattle.meaning.specs.Words.{coordinateAt}
 use Rattle.words.proofs.Laws.{shaped-dimensions}
 use Rattle.tree.specs.Tree.{allFrom}
 use Rattle.is_list.specs.Parts.{headCoordinatesRight}

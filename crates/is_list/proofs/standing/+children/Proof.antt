@@ -7,7 +7,7 @@ use borrow.Author.Needs.{needs}
 use borrow.Author.Tests.{not-true, not-false}
 use borrow.Fn.Kinds.{In}
 use borrow.Fn.PlainCycle.{Measures, is, falls, and}
-use Rattle.meaning.specs.Walk.{owedAt}
+use Rattle.meaning.specs.Words.{owedAt}
 use Rattle.words.proofs.link_read.Reads as link-read-reads
 use Rattle.is_list.specs.Parts.{SeenWithin}
 use Rattle.is_list.proofs.InOrder.{Going, children-none, children-along, goes-wrong, goes-out, goes-bad, goes-on}
