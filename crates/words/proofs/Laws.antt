@@ -3,13 +3,13 @@
 use mathlib.Core.Path.{_≡_, refl, sym, ap, _∙_}
 use mathlib.Core.Bool.{cond, and-false}
 use mathlib.Core.List.{List, [], _∷_, _++_, append-assoc, append-nil}
-use Prim.Native.Nat.{ℕ, suc, _+_, _-_, _/_, _%_, _≤_, _<_}
+use Prim.Native.Nat.{ℕ, zero, suc, _+_, _-_, _/_, _%_, _≤_, _<_}
 use native.Mathlib.Nat.{suc-mul, mul-le-mul-right}
 use native.Mathlib.Numerals.{add-one}
 use native.Mathlib.Omega.{arith}
 use lib.Dec.{eqb, ltb}
-use lib.ListN.{length, getD, take, drop, set, length-set, length-append, length-drop}
-use lib.Seq.{drop-cons, drop-drop, take-at, drop-set-lt, getD-set-same, getD-set-other, lt-length-set, drop-length, length-take-le, sets, sets-eq}
+use lib.ListN.{length, getD, take, drop, set, replicate, length-set, length-append, length-drop, length-replicate, drop-of-length-le}
+use lib.Seq.{set-at, drop-cons, drop-drop, take-at, drop-set-lt, getD-set-same, getD-set-other, lt-length-set, drop-length, length-take-le, sets, sets-eq}
 use borrow.Author.Tests.{lt-ltb, le-ltb, le-leb, lt-leb, eq-eqb, ne-eqb}
 use borrow.Rule.Slice.PartMut.{midOf, putMid, mid-len}
 use Rattle.settings.specs.Numbers.{fieldsBeforeCoordinates, cellWords, lengthOf, mostDimensions, mostCells}
@@ -121,6 +121,23 @@ part-written ws ys D x j n {start} {end} p q h long =
     let k : start + (end - start) ≡ start + length ys = omega arith in
     rw (← p, drop-drop (end - start) start ws, k)
     (sym (sets-eq ys ws start (omega arith) ∙ append-assoc (take start ws) ys (drop (start + length ys) ws)))
+
+-- Words filled
+
+fills-more : (i v : ℕ) (l : List ℕ) → replicate i v ++ (v ∷ l) ≡ replicate (suc i) v ++ l
+fills-more zero v l = refl
+fills-more (suc i) v l = ap (λ (m : List ℕ). v ∷ m) (fills-more i v l)
+
+-- the first i words are v, the others as they were
+pub filled-more :
+    (v : ℕ) (l : List ℕ) (i : ℕ) → i < length l → set (replicate i v ++ drop i l) i v ≡ replicate (i + 1) v ++ drop (i + 1) l
+filled-more v l i h =
+    rw (add-one i, drop-cons l i 0 h, set-at (replicate i v) _ (drop (suc i) l) v i (length-replicate {A = ℕ} i v)) (fills-more i v (drop (suc i) l))
+
+pub filled-all : (v : ℕ) (l : List ℕ) (i : ℕ) → i ≡ length l → replicate i v ++ drop i l ≡ replicate (length l) v
+filled-all v l i e =
+    let h : length l ≤ i = omega arith in
+    rw (drop-of-length-le l h, append-nil {A = ℕ} (replicate i v), e) refl
 
 -- Links read through what is owed
 

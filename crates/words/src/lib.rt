@@ -3,7 +3,7 @@
 // cell's word hands that on.
 ghost use mathlib.Core.Path.{_≡_};
 ghost use Prim.Native.Nat.{_<_, _≤_};
-ghost use lib.ListN.{length, take};
+ghost use lib.ListN.{length, take, replicate};
 ghost use Rattle.settings.specs.Numbers.{mostDimensions, mostCells};
 ghost use Rattle.meaning.specs.Keys.{coordinates};
 ghost use Rattle.meaning.specs.Words.{wordAt, owedAt, coordinateAt, linkAt};
@@ -57,6 +57,17 @@ pub fn store(list: &mut [u32], s: Settings, x: u32, j: u32, v: u32)
 {
     let at = place(s, x, j);
     list[at] = v;
+}
+
+// Every word of a part becomes v.
+pub fn fill(part: &mut [u32], v: u32)
+    ensures { λ r. ⌜ now (part .exit) ≡ replicate (length (now (part .entry))) v ⌝ }
+{
+    let mut i = 0;
+    while i < part.len() {
+        part[i] = v;
+        i += 1;
+    }
 }
 
 // Coordinate d of cell x, as its word has it.
