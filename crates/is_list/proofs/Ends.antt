@@ -7,48 +7,26 @@ use native.Mathlib.Nat.{sub-zero}
 use native.Mathlib.Omega.{arith}
 use lib.Dec.{eqb}
 use lib.ListN.{length, getD}
-use borrow.Author.Tests.{not-true, lt-ltb, le-ltb, eq-eqb, ne-eqb}
-use Rattle.settings.specs.Numbers.{cellWords, lengthOf, inRange}
+use borrow.Author.Tests.{not-true, eq-eqb, ne-eqb}
+use Rattle.settings.specs.Numbers.{lengthOf, inRange}
 use Rattle.settings.specs.Base.{isBase}
 use Rattle.settings.specs.declared.Settings.{Settings}
-use Rattle.meaning.specs.Words.{wordAt, keyAt, valueAt, markAt, owedAt, lowAt, highAt, coordinateAt}
+use Rattle.meaning.specs.Words.{wordAt}
 use Rattle.meaning.specs.Reading.{settingsAt}
 use Rattle.meaning.proofs.Order.{both, and-both}
 use Rattle.words.specs.Shaped.{Shaped}
 use Rattle.words.proofs.Laws.{shaped-dimensions, shaped-cells}
 use Rattle.tree.specs.declared.Seen.{Seen}
-use Rattle.tree.specs.Tree.{allFrom, pathRun, positionWord, headRight, atHead, freeRight, chainRight, headerRight, seenAll, accepts}
-use Rattle.tree.proofs.AcceptedTests.{header-right, Head, head-right}
+use Rattle.tree.specs.Tree.{pathRun, positionWord, headRight, atHead, freeRight, chainRight, headerRight, seenAll, accepts}
+use Rattle.tree.proofs.AcceptedTests.{header-right}
 use Rattle.tree.proofs.Tree.{accepts-is-list}
 use Rattle.is_list.specs.declared.Reading.{Reading}
 use Rattle.is_list.specs.declared.Reading.the-variants as variants
-use Rattle.is_list.specs.Parts.{headCoordinatesRight, headerOf, Children}
+use Rattle.is_list.specs.Parts.{headerOf, Children}
 use Rattle.is_list.specs.Reading.{readingOf}
-use Rattle.is_list.proofs.Laws.{refuted}
+use Rattle.cells.proofs.Laws.{refuted}
 
 -- The head
-
--- coordinate d of cell x is 0
-abbrev pub zeroCoordinate : List ℕ → ℕ → ℕ → Bool
-zeroCoordinate ws x d = eqb (coordinateAt ws x d) 0
-
-pub head-not : (ws : List ℕ) → (Head ws → ⊥) → false ≡ headRight ws
-head-not ws never = sym (refuted (headRight ws) (λ t. never (head-right ws t)))
-
-pub head-coordinates :
-    (ws : List ℕ) → keyAt ws 0 ≡ 0 → valueAt ws 0 ≡ 0 → markAt ws 0 ≡ 2 → owedAt ws 0 ≡ 0 → lowAt ws 0 ≡ 0 → highAt ws 0 ≡ 0 →
-    headRight ws ≡ headCoordinatesRight ws
-unfolding headRight
-head-coordinates ws key value mark owed low high =
-    rw (
-      eq-eqb (keyAt ws 0) 0 key,
-      eq-eqb (valueAt ws 0) 0 value,
-      eq-eqb (markAt ws 0) 2 mark,
-      eq-eqb (owedAt ws 0) 0 owed,
-      eq-eqb (lowAt ws 0) 0 low,
-      eq-eqb (highAt ws 0) 0 high,
-    )
-    refl
 
 module _ {ws : List ℕ} {s : Settings} (h : Shaped ws s) {agreed : ℕ} (run : agreed ≡ pathRun ws 0 0 (s .dimensions - 0)) where
   pub head-elsewhere :
@@ -63,18 +41,6 @@ module _ {ws : List ℕ} {s : Settings} (h : Shaped ws s) {agreed : ℕ} (run : 
   head-position here = rw (eq-eqb (positionWord ws) 0 here, run, sub-zero (s .dimensions), ← shaped-dimensions h, ← shaped-cells h) refl
 
 -- The free cells
-
--- word j of cell x is 0
-abbrev pub zeroWord : List ℕ → ℕ → ℕ → Bool
-zeroWord ws x j = eqb (wordAt ws x j) 0
-
-pub free-outside : (ws : List ℕ) (c : ℕ) → getD ws 2 0 ≤ c → freeRight ws c ≡ false
-unfolding freeRight
-free-outside ws c h = rw (le-ltb c (getD ws 2 0) h) refl
-
-pub free-inside : (ws : List ℕ) (c : ℕ) → c < getD ws 2 0 → freeRight ws c ≡ allFrom (zeroWord ws c) 1 (cellWords (getD ws 0 0) - 1)
-unfolding freeRight
-free-inside ws c h = rw (lt-ltb c (getD ws 2 0) h) refl
 
 module _ (ws : List ℕ) (c : ℕ) where
   pub chain-more :

@@ -1,22 +1,22 @@
 -- The cells in order, as the code reads them: the path's words beside the way down, a cell entered, and the children of a cell.
-use mathlib.Core.Path.{_≡_, refl, sym, _∙_}
-use mathlib.Core.Bool.{Bool, true, false, cond, _&&_, _||_, not, and-assoc, or-true, or-false, false≢true}
+use mathlib.Core.Path.{_≡_, refl, sym, ap, _∙_}
+use mathlib.Core.Bool.{Bool, true, false, cond, _||_, not, or-true, or-false, false≢true}
 use mathlib.Core.List.{List}
 use Prim.Native.Nat.{ℕ, zero, suc, _+_, _-_, _≤_, _<_}
 use native.Mathlib.Numerals.{add-one}
 use native.Mathlib.Omega.{arith}
 use lib.Dec.{eqb}
 use lib.ListN.{getD}
-use borrow.Author.Tests.{lt-ltb, le-ltb, eq-eqb, ne-eqb}
+use borrow.Author.Tests.{eqb-true, lt-ltb, le-ltb, eq-eqb, ne-eqb}
 use Rattle.settings.specs.Numbers.{headerWords}
 use Rattle.settings.specs.declared.Settings.{Settings}
 use Rattle.meaning.specs.Walk.{linkRead}
 use Rattle.words.specs.Shaped.{Shaped}
 use Rattle.words.proofs.Laws.{shaped-dimensions, shaped-cells}
 use Rattle.tree.specs.declared.Seen.{Seen}
-use Rattle.tree.specs.Tree.{pathRun, agreedAt, positionWord, cellRight, wrong, entered, along, children}
-use Rattle.is_list.specs.Parts.{cellAloneRight, SeenWithin, Entered, Children}
-use Rattle.is_list.proofs.OneCell.{alone, alone-owed}
+use Rattle.tree.specs.Tree.{pathRun, agreedAt, positionWord, cellAloneRight, cellRight, wrong, entered, along, children}
+use Rattle.is_list.specs.Parts.{SeenWithin, Entered, nextLink, Children}
+use Rattle.cells.proofs.OneCell.{alone, alone-owed}
 
 -- The path
 
@@ -37,6 +37,27 @@ module _ (ws : List ℕ) (y : ℕ) {i n : ℕ} where
   unfolding pathRun
   run-all h =
       let k : n - i ≡ 0 = omega arith in
+      rw k refl
+
+-- The links of a cell
+
+module _ (ws : List ℕ) (x : ℕ) {d n : ℕ} where
+  pub link-next : d < n → linkRead ws x d ≡ 0 → nextLink ws x d (n - d) ≡ nextLink ws x (d + 1) (n - (d + 1))
+  unfolding nextLink
+  link-next h e =
+      let k : n - d ≡ suc (n - (d + 1)) = omega arith in
+      rw (k, eq-eqb (linkRead ws x d) 0 e, add-one d) refl
+
+  pub link-here : d < n → (linkRead ws x d ≡ 0 → ⊥) → nextLink ws x d (n - d) ≡ d
+  unfolding nextLink
+  link-here h some =
+      let k : n - d ≡ suc (n - (d + 1)) = omega arith in
+      rw (k, ne-eqb (linkRead ws x d) 0 some) refl
+
+  pub link-none : n ≤ d → nextLink ws x d (n - d) ≡ d
+  unfolding nextLink
+  link-none h =
+      let k : n - d ≡ 0 = omega arith in
       rw k refl
 
 pub agreed-before : (ws : List ℕ) (y : ℕ) {e agreed : ℕ} → agreed < e → agreedAt ws y e agreed ≡ agreed
@@ -61,35 +82,31 @@ module _ (ws : List ℕ) (y e : ℕ) (seen : Seen) where
   abbrev path-right : Bool
   path-right = not (eqb y (positionWord ws)) || eqb (agreedAt ws y e (seen .agreed)) (getD ws 0 0)
 
-  cell-is : cellRight ws y e seen ≡ (cellAloneRight ws y e seen && path-right)
-  unfolding cellRight
-  cell-is = simp and-assoc refl
-
   pub enter-not : cellAloneRight ws y e seen ≡ false → entered ws y e seen ≡ wrong seen
-  unfolding entered
-  enter-not h = rw (cell-is, h) refl
+  unfolding entered cellRight
+  enter-not h = rw h refl
 
   pub enter-lost :
       cellAloneRight ws y e seen ≡ true → y ≡ positionWord ws → (agreedAt ws y e (seen .agreed) ≡ getD ws 0 0 → ⊥) →
       entered ws y e seen ≡ wrong seen
-  unfolding entered
+  unfolding entered cellRight
   enter-lost h here off =
-      rw (cell-is, h, eq-eqb y (positionWord ws) here, ne-eqb (agreedAt ws y e (seen .agreed)) (getD ws 0 0) off) refl
+      rw (h, eq-eqb y (positionWord ws) here, ne-eqb (agreedAt ws y e (seen .agreed)) (getD ws 0 0) off) refl
 
   pub enter-position :
       {agreed : ℕ} → cellAloneRight ws y e seen ≡ true → y ≡ positionWord ws → agreed ≡ agreedAt ws y e (seen .agreed) →
       agreed ≡ getD ws 0 0 →
       entered ws y e seen ≡ record { right = true; left = seen .left - 1; last = y; agreed = agreed; passed = true }
-  unfolding entered
+  unfolding entered cellRight
   enter-position {agreed} h here q on =
-      rw (cell-is, h, ← q, eq-eqb y (positionWord ws) here, eq-eqb agreed (getD ws 0 0) on, or-true (seen .passed)) refl
+      rw (h, ← q, eq-eqb y (positionWord ws) here, eq-eqb agreed (getD ws 0 0) on, or-true (seen .passed)) refl
 
   pub enter-other :
       {agreed : ℕ} → cellAloneRight ws y e seen ≡ true → (y ≡ positionWord ws → ⊥) → agreed ≡ agreedAt ws y e (seen .agreed) →
       entered ws y e seen ≡ record { right = true; left = seen .left - 1; last = y; agreed = agreed; passed = seen .passed }
-  unfolding entered
+  unfolding entered cellRight
   enter-other {agreed} h other q =
-      rw (cell-is, h, ← q, ne-eqb y (positionWord ws) other, or-false (seen .passed)) refl
+      rw (h, ← q, ne-eqb y (positionWord ws) other, or-false (seen .passed)) refl
 
 module _ {ws : List ℕ} {s : Settings} (h : Shaped ws s) (y e : ℕ) (seen : Seen) (within : SeenWithin s seen) where
   pub entered-wrong : {r : Seen} → r ≡ wrong seen → entered ws y e seen ≡ wrong seen → Entered ws s y e seen r
@@ -157,6 +174,56 @@ along-is higher ws e zero x seen pos p q r = absurd (omega arith)
 along-is higher ws e (suc n) x seen pos p q r =
     let k : suc n - 1 ≡ n = omega arith in
     rw (r, q, p, k) refl
+
+-- where x has no link from number e up to d, its children by links from e on are those by links from d on
+
+along-none :
+    (higher : ℕ → Seen → Seen) (ws : List ℕ) (e fuel x : ℕ) (seen : Seen) → 0 < fuel → linkRead ws x e ≡ 0 →
+    along higher ws e fuel x seen ≡ higher x seen
+along-none higher ws e fuel x seen pos none =
+    along-is higher ws e fuel x seen pos refl refl refl ∙ rw (eq-eqb (linkRead ws x e) 0 none) (same (higher x seen .right))
+  where
+    same : (right : Bool) → cond right (higher x seen) (higher x seen) ≡ higher x seen
+    same true = refl
+    same false = refl
+
+along-from :
+    (ws : List ℕ) (x fuel : ℕ) (seen : Seen) (n e : ℕ) → getD ws 0 0 ≡ e + suc n →
+    children fuel ws (suc n) x seen ≡ along (children fuel ws n) ws e fuel x seen
+unfolding children
+along-from ws x fuel seen n e q =
+    let k : getD ws 0 0 - suc n ≡ e = omega arith in
+    rw k refl
+
+skips :
+    (ws : List ℕ) (x fuel : ℕ) (seen : Seen) → 0 < fuel → (n e d : ℕ) → getD ws 0 0 ≡ e + n → d ≡ nextLink ws x e n →
+    children fuel ws n x seen ≡ children fuel ws (getD ws 0 0 - d) x seen
+unfolding nextLink
+skips ws x fuel seen pos zero e d q p =
+    let k : getD ws 0 0 - d ≡ 0 = omega arith in
+    rw k refl
+skips ws x fuel seen pos (suc n) e d q p = at (eqb (linkRead ws x e) 0) refl p (skips ws x fuel seen pos n (suc e) d (omega arith))
+  where
+    at : (t : Bool) → eqb (linkRead ws x e) 0 ≡ t → d ≡ cond t (nextLink ws x (suc e) n) e →
+        (d ≡ nextLink ws x (suc e) n → children fuel ws n x seen ≡ children fuel ws (getD ws 0 0 - d) x seen) →
+        children fuel ws (suc n) x seen ≡ children fuel ws (getD ws 0 0 - d) x seen
+    at true f r more =
+        along-from ws x fuel seen n e q ∙ along-none (children fuel ws n) ws e fuel x seen pos (eqb-true (linkRead ws x e) 0 f) ∙ more r
+    at false f r more =
+        let k : getD ws 0 0 - d ≡ suc n = omega arith in
+        rw k refl
+
+pub children-skip :
+    {ws : List ℕ} {s : Settings} → Shaped ws s → {e x d : ℕ} {seen r : Seen} → e ≤ s .dimensions → d ≡ nextLink ws x e (s .dimensions - e) →
+    Children ws s d x seen r → Children ws s e x seen r
+children-skip {ws} {s} h {e} {x} {d} {seen} {r} he p c =
+    let D = shaped-dimensions h in
+    record {
+      is = λ fuel enough.
+          c .is fuel enough ∙ sym (skips ws x fuel seen (omega arith) (s .dimensions - e) e d (omega arith) p ∙ ap (λ n. children fuel ws (n - d) x seen) D);
+      within = c .within;
+      falls = c .falls;
+    }
 
 module _ (ws : List ℕ) (s : Settings) (e x : ℕ) (seen : Seen) (at : ℕ) (read : Seen) (fuel : ℕ) {t : Seen}
     (g : Going ws s e x seen at read fuel) (is : t ≡ children fuel ws (s .dimensions - (e + 1)) at read) where

@@ -1,26 +1,8 @@
 // The free cells, chained through their first words.
 ghost use mathlib.Core.Path.{_≡_};
 ghost use Rattle.words.specs.Shaped.{Shaped};
-ghost use Rattle.tree.specs.Tree.{freeRight, chainRight};
+ghost use Rattle.tree.specs.Tree.{chainRight};
 use settings::Settings;
-
-// Whether cell c is one of the list's and its words after the first are 0.
-fn free_right(list: &[u32], s: Settings, c: u32) -> bool
-    requires { ⌜ Shaped (now list) s ⌝ }
-    ensures { λ r. ⌜ r ≡ freeRight (now (list .entry)) c ⌝ }
-{
-    if s.cells <= c {
-        return false;
-    }
-    let mut j: u32 = 1;
-    while j < 6 + 2 * s.dimensions {
-        if words::word(list, s, c, j) != 0 {
-            return false;
-        }
-        j += 1;
-    }
-    true
-}
 
 // Whether the chain from cell `first` has n free cells and then ends in 0.
 pub fn chain_right(list: &[u32], s: Settings, n: u32, first: u32) -> bool
@@ -30,7 +12,7 @@ pub fn chain_right(list: &[u32], s: Settings, n: u32, first: u32) -> bool
     let mut c = first;
     let mut left = n;
     while 0 < left {
-        if !free_right(list, s, c) {
+        if !cells::free::free_right(list, s, c) {
             return false;
         }
         c = words::word(list, s, c, words::KEY);

@@ -5,9 +5,8 @@ ghost use Rattle.is_list.specs.Reading.{readingOf};
 ghost use Rattle.is_list.specs.Parts.{headerOf};
 use settings::Settings;
 
-mod cell; // cell.rt: one standing cell, after the one read before it
-mod standing; // standing.rt: the standing cells in order, with the path
-mod head; // head.rt: the head, where the reading starts
+mod path; // path.rt: the words of path beside the way down
+mod standing; // standing.rt: the standing cells in order, from the head on
 mod free; // free.rt: the chain of free cells
 
 // What the check answers: the settings of a list, or the case that document 01 gives number 3.
@@ -49,10 +48,10 @@ pub fn is_list(list: &[u32]) -> Reading
     let Reading::List(s) = header(list) else {
         return Reading::NotAList;
     };
-    if !head::head_right(list, s) {
+    if !cells::head::head_right(list, s) {
         return Reading::NotAList;
     }
-    let start = head::at_head(list, s);
+    let start = standing::at_head(list, s);
     if !start.right {
         return Reading::NotAList;
     }

@@ -15,17 +15,17 @@ use Rattle.settings.proofs.Laws.{Ranges, ranges, is-base}
 use Rattle.meaning.specs.Words.{wordAt, keyAt, valueAt, markAt, owedAt, lowAt, highAt, coordinateAt, linkAt}
 use Rattle.meaning.proofs.Order.{All, both}
 use Rattle.tree.specs.declared.Seen.{Seen}
-use Rattle.tree.specs.Tree.{allFrom, writesKey, follows, entryRight, dueTo, linksBelow, debtRight, agreedAt, positionWord, cellRight, headRight, freeRight, headerRight}
+use Rattle.tree.specs.Tree.{allFrom, writesKey, follows, entryRight, dueTo, linksBelow, debtRight, agreedAt, positionWord, cellAloneRight, cellRight, headRight, freeRight, headerRight}
 
 -- Tests of several parts
 
 -- tests that hold together
-abbrev joined : List Bool → Bool
+abbrev pub joined : List Bool → Bool
 joined [] = true
 joined (t ∷ []) = t
 joined (t ∷ u ∷ ts) = t && joined (u ∷ ts)
 
-joined-all : (ts : List Bool) → joined ts ≡ true → All (λ t. t ≡ true) ts
+pub joined-all : (ts : List Bool) → joined ts ≡ true → All (λ t. t ≡ true) ts
 joined-all [] e = tt
 joined-all (t ∷ []) e = (e, tt)
 joined-all (t ∷ u ∷ ts) e = let h = both t (joined (u ∷ ts)) e in (h .0, joined-all (u ∷ ts) (h .1))
@@ -52,6 +52,7 @@ pub record Owing (ws : List ℕ) (x y e : ℕ) : Type 0 where
   pub low : lowAt ws y ≡ e
   pub high : e < highAt ws y
   pub inside : highAt ws y < getD ws 0 0
+  pub cell : owedAt ws y < getD ws 2 0
   pub links : (d : ℕ) → d < getD ws 0 0 → linkAt ws y d ≡ cond (eqb d (highAt ws y)) (owedAt ws y) 0
 
 -- of a cell y, met by link e, when `s` has been seen
@@ -68,7 +69,7 @@ pub record Right (ws : List ℕ) (s : Seen) (y e : ℕ) : Type 0 where
   pub owing : (owedAt ws y ≡ 0 → ⊥) → Owing ws (s .last) y e
   pub path : y ≡ positionWord ws → agreedAt ws y e (s .agreed) ≡ getD ws 0 0
 
-owing-right : (ws : List ℕ) (x y e : ℕ) → debtRight ws x y e ≡ true → (owedAt ws y ≡ 0 → ⊥) → Owing ws x y e
+pub owing-right : (ws : List ℕ) (x y e : ℕ) → debtRight ws x y e ≡ true → (owedAt ws y ≡ 0 → ⊥) → Owing ws x y e
 unfolding debtRight
 owing-right ws x y e h ne =
     let links : ℕ → Bool = λ d. eqb (linkAt ws y d) (cond (eqb d (highAt ws y)) (owedAt ws y) 0) in
@@ -80,6 +81,7 @@ owing-right ws x y e h ne =
       low = eqb-true (lowAt ws y) e (t .1 .0);
       high = ltb-true e (highAt ws y) (t .1 .1 .0);
       inside = ltb-true (highAt ws y) (getD ws 0 0) (t .1 .1 .1 .0);
+      cell = ltb-true (owedAt ws y) (getD ws 2 0) (t .1 .1 .1 .1 .0);
       links = λ d l. eqb-true (linkAt ws y d) (cond (eqb d (highAt ws y)) (owedAt ws y) 0) (all-from links 0 (getD ws 0 0) d (t .1 .1 .1 .1 .1 .0) (omega arith) (omega arith));
     }
 
@@ -117,8 +119,9 @@ cell-right ws y e s h =
     let x = s .last in
     let agreed = agreedAt ws y e (s .agreed) in
     let alike : ℕ → Bool = λ d. eqb (coordinateAt ws y d) (coordinateAt ws x d) in
+    let p = both (cellAloneRight ws y e s) (not (eqb y (positionWord ws)) || eqb agreed (getD ws 0 0)) h in
     let t = joined-all (ltb 0 (s .left) ∷ ltb y (getD ws 2 0) ∷ follows ws x y e ∷ writesKey ws y ∷ entryRight ws y (s .passed) ∷
-    linksBelow ws x y e ∷ debtRight ws x y e ∷ (not (eqb y (positionWord ws)) || eqb agreed (getD ws 0 0)) ∷ []) h in
+    linksBelow ws x y e ∷ debtRight ws x y e ∷ []) (p .0) in
     let f = both (allFrom alike 0 e) (ltb (coordinateAt ws x e) (coordinateAt ws y e)) (t .1 .1 .0) in
     let entry = entry-right ws y (s .passed) (t .1 .1 .1 .1 .0) in
     record {
@@ -132,7 +135,7 @@ cell-right ws y e s h =
       below = below-right ws x y e (t .1 .1 .1 .1 .1 .0);
       unowing = unowing-right ws x y e (t .1 .1 .1 .1 .1 .1 .0);
       owing = owing-right ws x y e (t .1 .1 .1 .1 .1 .1 .0);
-      path = λ q. eqb-true agreed (getD ws 0 0) (rw (eq-eqb y (positionWord ws) q) at (t .1 .1 .1 .1 .1 .1 .1 .0));
+      path = λ q. eqb-true agreed (getD ws 0 0) (rw (eq-eqb y (positionWord ws) q) at (p .1));
     }
 
 -- The header and the head

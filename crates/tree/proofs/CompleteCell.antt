@@ -364,13 +364,14 @@ module _ (ws : List ℕ) (key : ℕ) (x : Entry) (e : ℕ) (a : Entry) (f : ℕ)
       cellRight ws (y .cell) (second .dimension) (seenBefore (getD ws 3 0) (getD ws 0 0) key free second) ≡ true
   unfolding cellRight
   cell-right free pos some s t gap =
-      and-then (lt-ltb 0 (suc (length later) + free) (omega arith))
+      and-then
+      (and-then (lt-ltb 0 (suc (length later) + free) (omega arith))
       (and-then (lt-ltb (y .cell) (getD ws 2 0) (t .cell))
       (and-then (cell-follows pos s t)
       (and-then (writes-key ws key second pos t)
       (and-then (entry-right ws key second t gap)
-      (and-then (links-below s t)
-      (and-then (debt-right pos some s t) (position-agreed pos some t)))))))
+      (and-then (links-below s t) (debt-right pos some s t)))))))
+      (position-agreed pos some t)
 
   pub enters-after : (free : ℕ) → 0 < getD ws 3 0 → 0 < getD ws 0 0 → Shown ws key first → Shown ws key second →
       (key ≤ x .key) ⊎ (y .key ≤ key) →

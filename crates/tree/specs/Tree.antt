@@ -78,17 +78,21 @@ agreedAt ws y e agreed = cond (ltb agreed e) agreed (pathRun ws y e (getD ws 0 0
 abbrev pub positionWord : List ℕ → ℕ
 positionWord ws = getD ws (headerWords + getD ws 0 0 - 1) 0
 
--- cell y, met by link e, is right after what has been seen; where it is the position, all path words agree
-unfoldable pub cellRight : List ℕ → ℕ → ℕ → Seen → Bool
-cellRight ws y e s =
+-- cell y, met by link e, is right after what has been seen, but for the path
+abbrev pub cellAloneRight : List ℕ → ℕ → ℕ → Seen → Bool
+cellAloneRight ws y e s =
     ltb 0 (s .left)
     && (ltb y (getD ws 2 0)
     && (follows ws (s .last) y e
     && (writesKey ws y
     && (entryRight ws y (s .passed)
     && (linksBelow ws (s .last) y e
-    && (debtRight ws (s .last) y e
-    && (not (eqb y (positionWord ws)) || eqb (agreedAt ws y e (s .agreed)) (getD ws 0 0))))))))
+    && debtRight ws (s .last) y e)))))
+
+-- .. and where it is the position, all path words agree
+unfoldable pub cellRight : List ℕ → ℕ → ℕ → Seen → Bool
+cellRight ws y e s =
+    cellAloneRight ws y e s && (not (eqb y (positionWord ws)) || eqb (agreedAt ws y e (s .agreed)) (getD ws 0 0))
 
 abbrev pub wrong : Seen → Seen
 wrong s = record { right = false; left = s .left; last = s .last; agreed = s .agreed; passed = s .passed }

@@ -3,7 +3,7 @@ use native.Mathlib.Omega.{arith}
 use lib.ListN.{getD}
 use borrow.Author.Needs.{needs}
 use Rattle.settings.proofs.Laws.{ranges}
-use Rattle.is_list.proofs.Laws.{holds}
+use Rattle.cells.proofs.Laws.{holds}
 use Rattle.is_list.proofs.Ends.{header-short, header-range, header-length, header-base, header-list}
 use Rattle.is_list.proofs.header.Statement.{statement}
 use Rattle.is_list.proofs.header.Tie as tie

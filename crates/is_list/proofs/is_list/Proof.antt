@@ -8,7 +8,7 @@ use borrow.Author.Needs.{needs}
 use Rattle.tree.specs.declared.Seen.{Seen}
 use Rattle.tree.specs.Tree.{headRight, chainRight, seenAll}
 use Rattle.tree.proofs.AcceptedTests.{head-right}
-use Rattle.is_list.proofs.Laws.{fails, holds}
+use Rattle.cells.proofs.Laws.{fails, holds}
 use Rattle.is_list.proofs.Ends.{Headed, headed, not-headed, refuse, accept, all-seen}
 use Rattle.is_list.proofs.is_list.Statement.{statement}
 use Rattle.is_list.proofs.is_list.Tie as tie

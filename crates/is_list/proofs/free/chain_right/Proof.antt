@@ -6,7 +6,7 @@ use borrow.Author.Needs.{needs}
 use Rattle.words.proofs.Laws.{shaped-cells, field-within}
 use Rattle.tree.specs.Tree.{chainRight, freeRight}
 use Rattle.tree.proofs.AcceptedTests.{free-right}
-use Rattle.is_list.proofs.Laws.{holds, lacks}
+use Rattle.cells.proofs.Laws.{holds, lacks}
 use Rattle.is_list.proofs.Ends.{chain-more, chain-broken, chain-end}
 use Rattle.is_list.proofs.free.chain_right.Statement.{statement}
 use Rattle.is_list.proofs.free.chain_right.Tie as tie

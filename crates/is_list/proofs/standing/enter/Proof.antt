@@ -5,9 +5,9 @@ use mathlib.Core.Path.{_≡_}
 use native.Mathlib.Omega.{arith}
 use borrow.Author.Needs.{needs}
 use Rattle.words.proofs.Laws.{shaped-dimensions}
-use Rattle.is_list.specs.Parts.{cellAloneRight}
-use Rattle.is_list.proofs.Laws.{holds, lacks}
-use Rattle.is_list.proofs.OneCell.{alone}
+use Rattle.tree.specs.Tree.{cellAloneRight}
+use Rattle.cells.proofs.Laws.{holds, lacks}
+use Rattle.cells.proofs.OneCell.{alone}
 use Rattle.is_list.proofs.InOrder.{enter-not, enter-lost, enter-position, enter-other, entered-wrong, entered-right}
 use Rattle.is_list.proofs.standing.enter.Statement.{statement}
 use Rattle.is_list.proofs.standing.enter.Tie as tie
