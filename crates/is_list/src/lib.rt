@@ -55,7 +55,7 @@ pub fn is_list(list: &[u32]) -> Reading
     if !start.right {
         return Reading::NotAList;
     }
-    let seen = standing::children(list, s, 0, 0, start);
+    let seen = standing::along(list, s, 0, 0, start);
     if !seen.right {
         return Reading::NotAList;
     }

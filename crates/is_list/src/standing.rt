@@ -96,7 +96,7 @@ fn next_link(list: &[u32], s: Settings, x: u32, e: u32) -> u32
 }
 
 // The cells that hang from x by links of number d, one from the other, each after the children by higher links of the one before.
-fn along(list: &[u32], s: Settings, d: u32, x: u32, seen: Seen) -> Seen
+pub fn along(list: &[u32], s: Settings, d: u32, x: u32, seen: Seen) -> Seen
     requires { ⌜ Shaped (now list) s × ((0 < s .base) × ((d < s .dimensions) × ((x < s .cells) × ((owedAt (now list) x < s .cells) × SeenWithin s seen)))) ⌝ }
     ensures { λ r. ⌜ Children (now (list .entry)) s d x seen r ⌝ }
 {
@@ -121,7 +121,7 @@ fn along(list: &[u32], s: Settings, d: u32, x: u32, seen: Seen) -> Seen
 
 // The children of cell x by links D-1 down to e, each child's own children in turn. Links that are 0 are passed over, so a cell without
 // children costs no further call. Calls nest once for each coordinate.
-pub fn children(list: &[u32], s: Settings, e: u32, x: u32, seen: Seen) -> Seen
+fn children(list: &[u32], s: Settings, e: u32, x: u32, seen: Seen) -> Seen
     requires { ⌜ Shaped (now list) s × ((0 < s .base) × ((e ≤ s .dimensions) × ((x < s .cells) × ((owedAt (now list) x < s .cells) × SeenWithin s seen)))) ⌝ }
     ensures { λ r. ⌜ Children (now (list .entry)) s e x seen r ⌝ }
 {

@@ -4,10 +4,10 @@ use mathlib.Core.Bool.{cond}
 use mathlib.Core.List.{List, [], _∷_}
 use Prim.Native.Nat.{ℕ, zero, suc, _-_}
 use lib.Dec.{eqb}
-use lib.ListN.{length, getD, set, replicate}
+use lib.ListN.{getD, set, replicate}
 use lib.Seq.{sets}
 use Rattle.meaning.specs.Keys.{shared}
-use Rattle.meaning.specs.Picture.{firstNumber, freeWords}
+use Rattle.meaning.specs.Picture.{freeWords}
 use Rattle.meaning.specs.Words.{place, keyAt, markAt}
 use Rattle.meaning.specs.Paths.{onward, nextFrom}
 use Rattle.meaning.specs.Stores.{store, linkField, finishWords, writePath}
@@ -82,21 +82,3 @@ sweepWords ws =
     let zeros = shared (getD ws 3 0) D 0 (keyAt paid (to .cell)) in
     let between = cellsBefore C paid (to .cell) (replicate D 0) in
     cond (eqb (to .cell) 0) paid (dropFront D paid (to .cell) (to .number) (to .path) zeros between)
-
--- The same, with no list of cells at hand: the cells to free are chained through their value words before links change.
-
--- the value word of each cell but the last becomes the next one
-unfoldable pub chainValues : ℕ → List ℕ → List ℕ → List ℕ
-chainValues D ws [] = ws
-chainValues D ws (x ∷ []) = ws
-chainValues D ws (x ∷ y ∷ xs) = chainValues D (store D ws x 1 y) (y ∷ xs)
-
--- n cells become free: x, and each next one that the value word of the one before holds
-unfoldable pub freeChained : ℕ → List ℕ → ℕ → ℕ → List ℕ
-freeChained D ws x zero = ws
-freeChained D ws x (suc n) = freeChained D (freeCell D ws x) (getD ws (place D x 1) 0) n
-
-unfoldable pub dropChained : ℕ → List ℕ → ℕ → ℕ → List ℕ → ℕ → List ℕ → List ℕ
-dropChained D ws x number path z between =
-    let relinked = relinkHead D (takeLinks D (chainValues D ws between) x path z (number - z)) x z in
-    writePath (freeChained D relinked (firstNumber between) (length between)) (onward D (replicate D 0) z x)

@@ -18,9 +18,10 @@ use Rattle.meaning.proofs.SweepWords.{swept-paid, swept-stays}
 use Rattle.meaning.proofs.Outcomes.{sweep-outcome}
 use Rattle.finish.proofs.Debts.{listed-owes}
 use Rattle.words.proofs.Listed.{on-listed}
-use Rattle.sweep.specs.declared.Target as code
-use Rattle.sweep.specs.Sweeping.{someOwesFrom, Paid, targetOf, sweptTo, cellsUpTo, Moves, droppedTo}
-use Rattle.sweep.proofs.Lists.{paid-read, target-read, moves-count, moves-swept}
+use Rattle.free_between.specs.declared.Target as code
+use Rattle.free_between.specs.Between.{cellsUpTo, droppedTo}
+use Rattle.sweep.specs.Sweeping.{someOwesFrom, Paid, targetOf, sweptTo}
+use Rattle.sweep.proofs.Lists.{Moves, paid-read, target-read, moves-count, moves-swept}
 
 -- refusal 9's test is never met
 

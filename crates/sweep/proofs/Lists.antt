@@ -11,12 +11,12 @@ use Rattle.settings.specs.declared.Settings.{Settings}
 use Rattle.meaning.specs.Keys.{coordinate, shared}
 use Rattle.meaning.specs.Row.{Entry, headEntry}
 use Rattle.meaning.specs.State.{State}
-use Rattle.meaning.specs.Picture.{firstNumber, picture}
+use Rattle.meaning.specs.Picture.{picture}
 use Rattle.meaning.specs.Reading.{read, Listed}
 use Rattle.meaning.specs.Words.{keyAt}
 use Rattle.meaning.specs.Operations.{paid, finished, withRow, deadFront, fromLive, lastOf, freedBy, swept}
 use Rattle.meaning.specs.Stores.{finishWords}
-use Rattle.meaning.specs.SweepStores.{Target, finishAll, cellsBefore, takeLinks, relinkHead, freeCell, chainValues, dropChained}
+use Rattle.meaning.specs.SweepStores.{Target, finishAll, cellsBefore, dropFront}
 use Rattle.meaning.proofs.Order.{All, all-map}
 use Rattle.meaning.proofs.State.{Sound, base-positive}
 use Rattle.meaning.proofs.Cells.{Distinct, free-length}
@@ -29,17 +29,16 @@ use Rattle.meaning.proofs.WalkRead.{dimensions-read}
 use Rattle.meaning.proofs.SentencesCells.{place-key, place-coordinate, placed-below}
 use Rattle.meaning.proofs.SentencesShape.{HasPlace, row-placed, key-below}
 use Rattle.meaning.proofs.PathNext.{wayTo, PathOf, head-on-way, way-next, way-end, way-on}
-use Rattle.meaning.proofs.Stores.{Exact, wordIn}
-use Rattle.meaning.proofs.SweepStores.{Dropping, takeLinks-other, relinkHead-cell, freeCell-cell}
+use Rattle.meaning.proofs.SweepStores.{Dropping}
 use Rattle.meaning.proofs.SweepFinish.{finish-cell, paid-unowing, finish-all, paid-sound, paid-owes-nothing}
-use Rattle.meaning.proofs.SweepWords.{swept-front, sweptNumber, sweptZeros, sweptPath, swept-dropping}
+use Rattle.meaning.proofs.SweepWords.{swept-front, sweptNumber, sweptZeros, sweptPath, swept-dropping, unowing-swept}
 use Rattle.meaning.proofs.SweepTarget.{before-here, before-past, target-is, freed-is}
-use Rattle.meaning.proofs.SweepChain.{Chained, chain-chained, swept-chained}
-use Rattle.paths.specs.Paths.{pathOf}
-use Rattle.words.proofs.Listed.{picture-shaped, on-listed, listed-shaped}
-use Rattle.sweep.specs.declared.Target as code
-use Rattle.sweep.specs.declared.Freed.{Freed}
-use Rattle.sweep.specs.Sweeping.{Paid, targetOf, sweptTo, cellsTo, cellsUpTo, zerosOf, Reaches, Keyed, ChainIn, ChainedUpTo, Moves, droppedTo}
+use Rattle.paths.specs.Paths.{PathIn}
+use Rattle.paths.proofs.Listed.{listed-walkable}
+use Rattle.words.proofs.Listed.{picture-shaped, on-listed}
+use Rattle.free_between.specs.declared.Target as code
+use Rattle.free_between.specs.Between.{cellsTo, cellsUpTo, Reaches, zerosOf, Keyed, Droppable, droppedTo}
+use Rattle.sweep.specs.Sweeping.{Paid, targetOf, sweptTo}
 
 -- Finishing
 
@@ -80,10 +79,17 @@ unowing-all row e = subst (All (λ x. x .owes ≡ false)) e (paid-owes-nothing r
 
 -- Going from the head
 
-all-index : (cells : List ℕ) → All (λ c. 0 < c) cells → (i : ℕ) → i < length cells → 0 < getD cells i 0
-all-index [] a i h = absurd (omega arith)
-all-index (c ∷ cells) a zero h = a .0
-all-index (c ∷ cells) a (suc i) h = all-index cells (a .1) i (omega arith)
+-- what holds of all cells, and that no two are the same, by where they are in the list of them
+all-index : (P : ℕ → Type 0) (cells : List ℕ) → All P cells → (i : ℕ) → i < length cells → P (getD cells i 0)
+all-index P [] a i h = absurd (omega arith)
+all-index P (c ∷ cells) a zero h = a .0
+all-index P (c ∷ cells) a (suc i) h = all-index P cells (a .1) i (omega arith)
+
+distinct-index : (cells : List ℕ) → Distinct cells → (i j : ℕ) → i < j → j < length cells → getD cells i 0 ≡ getD cells j 0 → ⊥
+distinct-index [] a i j h l = absurd (omega arith)
+distinct-index (c ∷ cells) a i zero h l = absurd (omega arith)
+distinct-index (c ∷ cells) a zero (suc j) h l = all-index (λ y. c ≡ y → ⊥) cells (a .0) j (omega arith)
+distinct-index (c ∷ cells) a (suc i) (suc j) h l = distinct-index cells (a .1) i j (omega arith) (omega arith)
 
 reaches-over :
     {ws : List ℕ} {s : Settings} {x : ℕ} {path cells : List ℕ} → cellsTo ws s x path ≡ cells → length cells < s .cells →
@@ -91,7 +97,7 @@ reaches-over :
 reaches-over {cells = cells} e h a =
     record {
       ends = omega (arith, ap length e);
-      standing = subst (λ l. (i : ℕ) → i < length l → 0 < getD l i 0) (sym e) (all-index cells a);
+      standing = subst (λ l. (i : ℕ) → i < length l → 0 < getD l i 0) (sym e) (all-index (λ c. 0 < c) cells a);
     }
 
 module _ (t : State) (v : Sound t) where
@@ -166,6 +172,13 @@ module _ (t : State) (v : Sound t) where
           coordinates = λ d h. place-coordinate v here d h ∙ ap (λ k. coordinate b D k d) (sym (place-key v here));
         }
 
+-- On a list on which nobody owes, t is where its sweep moves the position, and that is not the head.
+pub record Moves (ws : List ℕ) (s : Settings) (t : code.Target) : Type 0 where
+  pub paid : Paid ws s
+  pub target : targetOf t ≡ sweptTo ws s
+  pub other : t .cell ≡ 0 → ⊥
+  pub path-in : PathIn s (t .path)
+
 -- what holds in a state where nobody owes, of its picture and of where a sweep moves the position, holds of a list and the target found
 on-moves :
     (P : State → List ℕ → Settings → Target → Type 0) →
@@ -179,80 +192,49 @@ on-moves P f {t = t} m =
     subst (P u (picture u) (u .settings)) (sym found) (f u v (unowing-all (u .row) e) (λ z. other (ap (λ g. g .cell) found ∙ z))))
     (m .paid .listed) (m .paid .unowing) (targetOf t) (m .target) (m .other)
 
--- its coordinates, the way to it, the numbers of its drop, and the cells that are freed
+-- its coordinates, the way to it, and the numbers of its drop
 
-pub moves-keyed : {ws : List ℕ} {s : Settings} {t : code.Target} → Moves ws s t → Keyed ws s (t .cell)
+moves-keyed : {ws : List ℕ} {s : Settings} {t : code.Target} → Moves ws s t → Keyed ws s (t .cell)
 moves-keyed = on-moves (λ u ws s k. Keyed ws s (k .cell)) (λ u v unowing ne. keyed-read u v ne)
 
-pub moves-dropping : {ws : List ℕ} {s : Settings} {t : code.Target} → Moves ws s t →
+moves-dropping : {ws : List ℕ} {s : Settings} {t : code.Target} → Moves ws s t →
     Dropping (s .dimensions) (s .cells) (t .cell) (t .number) (zerosOf ws s (t .cell)) (cellsUpTo ws s (t .cell))
 moves-dropping =
     on-moves (λ u ws s k. Dropping (s .dimensions) (s .cells) (k .cell) (k .number) (zerosOf ws s (k .cell)) (cellsUpTo ws s (k .cell)))
     (λ u v unowing ne. rw (zeros-read u v ne, freed-read u v ne) (swept-dropping u v unowing ne))
 
-pub moves-count : {ws : List ℕ} {s : Settings} {t : code.Target} → Moves ws s t → length (cellsUpTo ws s (t .cell)) ≡ length (freedBy (read ws .row))
-moves-count =
-    on-moves (λ u ws s k. length (cellsUpTo ws s (k .cell)) ≡ length (freedBy (u .row)))
-    (λ u v unowing ne. ap length (freed-read u v ne) ∙ length-map (freedBy (u .row)) (λ y. y .cell))
-
-pub moves-reaches : {ws : List ℕ} {s : Settings} {t : code.Target} → Moves ws s t → Reaches ws s (t .cell) (replicate (s .dimensions) 0)
+moves-reaches : {ws : List ℕ} {s : Settings} {t : code.Target} → Moves ws s t → Reaches ws s (t .cell) (replicate (s .dimensions) 0)
 moves-reaches =
     on-moves (λ u ws s k. Reaches ws s (k .cell) (replicate (s .dimensions) 0))
     (λ u v unowing ne.
     reaches-over (freed-read u v ne) (omega (arith, freed-below u v ne, length-map (freedBy (u .row)) (λ y. y .cell)))
     (all-map (λ c r. r .0) (map (λ y. y .cell) (freedBy (u .row))) (swept-dropping u v unowing ne .range)))
 
+-- so the front may be dropped
+pub moves-droppable : {ws : List ℕ} {s : Settings} {t : code.Target} → Moves ws s t → Droppable ws s t
+moves-droppable {ws} {s} {t} m =
+    let cells = cellsUpTo ws s (t .cell) in
+    let drop = moves-dropping m in
+    record {
+      walkable = listed-walkable (m .paid .listed);
+      keyed = moves-keyed m;
+      differs = drop .inside;
+      most = drop .least;
+      path-in = m .path-in;
+      reached = moves-reaches m;
+      within = λ i h. all-index (λ y. (0 < y) × (y < s .cells)) cells (drop .range) i h .1;
+      once = distinct-index cells (drop .distinct);
+    }
+
+-- how many cells are freed
+pub moves-count : {ws : List ℕ} {s : Settings} {t : code.Target} → Moves ws s t → length (cellsUpTo ws s (t .cell)) ≡ length (freedBy (read ws .row))
+moves-count =
+    on-moves (λ u ws s k. length (cellsUpTo ws s (k .cell)) ≡ length (freedBy (u .row)))
+    (λ u v unowing ne. ap length (freed-read u v ne) ∙ length-map (freedBy (u .row)) (λ y. y .cell))
+
 -- the words that are left
 pub moves-swept : {ws : List ℕ} {s : Settings} {t : code.Target} → Moves ws s t → droppedTo ws s t ≡ picture (swept (read ws))
 moves-swept =
     on-moves (λ u ws s k.
-    dropChained (s .dimensions) ws (k .cell) (k .number) (k .path) (zerosOf ws s (k .cell)) (cellsUpTo ws s (k .cell)) ≡ picture (swept u))
-    (λ u v unowing ne. rw (zeros-read u v ne, freed-read u v ne) (sym (swept-chained u v unowing ne)))
-
--- The chain is there when the cells become free: links that are written are no value words, and a cell that becomes free is no later one
-
-chained-same : (D : ℕ) (us ws cells : List ℕ) → All (λ c. wordIn D us c 1 ≡ wordIn D ws c 1) cells → Chained D ws cells → Chained D us cells
-chained-same D us ws [] a chained = tt
-chained-same D us ws (x ∷ []) a chained = tt
-chained-same D us ws (x ∷ y ∷ cells) a chained = (a .0 ∙ chained .0, chained-same D us ws (y ∷ cells) (a .1) (chained .1))
-
-chain-in :
-    (s : Settings) (ws cells : List ℕ) → Distinct cells → All (λ c. c < s .cells) cells → Chained (s .dimensions) ws cells →
-    ChainIn s ws (firstNumber cells) (length cells)
-chain-in s ws [] apart below chained = tt
-chain-in s ws (x ∷ []) apart below chained = (below .0, tt)
-chain-in s ws (x ∷ y ∷ cells) apart below chained =
-    let D = s .dimensions in (
-      below .0,
-      subst (λ c. ChainIn s (freeCell D ws x) c (suc (length cells))) (sym (chained .0))
-          (chain-in s (freeCell D ws x) (y ∷ cells) (apart .1) (below .1)
-          (chained-same D (freeCell D ws x) ws (y ∷ cells)
-          (all-map (λ c ne. freeCell-cell D ws x c 1 (omega arith) (λ e. ne (sym e))) (y ∷ cells) (apart .0)) (chained .1))),
-    )
-
-chain-kept :
-    (s : Settings) {ws : List ℕ} {x number z : ℕ} {between : List ℕ} → Exact (s .dimensions) (s .cells) ws → (path : List ℕ) →
-    Dropping (s .dimensions) (s .cells) x number z between →
-    ChainIn s (relinkHead (s .dimensions) (takeLinks (s .dimensions) (chainValues (s .dimensions) ws between) x path z (number - z)) x z)
-    (firstNumber between) (length between)
-chain-kept s {ws} {x} {number} {z} {between} exact path drop =
-    let D = s .dimensions in
-    let falls = drop .falls in
-    let least = drop .least in
-    let chained = chainValues D ws between in
-    let taken = takeLinks D chained x path z (number - z) in
-    let below = all-map (λ y r. r .1) between (drop .range) in
-    let kept : All (λ c. wordIn D (relinkHead D taken x z) c 1 ≡ wordIn D chained c 1) between =
-    all-map (λ c r.
-    relinkHead-cell D taken x z (drop .inside) c 1 (omega arith) (λ e. let above = r .0 in omega arith)
-    ∙ takeLinks-other D chained x path z (number - z) (omega arith) c 1 (omega arith) (λ e i l u f. omega arith)) between (drop .range) in
-    chain-in s (relinkHead D taken x z) between (drop .distinct) below
-    (chained-same D (relinkHead D taken x z) chained between kept (chain-chained exact between (drop .distinct) below))
-
-pub moves-chain :
-    {ws : List ℕ} {s : Settings} {t : code.Target} → Moves ws s t → {z : ℕ} {r : Freed} {chained taken relinked : List ℕ} →
-    z ≡ zerosOf ws s (t .cell) → ChainedUpTo ws s (t .cell) r chained → taken ≡ takeLinks (s .dimensions) chained (t .cell) (pathOf (t .path)) z (t .number - z) →
-    relinked ≡ relinkHead (s .dimensions) taken (t .cell) z → ChainIn s relinked (r .first) (r .count)
-moves-chain {s = s} {t = t} m zs chains takes relinks =
-    rw (relinks, takes, chains .words, chains .first, chains .count, zs)
-    (chain-kept s (record { size = listed-shaped (m .paid .listed) .long }) (pathOf (t .path)) (moves-dropping m))
+    dropFront (s .dimensions) ws (k .cell) (k .number) (k .path) (zerosOf ws s (k .cell)) (cellsUpTo ws s (k .cell)) ≡ picture (swept u))
+    (λ u v unowing ne. rw (zeros-read u v ne, freed-read u v ne) (sym (unowing-swept u v unowing ne)))

@@ -23,11 +23,11 @@ head-at c = holds (c .before .head-right .ensures) (c .if1 .left)
 
 -- what was seen of the children of the head is what the account sees of all cells
 seen-at :
-    (c : tie.After-children) → let l = c .before .before .before .before .before .before .before .before .before .before .before .args .list .now in
-    c .children .result ≡ seenAll l
+    (c : tie.After-along) → let l = c .before .before .before .before .before .before .before .before .before .before .before .args .list .now in
+    c .along .result ≡ seenAll l
 seen-at c =
     all-seen (header-at (c .before .before .before .before .before .before)) (c .before .before .before .at-head .ensures .0)
-    (c .children .ensures)
+    (c .along .ensures)
 
 -- the chain that was read is the one of the account
 chain-at :
@@ -69,12 +69,12 @@ returns-3 c =
     let l = c .before .before .before .before .before .before .before .before .before .before .args .list .now in
     refuse l (λ a. fails (ap (λ (t : Seen). t .right) (c .before .before .at-head .ensures .0)) (c .if2 .taken) (a .start))
 
-children-requires : tie.Need-children-requires
-children-requires c κs =
+along-requires : tie.Need-along-requires
+along-requires c κs =
     let l = c .before .before .before .before .before .before .before .before .before .before .args .list .now in
     let h = header-at (c .before .before .before .before .before) in
     let k = head-right l (head-at (c .before .before .before)) in
-    (h .shaped, (h .base, (omega arith, (h .cells, (omega (arith, h .cells, k .owed), c .before .before .at-head .ensures .1)))))
+    (h .shaped, (h .base, (omega (arith, h .shaped .dimensions-least), (h .cells, (omega (arith, h .cells, k .owed), c .before .before .at-head .ensures .1)))))
 
 returns-4 : tie.Need-returns-4
 returns-4 c =
@@ -126,7 +126,7 @@ is-list-spec =
     returns-2
     at-head-requires
     returns-3
-    children-requires
+    along-requires
     returns-4
     returns-5
     shared-slice-read-chain-right

@@ -7,8 +7,9 @@ use Rattle.paths.specs.Paths.{pathOf}
 use Rattle.paths.proofs.Laws.{zeros-in}
 use Rattle.words.proofs.Listed.{listed-shaped}
 use Rattle.paths.proofs.Listed.{listed-walkable}
-use Rattle.sweep.specs.Sweeping.{cellsTo}
-use Rattle.sweep.proofs.Ways.{way-less, Seeking, seeking-start, seeking-end, seeking-live, seeking-onward}
+use Rattle.free_between.specs.Between.{cellsTo}
+use Rattle.free_between.proofs.Ways.{way-less}
+use Rattle.sweep.proofs.Seeking.{Seeking, seeking-start, seeking-end, seeking-live, seeking-onward}
 use Rattle.sweep.proofs.Lists.{listed-reaches}
 use Rattle.sweep.proofs.seek_target.Statement.{statement}
 use Rattle.sweep.proofs.seek_target.Tie as tie

@@ -2,6 +2,7 @@
 -- way out with refusal 9 is never gone, since on a list a cell owed from stands.
 use borrow.Author.Needs.{needs}
 use Rattle.words.proofs.Listed.{listed-shaped}
+use Rattle.sweep.proofs.Lists.{moves-droppable}
 use Rattle.sweep.proofs.Call.{never-meets, stays-meets, moves-meets}
 use Rattle.sweep.proofs.sweep.Statement.{statement}
 use Rattle.sweep.proofs.sweep.Tie as tie
@@ -39,7 +40,12 @@ returns-2 c =
     stays-meets (pays .before .before .before .before .before .before .pre) (paid .0) (t .result) (paid .1) (t .ensures .0) (c .before .if2 .taken) (c .accepted .ensures)
 
 drop-front-requires : tie.Need-drop-front-requires
-drop-front-requires c κs = search needs
+drop-front-requires c κs =
+    let other = c .before in
+    let seeks = other .before .before in
+    let t = seeks .seek-target .ensures in
+    let paid = seeks .before .before .before .before .finish-all .ensures .1 in
+    moves-droppable (record { paid = paid; target = t .0; other = other .if2 .left; path-in = t .1 })
 
 accepted-requires-2 : tie.Need-accepted-requires-2
 accepted-requires-2 c κs = search needs

@@ -1,16 +1,15 @@
--- `sweep::free_chained` meets its contract: what is left to free from cell x on, in the list as it stands, gives the same words as all of it in
+-- `free_between::free_chained` meets its contract: what is left to free from cell x on, in the list as it stands, gives the same words as all of it in
 -- the list of the call.
 use mathlib.Core.Path.{_≡_, refl, sym, _∙_}
 use native.Mathlib.Omega.{arith}
 use lib.ListN.{length}
 use borrow.Author.Needs.{needs}
-use Rattle.meaning.specs.SweepStores.{freeChained}
 use Rattle.words.specs.Shaped.{Shaped}
 use Rattle.words.proofs.Laws.{field-within}
-use Rattle.sweep.specs.Sweeping.{ChainIn}
-use Rattle.sweep.proofs.Laws.{chain-first, chain-rest, chained-more, chained-none}
-use Rattle.sweep.proofs.free_chained.Statement.{statement}
-use Rattle.sweep.proofs.free_chained.Tie as tie
+use Rattle.free_between.specs.Between.{freeChained, ChainIn}
+use Rattle.free_between.proofs.Laws.{chain-first, chain-rest, chained-more, chained-none}
+use Rattle.free_between.proofs.free_chained.Statement.{statement}
+use Rattle.free_between.proofs.free_chained.Tie as tie
 
 abbrev Inv-loop : tie.InvT-loop
 Inv-loop list₀ s x₀ left₀ list x left =

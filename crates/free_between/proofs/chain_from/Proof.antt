@@ -1,13 +1,13 @@
--- `sweep::chain_from` meets its contract: what is left to chain from the last cell on, in the list as it stands, gives the same words as all
+-- `free_between::chain_from` meets its contract: what is left to chain from the last cell on, in the list as it stands, gives the same words as all
 -- of it in the list of the call; a cell less is left with each turn.
 use native.Mathlib.Omega.{arith}
 use lib.ListN.{length}
 use Rattle.words.proofs.Laws.{field-within}
 use Rattle.paths.specs.Paths.{pathOf}
-use Rattle.sweep.specs.Sweeping.{cellsTo}
-use Rattle.sweep.proofs.Ways.{Chaining, chaining-start, chaining-end, chaining-onward, chaining-less}
-use Rattle.sweep.proofs.chain_from.Statement.{statement}
-use Rattle.sweep.proofs.chain_from.Tie as tie
+use Rattle.free_between.specs.Between.{cellsTo}
+use Rattle.free_between.proofs.Ways.{Chaining, chaining-start, chaining-end, chaining-onward, chaining-less}
+use Rattle.free_between.proofs.chain_from.Statement.{statement}
+use Rattle.free_between.proofs.chain_from.Tie as tie
 
 abbrev Inv-loop : tie.InvT-loop
 Inv-loop list₀ s position first path₀ last₀ count₀ list path last count = Chaining list₀ list s position first (pathOf path₀) path last count

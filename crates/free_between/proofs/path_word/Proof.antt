@@ -1,8 +1,8 @@
--- `sweep::path_word` meets its contract: a word that the path uses is one of the sixteen.
+-- `free_between::path_word` meets its contract: a word that the path uses is one of the sixteen.
 use borrow.Author.Needs.{needs}
 use Rattle.paths.proofs.Laws.{formed-cell}
-use Rattle.sweep.proofs.path_word.Statement.{statement}
-use Rattle.sweep.proofs.path_word.Tie as tie
+use Rattle.free_between.proofs.path_word.Statement.{statement}
+use Rattle.free_between.proofs.path_word.Tie as tie
 
 mul-result : tie.Need-mul-result
 mul-result c = search needs

@@ -1,11 +1,11 @@
--- `sweep::leading_zeros` meets its contract: the coordinates before d are 0, so that cell x shares d of them with the head, or more.
+-- `free_between::leading_zeros` meets its contract: the coordinates before d are 0, so that cell x shares d of them with the head, or more.
 use Prim.Native.Nat.{_-_, _≤_}
 use native.Mathlib.Omega.{arith}
 use borrow.Author.Needs.{needs}
-use Rattle.sweep.specs.Sweeping.{zerosOf}
-use Rattle.sweep.proofs.Laws.{zero-more, zero-last, zero-all}
-use Rattle.sweep.proofs.leading_zeros.Statement.{statement}
-use Rattle.sweep.proofs.leading_zeros.Tie as tie
+use Rattle.free_between.specs.Between.{zerosOf}
+use Rattle.free_between.proofs.Laws.{zero-more, zero-last, zero-all}
+use Rattle.free_between.proofs.leading_zeros.Statement.{statement}
+use Rattle.free_between.proofs.leading_zeros.Tie as tie
 
 abbrev Inv-loop : tie.InvT-loop
 Inv-loop list s x d₀ d = d ≤ zerosOf list s x

@@ -1,9 +1,9 @@
--- `sweep::chain_between` meets its contract: the first cell after the head is the new position, or the first to be chained.
+-- `free_between::chain_between` meets its contract: the first cell after the head is the new position, or the first to be chained.
 use borrow.Author.Needs.{needs}
 use Rattle.paths.proofs.Laws.{zeros-in}
-use Rattle.sweep.proofs.Ways.{between-none, between-onward, between-some}
-use Rattle.sweep.proofs.chain_between.Statement.{statement}
-use Rattle.sweep.proofs.chain_between.Tie as tie
+use Rattle.free_between.proofs.Ways.{between-none, between-onward, between-some}
+use Rattle.free_between.proofs.chain_between.Statement.{statement}
+use Rattle.free_between.proofs.chain_between.Tie as tie
 
 head-path-requires : tie.Need-head-path-requires
 head-path-requires c κs = search needs

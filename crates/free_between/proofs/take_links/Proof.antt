@@ -1,4 +1,4 @@
--- `sweep::take_links` meets its contract: what is left to take from link d on, in the list as it stands, gives the same words as all of it in
+-- `free_between::take_links` meets its contract: what is left to take from link d on, in the list as it stands, gives the same words as all of it in
 -- the list of the call.
 use mathlib.Core.Path.{_≡_, refl, sym, _∙_}
 use Prim.Native.Nat.{_-_, _≤_}
@@ -9,9 +9,9 @@ use Rattle.meaning.specs.SweepStores.{takeLinks}
 use Rattle.words.specs.Shaped.{Shaped}
 use Rattle.paths.specs.Paths.{pathOf}
 use Rattle.paths.proofs.Laws.{formed-own}
-use Rattle.sweep.proofs.Laws.{take-more, take-all}
-use Rattle.sweep.proofs.take_links.Statement.{statement}
-use Rattle.sweep.proofs.take_links.Tie as tie
+use Rattle.free_between.proofs.Laws.{take-more, take-all}
+use Rattle.free_between.proofs.take_links.Statement.{statement}
+use Rattle.free_between.proofs.take_links.Tie as tie
 
 abbrev Inv-loop : tie.InvT-loop
 Inv-loop list₀ s t z first d₀ list d =
