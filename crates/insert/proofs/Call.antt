@@ -6,10 +6,10 @@ use mathlib.Core.List.{List, [], _∷_}
 use Prim.Native.Nat.{ℕ, _+_, _≤_, _<_}
 use native.Mathlib.Decide.{ℕ-discrete}
 use native.Mathlib.Omega.{arith}
-use lib.Dec.{eqb, ltb}
+use lib.Dec.{eqb}
 use lib.ListN.{length, getD, set}
 use lib.Seq.{sets}
-use borrow.Author.Tests.{eq-eqb, ne-eqb, le-leb, le-ltb}
+use borrow.Author.Tests.{eq-eqb, ne-eqb, le-leb}
 use Rattle.settings.specs.Numbers.{headerWords}
 use Rattle.settings.specs.declared.Settings.{Settings}
 use Rattle.meaning.specs.Row.{Entry, entryAt}
@@ -43,9 +43,10 @@ use Rattle.search.specs.Found.{foundOf}
 use Rattle.search.specs.declared.Found.{Found}
 use Rattle.words.proofs.Listed.{on-listed}
 use Rattle.search.proofs.Slots.{Present, SlotFound, entry-placed, found-standing, found-missing, found-slot}
+use Rattle.new_cell.specs.NewCell.{slotOf, Fits}
 use Rattle.finish.specs.Payable.{Payable}
 use Rattle.finish.proofs.Debts.{payable, listed-payable, listed-owes}
-use Rattle.insert.specs.Inserting.{Sought, paidWords, cellFor, Ending, Due, PathWritten}
+use Rattle.insert.specs.Inserting.{Sought, paidWords, Ending, Due, PathWritten}
 
 -- what holds of each state in order, its picture and its settings, where the search has answered so, holds of the list
 on-sought :
@@ -150,32 +151,26 @@ free-none : (free : List ℕ) {n : ℕ} → All (λ c. 0 < c) free → n ≡ fir
 free-none [] a e z = refl
 free-none (c ∷ free) a e z = absurd (let h = a .0 in omega arith)
 
--- the words that are written, but for the path
-abbrev pub newIn : ℕ → ℕ → List ℕ → ℕ → ℕ → ℕ → Found → List ℕ
-newIn b D ws key value n f =
-    let paid = paidWords D ws (f .parent) (f .c) in
-    store D (sets (set paid 4 (getD paid (place D n 0) 0)) (place D n 0) (cellFor b D key value f)) (f .parent) (linkField D (f .p)) n
-
-new-words : (b D key value : ℕ) {f : Found} {t : Slot} → SlotFound f t → cellFor b D key value f ≡ newWords b D key value t
+-- the definition's words of a new cell, by the slot that was found: q says nothing where there is no c
+same-words : (b D key value n : ℕ) {f : Found} {t : Slot} → SlotFound f t → newWords b D key value (slotOf n f) ≡ newWords b D key value t
 unfolding newWords
-new-words b D key value {f} {t} g = at (ℕ-discrete (f .c) 0)
+same-words b D key value n {f} {t} g = at (ℕ-discrete (f .c) 0)
   where
-    at : Dec (f .c ≡ 0) → cellFor b D key value f ≡ newWords b D key value t
-    at (yes z) =
-        let none : ltb (f .p) (f .q) ≡ false = le-ltb (f .p) (f .q) (omega (arith, g .q-none z)) in
-        rw (g .owes, none, ← g .c, eq-eqb (f .c) 0 z) refl
-    at (no ne) = rw (g .owes, ← g .c, ← g .p, ← g .q ne) refl
+    at : Dec (f .c ≡ 0) → newWords b D key value (slotOf n f) ≡ newWords b D key value t
+    at (yes z) = rw (← g .c, eq-eqb (f .c) 0 z) refl
+    at (no ne) = rw (← g .c, ← g .p, ← g .q ne) refl
 
-pub new-in : (b D : ℕ) (ws : List ℕ) (key value n : ℕ) {f : Found} {t : Slot} → SlotFound f t → n ≡ t .n → newIn b D ws key value n f ≡ insertWords b D ws key value t
+same-slot : (b D : ℕ) (ws : List ℕ) (key value n : ℕ) {f : Found} {t : Slot} → SlotFound f t → n ≡ t .n → insertWords b D ws key value (slotOf n f) ≡ insertWords b D ws key value t
 unfolding insertWords
-new-in b D ws key value n g e = rw (new-words b D key value g, g .parent, g .p, g .c, e) refl
+same-slot b D ws key value n g e = rw (same-words b D key value n g, g .parent, g .p, g .c, e) refl
 
--- the steps of the code
+-- the steps of the code write what the definition says of the slot that was found, but for the path
 pub new-written :
     {paid : List ℕ} {s : Settings} → Shaped paid s → (ws : List ℕ) (key value n : ℕ) (f : Found) {next : ℕ} {cell us : List ℕ} →
     paid ≡ paidWords (s .dimensions) ws (f .parent) (f .c) → next ≡ wordAt paid n 0 →
-    cell ≡ sets (set paid 4 next) (place (s .dimensions) n 0) (cellFor (s .base) (s .dimensions) key value f) →
-    us ≡ store (s .dimensions) cell (f .parent) (linkField (s .dimensions) (f .p)) n → us ≡ newIn (s .base) (s .dimensions) ws key value n f
+    cell ≡ sets (set paid 4 next) (place (s .dimensions) n 0) (newWords (s .base) (s .dimensions) key value (slotOf n f)) →
+    us ≡ store (s .dimensions) cell (f .parent) (linkField (s .dimensions) (f .p)) n → us ≡ insertWords (s .base) (s .dimensions) ws key value (slotOf n f)
+unfolding insertWords
 new-written h ws key value n f pays reads writes links = rw (links, writes, reads, ← word-is h n 0 refl, pays) refl
 
 -- The path's words stay
@@ -213,13 +208,13 @@ module _ {t : State} (v : Sound t) (key value : ℕ) (least : 1 ≤ key) (most :
   slot : SlotFound f (slotFor t key)
   slot = found-slot v least is missing room
 
-  written : newIn (t .settings .base) (t .settings .dimensions) (picture t) key value n f ≡ insertWords (t .settings .base) (t .settings .dimensions) (picture t) key value (slotFor t key)
-  written = new-in (t .settings .base) (t .settings .dimensions) (picture t) key value n slot (first ∙ number)
+  written : insertWords (t .settings .base) (t .settings .dimensions) (picture t) key value (slotOf n f) ≡ insertWords (t .settings .base) (t .settings .dimensions) (picture t) key value (slotFor t key)
+  written = same-slot (t .settings .base) (t .settings .dimensions) (picture t) key value n slot (first ∙ number)
     where
       number : firstNumber (t .free) ≡ slotFor t key .n
       number = unfold slotFor in refl
 
-  added-leads : Leads (picture t) (newIn (t .settings .base) (t .settings .dimensions) (picture t) key value n f) (t .settings) (positionKey t) key value f
+  added-leads : Leads (picture t) (insertWords (t .settings .base) (t .settings .dimensions) (picture t) key value (slotOf n f)) (t .settings) (positionKey t) key value f
   added-leads =
       let b = t .settings .base in
       let D = t .settings .dimensions in
@@ -257,8 +252,11 @@ module _ {ws : List ℕ} {s : Settings} {key : ℕ} {f : Found} (k : Sought ws s
   pub p-link : f .p < s .dimensions
   p-link = on-sought (λ t ws s. f .p < s .dimensions) k (λ t v m q. found-missing v (k .least) q missing .p-below)
 
-  pub q-link : f .q < s .dimensions
+  q-link : f .q < s .dimensions
   q-link = on-sought (λ t ws s. f .q < s .dimensions) k (λ t v m q. found-missing v (k .least) q missing .q-below)
+
+  q-none : f .c ≡ 0 → f .q ≡ 0
+  q-none = on-sought (λ t ws s. f .c ≡ 0 → f .q ≡ 0) k (λ t v m q. found-missing v (k .least) q missing .q-none)
 
   pub new-cell : {n : ℕ} → n ≡ getD ws 4 0 → 0 < n → n < s .cells
   new-cell {n} e h =
@@ -267,6 +265,9 @@ module _ {ws : List ℕ} {s : Settings} {key : ℕ} {f : Found} (k : Sought ws s
       let first = word ∙ picture-free t in
       rw first (first-free-all (λ c. (0 < c) × (c < t .settings .cells)) (t .free) (free-some (t .free) first h) (free-range t v) .1))
       e
+
+  pub new-fits : {n : ℕ} → n ≡ getD ws 4 0 → 0 < n → Fits s n f
+  new-fits e h = record { cell = new-cell e h; link = q-link; none = q-none }
 
   -- what the parent owes can be finished, and then what c owes
   pub payable-parent : Payable ws s (f .parent)
@@ -298,9 +299,9 @@ module _ {ws : List ℕ} {s : Settings} {key : ℕ} {f : Found} (k : Sought ws s
       absurd (false≢true (sym (e ∙ none) ∙ owes))
 
   pub new-leads : (value : ℕ) {n : ℕ} → n ≡ getD ws 4 0 → 0 < n →
-      Leads ws (newIn (s .base) (s .dimensions) ws key value n f) s (positionKey (read ws)) key value f
+      Leads ws (insertWords (s .base) (s .dimensions) ws key value (slotOf n f)) s (positionKey (read ws)) key value f
   new-leads value {n} e h =
-      on-sought (λ t ws s. n ≡ getD ws 4 0 → Leads ws (newIn (s .base) (s .dimensions) ws key value n f) s (positionKey t) key value f) k
+      on-sought (λ t ws s. n ≡ getD ws 4 0 → Leads ws (insertWords (s .base) (s .dimensions) ws key value (slotOf n f)) s (positionKey t) key value f) k
       (λ t v most q word.
       let first = word ∙ picture-free t in
       added-leads v key value (k .least) most q missing (free-some (t .free) first h) first)

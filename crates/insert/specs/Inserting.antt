@@ -1,12 +1,10 @@
--- What is known when the search has answered, what a new cell's words are, and at which state the words end once the path is written.
+-- What is known when the search has answered, and at which state the words end once the path is written.
 use mathlib.Core.Path.{_≡_}
 use mathlib.Core.Bool.{true, cond}
-use mathlib.Core.List.{List, [], _∷_, _++_}
+use mathlib.Core.List.{List}
 use Prim.Native.Nat.{ℕ, _≤_, _<_}
-use lib.Dec.{eqb, ltb}
-use lib.ListN.{set, replicate}
+use lib.Dec.{eqb}
 use Rattle.settings.specs.declared.Settings.{Settings}
-use Rattle.meaning.specs.Keys.{coordinates}
 use Rattle.meaning.specs.State.{State, valid}
 use Rattle.meaning.specs.Picture.{path, picture}
 use Rattle.meaning.specs.Reading.{read, Listed}
@@ -24,19 +22,6 @@ pub record Sought (ws : List ℕ) (s : Settings) (key : ℕ) (f : Found) : Type 
 -- "an insert finishes what the parent owes, then what c owes", where there is a c
 abbrev pub paidWords : ℕ → List ℕ → ℕ → ℕ → List ℕ
 paidWords D ws parent c = cond (eqb c 0) (finishWords D ws parent) (finishWords D (finishWords D ws parent) c)
-
--- the six words of a new cell before its coordinates: live, "owed c, low p, high q" if p is below q
-abbrev pub entryWords : ℕ → ℕ → Found → List ℕ
-entryWords key value f =
-    key ∷ value ∷ 1 ∷ cond (ltb (f .p) (f .q)) (f .c) 0 ∷ cond (ltb (f .p) (f .q)) (f .p) 0 ∷ cond (ltb (f .p) (f .q)) (f .q) 0 ∷ []
-
--- its D links: "c becomes link q of n" where there is a c, every other link 0
-abbrev pub linkWords : ℕ → ℕ → ℕ → List ℕ
-linkWords D q c = cond (eqb c 0) (replicate D 0) (set (replicate D 0) q c)
-
--- all its words, by the slot that was found
-abbrev pub cellFor : ℕ → ℕ → ℕ → ℕ → Found → List ℕ
-cellFor b D key value f = entryWords key value f ++ (coordinates b D key ++ linkWords D (f .q) (f .c))
 
 -- Words that are the picture of a state t in order but for the D words of path. "If the key is at or below the position's", which is
 -- `top`, t has its position at the parent; else t has the path that stands.

@@ -1,21 +1,17 @@
 // Insert: a new cell in the slot that the search found, its own adoption left owing; or a dead key revived.
 ghost use mathlib.Core.Path.{_≡_};
 ghost use mathlib.Core.Bool.{true, false, _||_};
-ghost use mathlib.Core.List.{[], _∷_};
-ghost use Prim.Native.Nat.{_+_, _≤_, _<_};
-ghost use lib.ListN.{length, getD};
-ghost use lib.Seq.{sets};
-ghost use Rattle.meaning.specs.Keys.{coordinates};
+ghost use Prim.Native.Nat.{_<_};
+ghost use lib.ListN.{getD};
 ghost use Rattle.meaning.specs.State.{positionKey};
 ghost use Rattle.meaning.specs.Reading.{read, Listed};
 ghost use Rattle.meaning.specs.Refusals.{Meets};
 ghost use Rattle.meaning.specs.Operations.{owesFromFree, insertOut};
-ghost use Rattle.meaning.specs.Words as words;
 ghost use Rattle.meaning.specs.Words.{markAt};
 ghost use Rattle.meaning.specs.Stores.{finishWords};
 ghost use Rattle.words.specs.Shaped.{Shaped};
 ghost use Rattle.finish.specs.Payable.{Payable};
-ghost use Rattle.insert.specs.Inserting.{Sought, paidWords, entryWords, linkWords, cellFor, Due, PathWritten};
+ghost use Rattle.insert.specs.Inserting.{Sought, paidWords, Due, PathWritten};
 use meaning::Answer;
 use search::Found;
 use settings::Settings;
@@ -53,77 +49,6 @@ fn revive(list: &mut [u32], s: Settings, f: Found, key: u32, value: u32)
     move_position(list, s, top, key, f.parent);
 }
 
-// The links of a new cell: link q to c where there is a c, every other link 0.
-fn write_links(part: &mut [u32], q: u32, c: u32)
-    requires { ⌜ ((c ≡ 0 → ⊥) → q < length (now part)) ⌝ }
-    ensures { λ r. ⌜ now (part .exit) ≡ linkWords (length (now (part .entry))) q c ⌝ }
-{
-    let mut i = 0;
-    while i < part.len() {
-        part[i] = 0;
-        i += 1;
-    }
-    if c == 0 {
-        return;
-    }
-    part[q as usize] = c;
-}
-
-// Owed, low and high of cell n.
-fn write_debt(list: &mut [u32], s: Settings, n: u32, owed: u32, low: u32, high: u32)
-    requires { ⌜ Shaped (now list) s × (n < s .cells) ⌝ }
-    ensures { λ r. ⌜ (now (list .exit) ≡ sets (now (list .entry)) (words.place (s .dimensions) n 3) (owed ∷ low ∷ high ∷ [])) × Shaped (now (list .exit)) s ⌝ }
-{
-    words::store(list, s, n, words::OWED, owed);
-    words::store(list, s, n, words::LOW, low);
-    words::store(list, s, n, words::HIGH, high);
-}
-
-// The words of new cell n before its coordinates: live, its debt if p is below q.
-fn write_entry(list: &mut [u32], s: Settings, n: u32, f: Found, key: u32, value: u32)
-    requires { ⌜ Shaped (now list) s × (n < s .cells) ⌝ }
-    ensures { λ r. ⌜ (now (list .exit) ≡ sets (now (list .entry)) (words.place (s .dimensions) n 0) (entryWords key value f)) × Shaped (now (list .exit)) s ⌝ }
-{
-    words::store(list, s, n, words::KEY, key);
-    words::store(list, s, n, words::VALUE, value);
-    words::store(list, s, n, words::MARK, 1);
-    if f.p < f.q {
-        write_debt(list, s, n, f.c, f.p, f.q);
-        return;
-    }
-    write_debt(list, s, n, 0, 0, 0);
-}
-
-// The coordinates of cell n become the key's.
-fn put_coordinates(list: &mut [u32], s: Settings, n: u32, key: u32)
-    requires { ⌜ Shaped (now list) s × ((n < s .cells) × (0 < s .base)) ⌝ }
-    ensures { λ r. ⌜ (now (list .exit) ≡ sets (now (list .entry)) (words.place (s .dimensions) n 6) (coordinates (s .base) (s .dimensions) key)) × Shaped (now (list .exit)) s ⌝ }
-{
-    let start = words::place(s, n, words::COORDINATES);
-    let end = start + s.dimensions as usize;
-    words::write_coordinates(&mut list[start..end], key, s.base);
-}
-
-// The links of cell n become those of a new cell.
-fn put_links(list: &mut [u32], s: Settings, n: u32, q: u32, c: u32)
-    requires { ⌜ Shaped (now list) s × ((n < s .cells) × ((c ≡ 0 → ⊥) → q < s .dimensions)) ⌝ }
-    ensures { λ r. ⌜ (now (list .exit) ≡ sets (now (list .entry)) (words.place (s .dimensions) n (6 + s .dimensions)) (linkWords (s .dimensions) q c)) × Shaped (now (list .exit)) s ⌝ }
-{
-    let start = words::place(s, n, words::COORDINATES + s.dimensions);
-    let end = start + s.dimensions as usize;
-    write_links(&mut list[start..end], q, c);
-}
-
-// The words of new cell n: those of its entry, its key's coordinates, its links.
-fn write_cell(list: &mut [u32], s: Settings, n: u32, f: Found, key: u32, value: u32)
-    requires { ⌜ Shaped (now list) s × ((n < s .cells) × ((0 < s .base) × ((f .c ≡ 0 → ⊥) → f .q < s .dimensions))) ⌝ }
-    ensures { λ r. ⌜ (now (list .exit) ≡ sets (now (list .entry)) (words.place (s .dimensions) n 0) (cellFor (s .base) (s .dimensions) key value f)) × Shaped (now (list .exit)) s ⌝ }
-{
-    write_entry(list, s, n, f, key, value);
-    put_coordinates(list, s, n, key);
-    put_links(list, s, n, f.q, f.c);
-}
-
 // Finishes what the parent owes, then what c owes, and nothing else.
 fn finish_neighbours(list: &mut [u32], s: Settings, f: Found)
     requires { ⌜ Shaped (now list) s × (Payable (now list) s (f .parent) × Payable (finishWords (s .dimensions) (now list) (f .parent)) s (f .c)) ⌝ }
@@ -144,7 +69,7 @@ fn add(list: &mut [u32], s: Settings, n: u32, f: Found, key: u32, value: u32)
     let top = position_key(list, s);
     finish_neighbours(list, s, f);
     list[4] = words::word(list, s, n, words::KEY);
-    write_cell(list, s, n, f, key, value);
+    new_cell::write_cell(list, s, n, f, key, value);
     let parent = f.parent;
     let link = words::COORDINATES + s.dimensions + f.p;
     words::store(list, s, parent, link, n);

@@ -7,12 +7,12 @@ use mathlib.Core.Option.{Option, none, some}
 use Prim.Native.Nat.{ℕ, suc, _≤_, _<_}
 use native.Mathlib.Decide.{ℕ-discrete}
 use native.Mathlib.Omega.{arith}
-use lib.Dec.{eqb, ltb}
+use lib.Dec.{eqb}
 use lib.ListN.{length}
-use borrow.Author.Tests.{eq-eqb, ne-eqb, le-ltb}
+use borrow.Author.Tests.{eq-eqb, ne-eqb}
 use Rattle.meaning.specs.Row.{Entry, headEntry, Place, places, placeOf, entryAt}
 use Rattle.meaning.specs.State.{State, occurrences}
-use Rattle.meaning.specs.Operations.{looked, parentIn, revivedEntry, Slot, slotFor, slotOwes}
+use Rattle.meaning.specs.Operations.{looked, parentIn, revivedEntry, Slot, slotFor}
 use Rattle.meaning.proofs.Order.{All, Asc, all-left, all-right}
 use Rattle.meaning.proofs.Keys.{shared-less}
 use Rattle.meaning.proofs.State.{Sound, base-positive}
@@ -90,8 +90,6 @@ pub record SlotFound (f : Found) (t : Slot) : Type 0 where
   pub p : f .p ≡ t .p
   pub c : f .c ≡ t .c
   pub q : (f .c ≡ 0 → ⊥) → f .q ≡ t .q
-  pub q-none : f .c ≡ 0 → f .q ≡ 0
-  pub owes : slotOwes t ≡ ltb (f .p) (f .q)
 
 module _ (s : State) (v : Sound s) (k : ℕ) (least : 1 ≤ k) where
   -- parent and number, of either
@@ -186,22 +184,13 @@ module _ (s : State) (v : Sound s) (k : ℕ) (least : 1 ≤ k) where
       let gap = slot.gap k 0 (s .row) (v .ascends) e in
       let t = slot-at s v k least (sides-absent gap) in
       let is = slot.slot-is s v k least gap room in
-      let p : slotNumber s k ≡ slotFor s k .p = t .number ∙ sym (is .p-is) in
       let c : slotCell s k ≡ slotFor s k .c = t .cell ∙ sym (is .c-is) in
-      let q : (slotCell s k ≡ 0 → ⊥) → slotShared s k ≡ slotFor s k .q = (λ ne. t .shares ∙ sym (is .q-is (λ z. ne (c ∙ z)))) in
       record {
         parent = t .parent ∙ sym (is .parent-is);
-        p = p;
+        p = t .number ∙ sym (is .p-is);
         c = c;
-        q = λ ne. rw (ne-eqb (slotCell s k) 0 ne) (q ne);
-        q-none = λ z. rw (eq-eqb (slotCell s k) 0 z) refl;
-        owes = owes (ℕ-discrete (slotCell s k) 0) p c q;
+        q = λ ne. rw (ne-eqb (slotCell s k) 0 ne) (t .shares ∙ sym (is .q-is (λ z. ne (c ∙ z))));
       }
-    where
-      owes : Dec (slotCell s k ≡ 0) → slotNumber s k ≡ slotFor s k .p → slotCell s k ≡ slotFor s k .c → ((slotCell s k ≡ 0 → ⊥) → slotShared s k ≡ slotFor s k .q) →
-          slotOwes (slotFor s k) ≡ ltb (slotNumber s k) (cond (eqb (slotCell s k) 0) 0 (slotShared s k))
-      owes (yes z) p c q = rw (← c, eq-eqb (slotCell s k) 0 z, le-ltb (slotNumber s k) 0 (omega arith)) refl
-      owes (no ne) p c q = rw (← c, ← p, ← q ne, ne-eqb (slotCell s k) 0 ne) refl
 
 -- the same of an answer of the search, by whether the key stands
 

@@ -1,10 +1,11 @@
 -- The words that the code writes are the picture of a fresh list: of the head every test leads to 0, and the free cell x is followed by
 -- x + 1, except the last.
-use mathlib.Core.Path.{_≡_, refl, _∙_}
+use mathlib.Core.Path.{_≡_, refl, ap, _∙_}
 use mathlib.Core.Bool.{Bool, true, false, cond}
-use mathlib.Core.List.{List, [], append-nil, map, flatMap}
+use mathlib.Core.List.{List, [], map, flatMap}
 use Prim.Native.Nat.{ℕ, zero, suc, _+_, _*_, _-_, _≤_, _<_}
 use native.Mathlib.Nat.{add-suc, suc-add, zero-div, zero-mod}
+use native.Mathlib.Numerals.{add-one}
 use native.Mathlib.Omega.{arith}
 use lib.Dec.{eqb, leb, ltb, eqb·zero-suc, eqb·suc-zero}
 use borrow.Author.Tests.{eqb-true, eqb-false, eq-eqb, ne-eqb}
@@ -16,7 +17,7 @@ use Rattle.meaning.specs.State.{positionKey}
 use Rattle.meaning.specs.Picture.{numbersFrom, firstNumber, standingWords, nextFree, freeWords, wordsOf, firstWith, pathWord, path, cells, picture}
 use Rattle.meaning.specs.Operations.{fresh}
 use Rattle.set_up.specs.Fresh.{zeros, freshFirst, freshMark, freshCell, freshCells, freshList}
-use Rattle.set_up.proofs.Laws.{zeros-more, zeros-both}
+use Rattle.set_up.proofs.Laws.{zeros-both}
 
 either-zero : (t : Bool) → _≡_ {A = ℕ} (cond t 0 0) 0
 either-zero true = refl
@@ -32,7 +33,7 @@ map-zeros f all i (suc n) = rw (all i, map-zeros f all (suc i) n) refl
 head-coordinates : (b D : ℕ) → coordinates b D 0 ≡ zeros D
 unfolding coordinates
 head-coordinates b zero = refl
-head-coordinates b (suc D) = rw (zero-div b, zero-mod b, head-coordinates b D) (zeros-more D [] ∙ append-nil (zeros (suc D)))
+head-coordinates b (suc D) = rw (zero-div b, zero-mod b, head-coordinates b D) (zeros-both D 1 ∙ ap zeros (add-one D))
 
 head-link : (b D d : ℕ) → link b D (headPlace []) d ≡ 0
 unfolding link firstSharing

@@ -6,33 +6,20 @@ use native.Mathlib.Nat.{add-zero, zero-add, add-suc, suc-add, zero-mul, suc-mul,
 use native.Mathlib.Numerals.{add-one}
 use native.Mathlib.Omega.{arith}
 use lib.ListN.{length, take, drop, set, length-append, length-drop, length-replicate, replicate-append-replicate, take-append-drop, drop-of-length-le}
-use lib.Seq.{drop-cons, drop-drop, set-at, sets, sets-eq, take-at, drop-at, length-take-le}
+use lib.Seq.{drop-drop, sets, sets-eq, take-at, drop-at, length-take-le}
 use borrow.Rule.Slice.PartMut.{midOf, putMid, mid-len}
 use Rattle.settings.specs.Numbers.{headerWords, cellWords, lengthOf}
 use Rattle.settings.specs.declared.Settings.{Settings}
 use Rattle.meaning.specs.Picture.{numbersFrom}
 use Rattle.set_up.specs.Fresh.{zeros, freshFirst, freshMark, cellOf, freshCell, freshCells, freshHeader, freshList}
 
--- One word
-
-pub zeros-more : (i : ℕ) (l : List ℕ) → zeros i ++ (0 ∷ l) ≡ zeros (suc i) ++ l
-zeros-more zero l = refl
-zeros-more (suc i) l = ap (λ (m : List ℕ). 0 ∷ m) (zeros-more i l)
+-- Zeros
 
 length-zeros : (n : ℕ) → length (zeros n) ≡ n
 length-zeros n = length-replicate n 0
 
 pub zeros-both : (m n : ℕ) → zeros m ++ zeros n ≡ zeros (m + n)
 zeros-both m n = replicate-append-replicate m n 0
-
-pub cleared-more : (l : List ℕ) (i : ℕ) → i < length l → set (zeros i ++ drop i l) i 0 ≡ zeros (i + 1) ++ drop (i + 1) l
-cleared-more l i h =
-    rw (add-one i, drop-cons l i 0 h, set-at (zeros i) _ (drop (suc i) l) 0 i (length-zeros i)) (zeros-more i (drop (suc i) l))
-
-pub cleared-all : (l : List ℕ) (i : ℕ) → i ≡ length l → zeros i ++ drop i l ≡ zeros (length l)
-cleared-all l i e =
-    let h : length l ≤ i = omega arith in
-    rw (drop-of-length-le l h, append-nil (zeros i), e) refl
 
 -- A part
 

@@ -6,28 +6,17 @@ ghost use lib.ListN.{length, take, drop};
 ghost use Rattle.settings.specs.Numbers.{headerWords, lengthOf};
 ghost use Rattle.meaning.specs.Refusals.{Meets};
 ghost use Rattle.meaning.specs.Operations.{setUpOut};
-ghost use Rattle.set_up.specs.Fresh.{zeros, freshFirst, freshMark, cellOf, freshCells, freshHeader, freshList};
+ghost use Rattle.set_up.specs.Fresh.{freshFirst, freshMark, cellOf, freshCells, freshHeader, freshList};
 use meaning::Answer;
 use settings::Checked;
 use settings::Settings;
-
-// Every word 0.
-fn clear(part: &mut [u32])
-    ensures { λ r. ⌜ now (part .exit) ≡ zeros (length (now (part .entry))) ⌝ }
-{
-    let mut i = 0;
-    while i < part.len() {
-        part[i] = 0;
-        i += 1;
-    }
-}
 
 // A cell's words: its first word, its mark, every other word 0.
 fn write_cell(part: &mut [u32], first: u32, mark: u32)
     requires { ⌜ 3 ≤ length (now part) ⌝ }
     ensures { λ r. ⌜ now (part .exit) ≡ cellOf (length (now (part .entry))) first mark ⌝ }
 {
-    clear(part);
+    words::fill(part, 0);
     part[0] = first;
     part[2] = mark;
 }
@@ -70,11 +59,11 @@ fn write_cells(list: &mut [u32], d: u32, c: u32)
     requires { ⌜ length (now list) ≡ lengthOf d c ⌝ }
     ensures { λ r. ⌜ now (list .exit) ≡ take (headerWords + d) (now (list .entry)) ++ freshCells d c c ⌝ }
 {
-    let words = 6 + 2 * d as usize;
-    let mut at = 5 + d as usize;
+    let cell_words = words::COORDINATES as usize + 2 * d as usize;
+    let mut at = words::HEADER_WORDS + d as usize;
     let mut x: u32 = 0;
     while x < c {
-        let end = at + words;
+        let end = at + cell_words;
         write_cell(&mut list[at..end], first_word(x, c), mark_of(x));
         at = end;
         x += 1;
@@ -87,8 +76,8 @@ fn draw(list: &mut [u32], s: Settings)
     ensures { λ r. ⌜ now (list .exit) ≡ freshList s ⌝ }
 {
     write_header(list, s);
-    let end = 5 + s.dimensions as usize;
-    clear(&mut list[5..end]);
+    let end = words::HEADER_WORDS + s.dimensions as usize;
+    words::fill(&mut list[words::HEADER_WORDS..end], 0);
     write_cells(list, s.dimensions, s.cells);
 }
 

@@ -4,7 +4,7 @@ use native.Mathlib.Omega.{arith}
 use borrow.Author.Needs.{needs}
 use Rattle.words.proofs.Laws.{field-within, link-within, set-shaped}
 use Rattle.words.proofs.Listed.{listed-shaped, listed-base}
-use Rattle.insert.proofs.Call.{leads-due, leads-words, new-written, parent-cell, p-link, q-link, new-cell, payable-parent, payable-c, new-leads}
+use Rattle.insert.proofs.Call.{leads-due, leads-words, new-written, parent-cell, p-link, new-cell, new-fits, payable-parent, payable-c, new-leads}
 use Rattle.insert.proofs.add.Statement.{statement}
 use Rattle.insert.proofs.add.Tie as tie
 
@@ -28,10 +28,7 @@ write-cell-requires : tie.Need-write-cell-requires
 write-cell-requires c κs =
     let pre = c .before .before .before .before .before .before .before .before .before .before .pre in (
       set-shaped (c .before .before .before .before .before .finish-neighbours .ensures .1) 4 (c .before .word .result) (omega arith),
-      (
-        new-cell (pre .0) (pre .1 .0) (pre .1 .1 .0) (pre .1 .1 .1),
-        (listed-base (pre .0 .list), λ held. q-link (pre .0) (pre .1 .0)),
-      ),
+      (listed-base (pre .0 .list), new-fits (pre .0) (pre .1 .0) (pre .1 .1 .0) (pre .1 .1 .1)),
     )
 
 add-link : tie.Need-add-link

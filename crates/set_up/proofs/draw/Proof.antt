@@ -14,17 +14,17 @@ cast-end c = search needs
 add-end : tie.Need-add-end
 add-end c = search needs
 
-sub-clear : tie.Need-sub-clear
-sub-clear c = search needs
+sub-fill : tie.Need-sub-fill
+sub-fill c = search needs
 
-part-clear-start : tie.Need-part-clear-start
-part-clear-start c = search needs
+part-fill-start : tie.Need-part-fill-start
+part-fill-start c = search needs
 
-part-clear-end : tie.Need-part-clear-end
-part-clear-end c = search needs
+part-fill-end : tie.Need-part-fill-end
+part-fill-end c = search needs
 
-clear-requires : tie.Need-clear-requires
-clear-requires c κs = search needs
+fill-requires : tie.Need-fill-requires
+fill-requires c κs = search needs
 
 write-cells-requires : tie.Need-write-cells-requires
 write-cells-requires c κs = search needs
@@ -36,7 +36,7 @@ returns : tie.Need-returns
 returns c =
     let s = c .before .before .before .before .before .before .before .before .before .before .before .before .before .before in
     let h = c .before .before .before .before .before .before .before .before .before .before .before .write-header in
-    let z = c .before .before .before .before .before .before .clear in
+    let z = c .before .before .before .before .before .before .fill in
     c .before .before .write-cells .ensures
     ∙ list-written (s .args .s) (s .args .list .now) (h .last .0) (z .last .0) (s .pre) (h .ensures) (z .ensures)
 
@@ -47,10 +47,10 @@ draw-spec =
     write-header-requires
     cast-end
     add-end
-    sub-clear
-    part-clear-start
-    part-clear-end
-    clear-requires
+    sub-fill
+    part-fill-start
+    part-fill-end
+    fill-requires
     write-cells-requires
     same-length
     returns)

@@ -4,8 +4,8 @@ use Rattle.set_up.proofs.Laws.{cell-written}
 use Rattle.set_up.proofs.write_cell.Statement.{statement}
 use Rattle.set_up.proofs.write_cell.Tie as tie
 
-clear-requires : tie.Need-clear-requires
-clear-requires c κs = search needs
+fill-requires : tie.Need-fill-requires
+fill-requires c κs = search needs
 
 slice-write-part : tie.Need-slice-write-part
 slice-write-part c = search needs
@@ -19,8 +19,8 @@ same-length c = search needs
 returns : tie.Need-returns
 returns c =
     let a = c .before .before .before .before .before .args in
-    rw (c .before .before .clear .ensures) (cell-written _ (a .first) (a .mark) (c .before .before .before .before .before .pre))
+    rw (c .before .before .fill .ensures) (cell-written _ (a .first) (a .mark) (c .before .before .before .before .before .pre))
 
 pub write-cell-spec : {M : Type 1} → statement M
 write-cell-spec =
-    tie.close (tie.spec clear-requires slice-write-part slice-write-part-2 same-length returns)
+    tie.close (tie.spec fill-requires slice-write-part slice-write-part-2 same-length returns)

@@ -14,11 +14,11 @@ use Rattle.set_up.proofs.write_cells.Statement.{statement}
 use Rattle.set_up.proofs.write_cells.Tie as tie
 
 abbrev Inv-loop : tie.InvT-loop
-Inv-loop list₀ d c words at₀ x₀ list at x =
+Inv-loop list₀ d c cell-words at₀ x₀ list at x =
     (x ≤ c) × ((at ≡ headerWords + d + x * cellWords d) × ((length list ≡ length list₀) × (list ≡ cellsDone list₀ d c x ++ drop at list₀)))
 
 abbrev μ-loop : tie.MeasureT-loop
-μ-loop list₀ d c words at₀ x₀ list at x = c - x
+μ-loop list₀ d c cell-words at₀ x₀ list at x = c - x
 
 -- cell x lies inside the list
 inside : (c : tie.In-loop Inv-loop μ-loop) → c .before .loop .at + cellWords (c .before .before .before .args .d) ≤ length (c .before .loop .list)
@@ -26,11 +26,14 @@ inside c =
     let s = c .before .before .before in
     omega (arith, cell-inside (s .args .list .now) (s .args .d) (s .args .c) (s .pre) (c .before .loop .x) (search needs))
 
-mul-words : tie.Need-mul-words Inv-loop μ-loop
-mul-words c = search needs
+cast-cell-words : tie.Need-cast-cell-words Inv-loop μ-loop
+cast-cell-words c = search needs
 
-add-words : tie.Need-add-words Inv-loop μ-loop
-add-words c = search needs
+mul-cell-words : tie.Need-mul-cell-words Inv-loop μ-loop
+mul-cell-words c = search needs
+
+add-cell-words : tie.Need-add-cell-words Inv-loop μ-loop
+add-cell-words c = search needs
 
 add-at : tie.Need-add-at Inv-loop μ-loop
 add-at c = search needs
@@ -104,8 +107,9 @@ write-cells-spec =
     (tie.spec
     Inv-loop
     μ-loop
-    mul-words
-    add-words
+    cast-cell-words
+    mul-cell-words
+    add-cell-words
     add-at
     loop-holds
     add-end

@@ -1,13 +1,12 @@
--- `insert::put_links` meets its contract: the part lent is the cell's links.
+-- `new_cell::put_links` meets its contract: the part lent is the cell's links.
 use mathlib.Core.Path.{refl}
-use Prim.Native.Nat.{_+_}
 use borrow.Author.Needs.{needs}
-use Rattle.settings.specs.Numbers.{fieldsBeforeCoordinates}
+use Rattle.meaning.specs.Stores.{linkField}
 use Rattle.words.proofs.Laws.{stores-shaped}
-use Rattle.insert.specs.Inserting.{linkWords}
-use Rattle.insert.proofs.Laws.{links-inside, links-long, links-written}
-use Rattle.insert.proofs.put_links.Statement.{statement}
-use Rattle.insert.proofs.put_links.Tie as tie
+use Rattle.new_cell.specs.NewCell.{linkWords}
+use Rattle.new_cell.proofs.Laws.{links-inside, links-long, links-written}
+use Rattle.new_cell.proofs.put_links.Statement.{statement}
+use Rattle.new_cell.proofs.put_links.Tie as tie
 
 add-place : tie.Need-add-place
 add-place c = search needs
@@ -48,7 +47,7 @@ returns c =
     let a = c .before .before .before .before .before .before .before .before .args in
     let pre = c .before .before .before .before .before .before .before .before .pre in
     rw (links-written (pre .0) (pre .1 .0) (c .before .before .before .before .before .place .ensures .0) refl (a .q) (a .c) (c .before .before .write-links .ensures))
-    (refl, stores-shaped (pre .0) (a .n) (fieldsBeforeCoordinates + a .s .dimensions) (linkWords (a .s .dimensions) (a .q) (a .c)))
+    (refl, stores-shaped (pre .0) (a .n) (linkField (a .s .dimensions) 0) (linkWords (a .s .dimensions) (a .q) (a .c)))
 
 pub put-links-spec : {M : Type 1} → statement M
 put-links-spec =

@@ -1,12 +1,12 @@
--- `insert::put_coordinates` meets its contract: the part lent is the cell's coordinates.
+-- `new_cell::put_coordinates` meets its contract: the part lent is the cell's coordinates.
 use mathlib.Core.Path.{refl}
 use native.Mathlib.Omega.{arith}
 use borrow.Author.Needs.{needs}
 use Rattle.settings.specs.Numbers.{fieldsBeforeCoordinates}
 use Rattle.meaning.specs.Keys.{coordinates}
 use Rattle.words.proofs.Laws.{part-inside, coordinates-written, stores-shaped}
-use Rattle.insert.proofs.put_coordinates.Statement.{statement}
-use Rattle.insert.proofs.put_coordinates.Tie as tie
+use Rattle.new_cell.proofs.put_coordinates.Statement.{statement}
+use Rattle.new_cell.proofs.put_coordinates.Tie as tie
 
 place-requires : tie.Need-place-requires
 place-requires c κs = search needs

@@ -1,9 +1,9 @@
--- `insert::write_entry` meets its contract: three stores and the debt in a row are a run of six words, with the debt by p and q.
+-- `new_cell::write_entry` meets its contract: three stores and the debt in a row are a run of six words, with the debt by p and q.
 use native.Mathlib.Omega.{arith}
 use borrow.Author.Needs.{needs}
-use Rattle.insert.proofs.Laws.{owing-written, settled-written}
-use Rattle.insert.proofs.write_entry.Statement.{statement}
-use Rattle.insert.proofs.write_entry.Tie as tie
+use Rattle.new_cell.proofs.Laws.{owing-written, settled-written}
+use Rattle.new_cell.proofs.write_entry.Statement.{statement}
+use Rattle.new_cell.proofs.write_entry.Tie as tie
 
 store-requires : tie.Need-store-requires
 store-requires c κs = search needs

@@ -1,8 +1,8 @@
--- `insert::write_debt` meets its contract: three stores in a row are a run of three words.
+-- `new_cell::write_debt` meets its contract: three stores in a row are a run of three words.
 use borrow.Author.Needs.{needs}
-use Rattle.insert.proofs.Laws.{debt-written}
-use Rattle.insert.proofs.write_debt.Statement.{statement}
-use Rattle.insert.proofs.write_debt.Tie as tie
+use Rattle.new_cell.proofs.Laws.{debt-written}
+use Rattle.new_cell.proofs.write_debt.Statement.{statement}
+use Rattle.new_cell.proofs.write_debt.Tie as tie
 
 store-requires : tie.Need-store-requires
 store-requires c κs = search needs

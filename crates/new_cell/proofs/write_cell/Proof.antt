@@ -1,8 +1,8 @@
--- `insert::write_cell` meets its contract: entry, coordinates and links, one after the other, are one run of words.
+-- `new_cell::write_cell` meets its contract: entry, coordinates and links, one after the other, are one run of words, those of a new cell.
 use borrow.Author.Needs.{needs}
-use Rattle.insert.proofs.Laws.{cell-written}
-use Rattle.insert.proofs.write_cell.Statement.{statement}
-use Rattle.insert.proofs.write_cell.Tie as tie
+use Rattle.new_cell.proofs.Laws.{cell-written}
+use Rattle.new_cell.proofs.write_cell.Statement.{statement}
+use Rattle.new_cell.proofs.write_cell.Tie as tie
 
 write-entry-requires : tie.Need-write-entry-requires
 write-entry-requires c κs = search needs
@@ -18,10 +18,11 @@ same-length c = search needs
 
 returns : tie.Need-returns
 returns c =
-    let a = c .before .before .before .before .before .before .before .before .before .before .before .before .before .args in
+    let s = c .before .before .before .before .before .before .before .before .before .before .before .before .before in
+    let a = s .args in
     let links = c .before .before .put-links .ensures in (
       rw (links .0, c .before .before .before .before .before .before .put-coordinates .ensures .0, c .before .before .before .before .before .before .before .before .before .before .write-entry .ensures .0)
-          (cell-written (a .s .base) (a .s .dimensions) (a .list .now) (a .n) (a .key) (a .value) (a .f)),
+          (cell-written (a .s .base) (a .s .dimensions) (a .list .now) (a .n) (a .key) (a .value) (a .f) (s .pre .1 .1 .none)),
       links .1,
     )
 
