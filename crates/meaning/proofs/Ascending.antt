@@ -9,6 +9,7 @@ use Rattle.meaning.specs.Row.{Entry}
 use Rattle.meaning.specs.State.{occurrences}
 use Rattle.meaning.proofs.Order.{Asc}
 use Rattle.meaning.proofs.Cells.{occurrences-here, occurrences-past}
+use Rattle.meaning.proofs.Places.{occurrences-more}
 
 -- numbers above a number, each above the one before
 abbrev pub Rising : ℕ → List ℕ → Type 0
@@ -31,11 +32,7 @@ pub member-here : (x : ℕ) (xs : List ℕ) → 0 < occurrences x (x ∷ xs)
 member-here x xs = let e = occurrences-here x x xs refl in omega arith
 
 pub member-later : (k x : ℕ) (xs : List ℕ) → 0 < occurrences k xs → 0 < occurrences k (x ∷ xs)
-member-later k x xs h = go (ℕ-discrete x k)
-  where
-    go : Dec (x ≡ k) → 0 < occurrences k (x ∷ xs)
-    go (yes e) = let t = occurrences-here k x xs e in omega arith
-    go (no ne) = let t = occurrences-past k x xs ne in omega (arith, h)
+member-later k x xs h = let more = occurrences-more k x xs in omega arith
 
 -- members are above what the list rises from
 pub member-above : (low k : ℕ) (xs : List ℕ) → Rising low xs → 0 < occurrences k xs → low < k

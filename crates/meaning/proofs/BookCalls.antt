@@ -28,7 +28,7 @@ use Rattle.meaning.proofs.KeepsFinish.{paid-keeping, finished-sound}
 use Rattle.meaning.proofs.KeepsTake.{dead-keeping, taken-sound}
 use Rattle.meaning.proofs.KeepsSweep.{keptBy, paid-all-keeping, swept-sound}
 use Rattle.meaning.proofs.KeepsInsert.{entry-split, revived-keeping, revived-sound, added-sound}
-use Rattle.meaning.proofs.Outcomes.{set-up-outcome-out-of-range, set-up-outcome-wrong-length, set-up-outcome, insert-outcome-bad-key, insert-outcome-live, insert-outcome-dead, insert-outcome-full, insert-outcome-new, find-writes-nothing, finish-outcome-bad-key, finish-outcome-absent, finish-outcome-standing, take-outcome-none, take-outcome-first, sweep-outcome}
+use Rattle.meaning.proofs.Outcomes.{set-up-outcome-out-of-range, set-up-outcome-wrong-length, set-up-outcome, insert-outcome-bad-key, insert-outcome-live, insert-outcome-dead, insert-outcome-full, insert-outcome-new, find-writes-nothing, finish-outcome-bad-key, finish-outcome-absent, finish-outcome-standing, take-outcome-none, take-outcome-first, sweep-outcome, key-cases, live-cases, free-cases}
 use Rattle.meaning.proofs.BookRow.{pairsIn, keysIn, pairs-dead, pairs-past, pairs-after, pairs-changed, pairs-put, isThere, isLive, key-stands, key-lives, entry-key, changed-alone, pairs-empty, pairs-first, kept-keys, kept-pairs, absent-changed, put-pairs, put-keys}
 
 -- the largest key, the cells, the live pairs and the standing keys of a state
@@ -240,27 +240,11 @@ module _ (s : State) (v : Sound s) (key value : ℕ) (l : 1 ≤ key) (h : key �
 
 pub insert-booked : (key value : ℕ) (s : State) → Sound s → Booking (insert-key key value) s
 unfolding outcome
-insert-booked key value s v = at (decLe 1 key) (decLe key (s .settings .largest))
-  where
-    bad : (1 ≤ key → s .settings .largest < key) → Booking (insert-key key value) s
-    bad f = still (insert-key key value) s v (ap (λ o. o .words) (insert-outcome-bad-key s v key value f)) (booked-untried key value (length (picture s)) (bookIn s) f)
-
-    good : (l : 1 ≤ key) (h : key ≤ s .settings .largest) (o : Option Entry) → entryAt key (s .row) ≡ o → Booking (insert-key key value) s
-    good l h none e = at (ℕ-discrete (length (s .free)) 0)
-      where
-        at : Dec (length (s .free) ≡ 0) → Booking (insert-key key value) s
-        at (yes full) = insert-full-booked s v key value l h e full
-        at (no ne) = insert-new-booked s v key value l h e (omega arith)
-    good l h (some x) e = at (x .live) refl
-      where
-        at : (t : Bool) → x .live ≡ t → Booking (insert-key key value) s
-        at true live = insert-live-booked s v key value l h x e live
-        at false dead = insert-dead-booked s v key value l h x e dead
-
-    at : Dec (1 ≤ key) → Dec (key ≤ s .settings .largest) → Booking (insert-key key value) s
-    at (yes l) (yes h) = good l h (entryAt key (s .row)) refl
-    at (yes l) (no h) = bad (λ m. omega arith)
-    at (no l) h = bad (λ m. absurd (l m))
+insert-booked key value s v =
+    key-cases s key
+    (λ n. still (insert-key key value) s v (ap (λ o. o .words) (insert-outcome-bad-key s v key value n)) (booked-untried key value (length (picture s)) (bookIn s) n))
+    (λ l h e. free-cases s (insert-full-booked s v key value l h e) (insert-new-booked s v key value l h e))
+    (λ l h x e. live-cases x (insert-live-booked s v key value l h x e) (insert-dead-booked s v key value l h x e))
 
 -- Find
 
@@ -272,27 +256,19 @@ find-booked key s v = still (find-key key) s v (find-writes-nothing (picture s) 
 
 pub finish-booked : (key : ℕ) (s : State) → Sound s → Booking (finish-key key) s
 unfolding outcome booked
-finish-booked key s v = at (decLe 1 key) (decLe key (s .settings .largest))
-  where
-    bad : (1 ≤ key → s .settings .largest < key) → Booking (finish-key key) s
-    bad f = still (finish-key key) s v (ap (λ o. o .words) (finish-outcome-bad-key s v key f)) refl
-
-    good : (l : 1 ≤ key) (h : key ≤ s .settings .largest) (o : Option Entry) → entryAt key (s .row) ≡ o → Booking (finish-key key) s
-    good l h none e = still (finish-key key) s v (ap (λ o. o .words) (finish-outcome-absent s v key l h e)) refl
-    good l h (some x) e =
-        let t = withRow s (finished (x .cell) (s .row)) in
-        record {
-          after = t;
-          sound = finished-sound s (x .cell) v;
-          words = ap (λ o. o .words) (finish-outcome-standing s v key l h x e);
-          long = same-length s t refl;
-          book = book-is s t (pairsIn (s .row)) (keysIn (s .row)) refl (finished-pairs (x .cell) (s .row)) (finished-keys (x .cell) (s .row));
-        }
-
-    at : Dec (1 ≤ key) → Dec (key ≤ s .settings .largest) → Booking (finish-key key) s
-    at (yes l) (yes h) = good l h (entryAt key (s .row)) refl
-    at (yes l) (no h) = bad (λ m. omega arith)
-    at (no l) h = bad (λ m. absurd (l m))
+finish-booked key s v =
+    key-cases s key
+    (λ n. still (finish-key key) s v (ap (λ o. o .words) (finish-outcome-bad-key s v key n)) refl)
+    (λ l h e. still (finish-key key) s v (ap (λ o. o .words) (finish-outcome-absent s v key l h e)) refl)
+    (λ l h x e.
+    let t = withRow s (finished (x .cell) (s .row)) in
+    record {
+      after = t;
+      sound = finished-sound s (x .cell) v;
+      words = ap (λ o. o .words) (finish-outcome-standing s v key l h x e);
+      long = same-length s t refl;
+      book = book-is s t (pairsIn (s .row)) (keysIn (s .row)) refl (finished-pairs (x .cell) (s .row)) (finished-keys (x .cell) (s .row));
+    })
 
 -- Take
 

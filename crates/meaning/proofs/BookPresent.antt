@@ -4,13 +4,13 @@ use mathlib.Core.Path.{_≡_, refl, sym, _∙_, ap, subst}
 use mathlib.Core.Bool.{Bool, true, false, false≢true}
 use mathlib.Core.Logic.{_↔_}
 use mathlib.Core.Option.{Option, none, some}
-use Prim.Native.Nat.{ℕ, _+_, _*_, _≤_, _<_}
+use Prim.Native.Nat.{ℕ, _≤_, _<_}
 use native.Mathlib.Decide.{ℕ-discrete}
 use native.Mathlib.Omega.{arith}
-use lib.ListN.{length, getD, getD-replicate}
+use lib.ListN.{length, getD}
 use Rattle.meaning.specs.Row.{Entry, Place, places, placeOf, entryAt}
 use Rattle.meaning.specs.State.{State}
-use Rattle.meaning.specs.Picture.{mark, standingWords, freeWords, wordsOf, picture}
+use Rattle.meaning.specs.Picture.{mark, standingWords, wordsOf, picture, nextFree}
 use Rattle.meaning.specs.Words.{keyAt, markAt}
 use Rattle.meaning.specs.Operations.{insertOut, findOut}
 use Rattle.meaning.specs.Calls.{outcome}
@@ -19,10 +19,11 @@ use Rattle.meaning.specs.Promises.{Live, PresentMeansThatKey}
 use Rattle.meaning.proofs.Order.{All, all-map}
 use Rattle.meaning.proofs.State.{Sound}
 use Rattle.meaning.proofs.Cells.{row-range}
-use Rattle.meaning.proofs.Picture.{picture-largest, picture-cells, picture-word, Told, told}
-use Rattle.meaning.proofs.WalkRead.{all-places, row-key-read}
-use Rattle.meaning.proofs.Outcomes.{on-lists, row-mark, insert-outcome-live, insert-outcome-dead, insert-outcome-full, insert-outcome-new, find-outcome-absent, find-outcome-dead, find-outcome-live}
-use Rattle.meaning.proofs.BookRow.{isLive, entry-key, entry-has, entry-found}
+use Rattle.meaning.proofs.Picture.{picture-largest, picture-cells, picture-word, Told, told, freeWords-rest}
+use Rattle.meaning.proofs.WalkRead.{all-places, row-key-read, row-mark-read}
+use Rattle.meaning.proofs.WalkStop.{entry-found}
+use Rattle.meaning.proofs.Outcomes.{on-lists, insert-outcome-live, insert-outcome-dead, insert-outcome-full, insert-outcome-new, find-outcome-absent, find-outcome-dead, find-outcome-live}
+use Rattle.meaning.proofs.BookRow.{isLive, entry-key, entry-has}
 
 -- On the words
 
@@ -45,12 +46,12 @@ module _ (s : State) (v : Sound s) (key : ℕ) where
       record {
         cell = x .cell;
         within = subst (λ n. x .cell < n) (sym (picture-cells s)) (entry-has (λ y. (0 < y .cell) × (y .cell < s .settings .cells)) key x (s .row) e (row-range s v) .1);
-        mark = entry-has (λ y. markAt (picture s) (y .cell) ≡ mark (y .live)) key x (s .row) e (row-mark s v) ∙ ap mark live;
+        mark = entry-has (λ y. markAt (picture s) (y .cell) ≡ mark (y .live)) key x (s .row) e (row-mark-read s v) ∙ ap mark live;
         same = entry-has (λ y. keyAt (picture s) (y .cell) ≡ y .key) key x (s .row) e (row-key-read s v) ∙ entry-key key x (s .row) e;
       }
 
   shown-live : Live (picture s) key → isLive (entryAt key (s .row)) ≡ true
-  unfolding wordsOf freeWords standingWords
+  unfolding wordsOf standingWords
   shown-live l =
       at (placeOf (l .cell) (places b D (s .row)))
       (picture-word s (l .cell) 0 inside (omega arith)) (picture-word s (l .cell) 2 inside (omega arith))
@@ -69,10 +70,7 @@ module _ (s : State) (v : Sound s) (key : ℕ) where
           markAt (picture s) (l .cell) ≡ getD (wordsOf b D (s .free) (l .cell) o) 2 0 → Told (λ p. Named s (p .entry)) (l .cell) o →
           isLive (entryAt key (s .row)) ≡ true
       at none k m t =
-          absurd (let enough : 1 < 5 + 2 * D = omega arith in
-          let zero = m ∙ getD-replicate {A = ℕ} (5 + 2 * D) 1 0 0 enough in
-          let one = l .mark in
-          omega arith)
+          absurd (let zero = m ∙ freeWords-rest D (nextFree (l .cell) (s .free)) 2 (omega arith) (omega arith) in let one = l .mark in omega arith)
       at (some p) k m t =
           let live = mark-one (p .entry .live) (sym m ∙ l .mark) in
           ap isLive (subst (λ n. entryAt n (s .row) ≡ some (p .entry)) (sym k ∙ l .same) (t .1 live)) ∙ live

@@ -13,9 +13,10 @@ use Rattle.meaning.specs.Row.{Entry, put, those, entryAt}
 use Rattle.meaning.specs.State.{State, occurrences}
 use Rattle.meaning.specs.Operations.{deadFront, fromLive, lastAlone}
 use Rattle.meaning.specs.Book.{Pair, pair, hasKey, putPair, putKey, keptFrom}
+use Rattle.meaning.proofs.AgainstSlips.{present-is-that-key}
 use Rattle.meaning.proofs.Order.{All, Asc, all-map, all-right, asc-above}
 use Rattle.meaning.proofs.State.{Sound}
-use Rattle.meaning.proofs.Cells.{all-zip, all-of-map, occurrences-none}
+use Rattle.meaning.proofs.Cells.{all-of-map, occurrences-none}
 use Rattle.meaning.proofs.Put.{those-keep}
 use Rattle.meaning.proofs.Places.{all-mapped, all-at, asc-smaller, asc-larger, Keeping, keys-changed, onCell}
 use Rattle.meaning.proofs.Keeps.{cell-alone, row-split, deadFront-dead, fromLive-live, live-split, last-split}
@@ -164,26 +165,11 @@ key-lives low key (x ∷ row) a = at (ℕ-discrete (x .key) key) (key-lives (x .
     at (no ne) more = other (x .live) ne ∙ more ∙ sym (ap (λ t. isLive (cond t (some x) (entryAt key row))) (ne-eqb (x .key) key ne))
 
 pub entry-key : (key : ℕ) (x : Entry) (row : List Entry) → entryAt key row ≡ some x → x .key ≡ key
-unfolding entryAt
-entry-key key x [] e = absurd (let z : _≡_ {A = ℕ} 0 1 = cc in omega arith)
-entry-key key x (y ∷ row) e = at (ℕ-discrete (y .key) key) e (entry-key key x row)
-  where
-    at : Dec (y .key ≡ key) → cond (eqb (y .key) key) (some y) (entryAt key row) ≡ some x → (entryAt key row ≡ some x → x .key ≡ key) → x .key ≡ key
-    at (yes h) q more = (let r : some y ≡ some x = rw (eq-eqb (y .key) key h) at q in let same : y ≡ x = cc in ap (λ z. z .key) (sym same) ∙ h)
-    at (no h) q more = more (rw (ne-eqb (y .key) key h) at q)
+entry-key = present-is-that-key
 
 -- what all entries have, the entry with a key has
 pub entry-has : (P : Entry → Type 0) (key : ℕ) (x : Entry) (row : List Entry) → entryAt key row ≡ some x → All P row → P x
 entry-has P key x row e a = let (front, later, split) = entry-split key x row e in all-at P front x later (subst (All P) split a)
-
--- each entry of an ascending row is the one with its key
-pub entry-found : (low : ℕ) (row : List Entry) → Asc low row → All (λ x. entryAt (x .key) row ≡ some x) row
-unfolding entryAt
-entry-found low [] a = tt
-entry-found low (x ∷ row) a = (
-  rw (eq-eqb (x .key) (x .key) refl) refl,
-  all-zip (λ y h found. rw (ne-eqb (x .key) (y .key) (λ q. omega arith)) found) row (asc-above (x .key) row (a .1)) (entry-found (x .key) row (a .1)),
-)
 
 -- One cell changed
 

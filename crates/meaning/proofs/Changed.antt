@@ -6,21 +6,18 @@ use mathlib.Core.Bool.{Bool, true, false, cond, _&&_}
 use mathlib.Core.List.{List, [], _∷_, _++_, map}
 use mathlib.Core.Option.{Option, none, some}
 use Prim.Native.Nat.{ℕ, zero, suc, _+_, _<_}
-use native.Mathlib.Nat.{zero-add}
 use native.Mathlib.Omega.{arith}
 use lib.Dec.{eqb, leb}
-use lib.ListN.{length, getD, List·getD-append}
-use lib.Seq.{getD-append-add}
+use lib.ListN.{length, getD}
 use Rattle.settings.specs.Numbers.{headerWords, fieldsBeforeCoordinates, cellWords}
 use Rattle.meaning.specs.Keys.{coordinates, coordinate, shared}
 use Rattle.meaning.specs.Row.{Entry, headEntry, firstOf, firstSharing, Place, placeOf, settledLink, between, link}
 use Rattle.meaning.specs.State.{State, keyOf, positionKey}
 use Rattle.meaning.specs.Picture.{numbersFrom, mark, standingWords, wordsOf, firstWith, pathWord, path, picture}
 use Rattle.meaning.specs.Stores.{linkField, writePath}
-use Rattle.meaning.proofs.Keys.{coordinates-length}
-use Rattle.meaning.proofs.Blocks.{made-at}
-use Rattle.meaning.proofs.Picture.{shownWords, path-length, picture-word, picture-path}
+use Rattle.meaning.proofs.Picture.{shownWords, path-length, picture-word, picture-path, path-word}
 use Rattle.meaning.proofs.Places.{Keeping, changedPlace, cells-changed, keys-changed, firstOf-changed, places-changed}
+use Rattle.meaning.proofs.WalkRead.{words-coordinate, words-link}
 use Rattle.meaning.proofs.SentencesCells.{placesIn, Placed}
 use Rattle.meaning.proofs.Keeps.{changedState}
 use Rattle.meaning.proofs.Stores.{wordIn, picture-exact, path-sets-same}
@@ -65,10 +62,6 @@ module _ (s t : State) (settings : s .settings ≡ t .settings) (position : s .p
   path-unmoved = ap₂ (λ (word : ℕ → ℕ) r. map word (numbersFrom 0 (r .dimensions))) (fun-ext pathWord-unmoved) settings
 
 -- word d of the path
-pub path-word : (s : State) (d : ℕ) → d < s .settings .dimensions → getD (path s) d 0 ≡ pathWord s d
-unfolding path
-path-word s d h = made-at (pathWord s) 0 (s .settings .dimensions) d 0 h ∙ ap (pathWord s) (zero-add d)
-
 pub picture-path-word : (s : State) (d : ℕ) → d < s .settings .dimensions → getD (picture s) (headerWords + d) 0 ≡ getD (path s) d 0
 picture-path-word s d h = picture-path s d h ∙ sym (path-word s d h)
 
@@ -100,22 +93,19 @@ pub standing-by : (b D : ℕ) (q : Place) → standingWords b D q ≡ wordsBy b 
 unfolding standingWords wordsBy link
 standing-by b D q = refl
 
+-- its first six
+abbrev sixBy : ℕ → ℕ → ℕ → Bool → Bool → Place → List ℕ
+sixBy b D value live owes q =
+    q .entry .key ∷ value ∷ mark live
+    ∷ cond owes (firstOf (q .later) .cell) 0 ∷ cond owes (q .dimension) 0 ∷ cond owes (shared b D (q .entry .key) (firstOf (q .later) .key)) 0 ∷ []
+
 pub by-coordinate : (b D value : ℕ) (live beforeOwes owes : Bool) (q : Place) (d : ℕ) → d < D → getD (wordsBy b D value live beforeOwes owes q) (fieldsBeforeCoordinates + d) 0 ≡ coordinate b D (q .entry .key) d
 unfolding wordsBy
-by-coordinate b D value live beforeOwes owes q d h =
-    let there : 6 + d ≡ suc (suc (suc (suc (suc (suc d))))) = omega arith in
-    ap (λ i. getD (wordsBy b D value live beforeOwes owes q) i 0) there
-    ∙ List·getD-append (coordinates b D (q .entry .key)) (map (linkBy b D beforeOwes owes q) (numbersFrom 0 D)) 0 d (omega (arith, coordinates-length b D (q .entry .key)))
+by-coordinate b D value live beforeOwes owes q d h = words-coordinate (sixBy b D value live owes q) refl b D (q .entry .key) (linkBy b D beforeOwes owes q) d h
 
 pub by-link : (b D value : ℕ) (live beforeOwes owes : Bool) (q : Place) (d : ℕ) → d < D → getD (wordsBy b D value live beforeOwes owes q) (linkField D d) 0 ≡ linkBy b D beforeOwes owes q d
 unfolding wordsBy
-by-link b D value live beforeOwes owes q d h =
-    let size = coordinates-length b D (q .entry .key) in
-    let there : 6 + D + d ≡ suc (suc (suc (suc (suc (suc (length (coordinates b D (q .entry .key)) + d)))))) = omega arith in
-    ap (λ i. getD (wordsBy b D value live beforeOwes owes q) i 0) there
-    ∙ getD-append-add (coordinates b D (q .entry .key)) (map (linkBy b D beforeOwes owes q) (numbersFrom 0 D)) d 0
-    ∙ made-at (linkBy b D beforeOwes owes q) 0 D d 0 h
-    ∙ ap (linkBy b D beforeOwes owes q) (omega arith)
+by-link b D value live beforeOwes owes q d h = words-link (sixBy b D value live owes q) refl b D (q .entry .key) (linkBy b D beforeOwes owes q) d h
 
 -- Changed entries
 

@@ -7,9 +7,8 @@ use native.Mathlib.Decide.{ℕ-discrete}
 use native.Mathlib.Omega.{arith}
 use lib.ListN.{length}
 use Rattle.meaning.specs.State.{occurrences}
-use Rattle.meaning.proofs.Order.{All, all-map}
+use Rattle.meaning.proofs.Order.{All}
 use Rattle.meaning.proofs.Cells.{occurrences-here, occurrences-past}
-use Rattle.meaning.proofs.Places.{occurrences-more}
 
 -- how often the n numbers from i on occur, all together
 unfoldable total : ℕ → ℕ → List ℕ → ℕ
@@ -48,10 +47,3 @@ total-each i (suc n) xs once =
 
 pub each-once : (i n : ℕ) (xs : List ℕ) → All (λ x. (i ≤ x) × (x < i + n)) xs → ((x : ℕ) → i ≤ x → x < i + n → occurrences x xs ≡ 1) → length xs ≡ n
 each-once i n xs all once = sym (total-length i n xs all) ∙ total-each i n xs once
-
-pub all-occur : (xs : List ℕ) → All (λ x. 0 < occurrences x xs) xs
-all-occur [] = tt
-all-occur (x ∷ xs) = (
-  (let h = occurrences-here x x xs refl in omega arith),
-  all-map (λ y h. let m = occurrences-more y x xs in omega arith) xs (all-occur xs),
-)

@@ -10,7 +10,7 @@ use Rattle.settings.proofs.Laws.{base-at-least-two}
 use Rattle.meaning.specs.Keys.{coordinate, shared}
 use Rattle.meaning.specs.Words.{keyAt, markAt}
 use Rattle.meaning.specs.Sentences.{dimensionsAt, countAt, baseAt, sharedAt, Free, Standing, NextSmaller, NextLarger, Dimension, of-head, of-other, LargerAt, Settled, leads, leads-nowhere, below-dimension, AList}
-use Rattle.meaning.proofs.Keys.{shared-sym, shared-agreed, coordinate-less, coordinate-rises}
+use Rattle.meaning.proofs.Keys.{shared-agreed, coordinate-less, coordinate-larger}
 
 module _ (ws : List ℕ) (a : AList ws) where
   -- Keys
@@ -49,20 +49,9 @@ module _ (ws : List ℕ) (a : AList ws) where
 
   -- larger at the first coordinate that is not shared, and larger by the key
   pub larger-key : (x d y : ℕ) → Standing ws x → LargerAt ws x d y → keyAt ws x < keyAt ws y
-  larger-key x d y sx l = at (decLt (keyAt ws x) (keyAt ws y))
-    where
-      b : ℕ
-      b = baseAt ws
-
-      D : ℕ
-      D = dimensionsAt ws
-
-      at : Dec (keyAt ws x < keyAt ws y) → keyAt ws x < keyAt ws y
-      at (yes h) = h
-      at (no h) =
-          let shares = shared-sym b D (keyAt ws y) (keyAt ws x) ∙ sym (shared-is x y sx (l .standing)) ∙ l .shares in
-          let rises = coordinate-rises b D (keyAt ws y) (keyAt ws x) d base-is-positive (key-below y (l .standing)) (key-below x sx) (omega arith) (omega arith) in
-          absurd (let less = l .larger in omega arith)
+  larger-key x d y sx l =
+      let shares = sym (shared-is x y sx (l .standing)) ∙ l .shares in
+      coordinate-larger (baseAt ws) (dimensionsAt ws) (keyAt ws x) (keyAt ws y) d base-is-positive (key-below x sx) (key-below y (l .standing)) (omega arith) (l .larger)
 
   pub larger-at : (x d y : ℕ) → Standing ws x → Standing ws y → keyAt ws x < keyAt ws y → shared (baseAt ws) (dimensionsAt ws) (keyAt ws x) (keyAt ws y) ≡ d → LargerAt ws x d y
   larger-at x d y sx sy h e =

@@ -1,19 +1,18 @@
 -- Debts and links of a buffer of which every sentence holds are those of its places: the first later one that shares exactly d coordinates
 -- is the least-key one, so the settled link is what the sentence asks for, and that has one answer.
 use mathlib.Core.Path.{_≡_, refl, sym, _∙_, ap, ap₂, subst}
-use mathlib.Core.Bool.{Bool, true, false, cond, _&&_}
+use mathlib.Core.Bool.{Bool, true, false, cond, _&&_, false≢true}
 use mathlib.Core.List.{List, _∷_}
 use Prim.Native.Nat.{ℕ, _≤_, _<_}
 use native.Mathlib.Omega.{arith}
-use lib.Dec.{leb, ltb}
-use borrow.Author.Tests.{leb-true, leb-false, ltb-true, le-leb, lt-ltb}
 use Rattle.meaning.specs.Keys.{shared}
 use Rattle.meaning.specs.Row.{Entry, firstOf, firstSharing, Place, settledLink, owed, low, high, between, link}
 use Rattle.meaning.specs.Words.{keyAt, owedAt, lowAt, highAt, linkAt}
-use Rattle.meaning.specs.Sentences.{dimensionsAt, baseAt, NextLarger, LargerAt, Settled, leads, leads-nowhere, below-dimension, Owing, AList}
-use Rattle.meaning.proofs.Order.{All, both, and-both, asc-above}
+use Rattle.meaning.specs.Sentences.{dimensionsAt, baseAt, NextLarger, LargerAt, Settled, Owing, AList}
+use Rattle.meaning.proofs.Order.{All, both, and-both, asc-above, all-map}
 use Rattle.meaning.proofs.Cells.{all-zip}
-use Rattle.meaning.proofs.SentencesRow.{all-in, Least, least, nowhere, SharesExactly, first-sharing}
+use Rattle.meaning.proofs.WalkRead.{between-is, between-facts, linkDue, linkOwing, link-tested}
+use Rattle.meaning.proofs.SentencesShape.{settled-first, settled-link}
 use Rattle.meaning.proofs.ConverseKeys.{shared-is, larger-key, larger-at, next-larger-of-one, settled-unique}
 use Rattle.meaning.proofs.ConverseRow.{Shown, owes-shown}
 use Rattle.meaning.proofs.ConversePlaces.{above-has, above-next-larger, Stands, Behind, none, one, PlaceShown}
@@ -22,16 +21,10 @@ use Rattle.meaning.proofs.ConverseState.{DebtShown, debt-shown}
 -- A link's number between two others
 
 inside : (t : Bool) (lower above d : ℕ) → (t && between lower above d) ≡ true → (t ≡ true) × ((lower ≤ d) × (d < above))
-inside t lower above d e =
-    let one = both t (between lower above d) e in
-    let two = both (leb lower d) (ltb d above) (one .1) in
-    (one .0, (leb-true lower d (two .0), ltb-true d above (two .1)))
+inside t lower above d e = let (h, k) = both t (between lower above d) e in (h, between-facts lower above d k)
 
 outside : (t : Bool) (lower above d : ℕ) → (t && between lower above d) ≡ false → t ≡ true → lower ≤ d → d < above → ⊥
-outside t lower above d e o h k =
-    let f = and-both t (between lower above d) o (and-both (leb lower d) (ltb d above) (le-leb lower d h) (lt-ltb d above k)) in
-    let z : _≡_ {A = ℕ} 0 1 = cc in
-    omega arith
+outside t lower above d e o h k = false≢true (sym e ∙ and-both t (between lower above d) o (between-is lower above d h k))
 
 owing-cases : (owes : Bool) (v w : ℕ) → (owes ≡ true → w ≡ v) → (owes ≡ false → w ≡ 0) → cond owes v 0 ≡ w
 owing-cases true v w f g = sym (f refl)
@@ -41,8 +34,10 @@ module _ (ws : List ℕ) (a : AList ws) where
   -- Links
 
   -- link d, by the later ones of a cell of dimension at most d
-  settled-first : (n : Entry) (e : ℕ) (later : List Entry) (d : ℕ) → Stands ws n e later → e ≤ d → Settled ws (n .cell) d (firstSharing (baseAt ws) (dimensionsAt ws) (n .key) d later)
-  settled-first n e later d s h = at (first-sharing b D (n .key) d (n .key) later (s .above .ascends))
+  stands-settled : (n : Entry) (e : ℕ) (later : List Entry) (d : ℕ) → Stands ws n e later → e ≤ d → Settled ws (n .cell) d (firstSharing (baseAt ws) (dimensionsAt ws) (n .key) d later)
+  stands-settled n e later d s h =
+      settled-first ws b D (n .cell) (n .key) d later (s .dimension) h (s .above .ascends) (all-map (λ y t. sym (t .key)) later (s .above .shown))
+      (all-zip larger later (s .above .shown) (asc-above (n .key) later (s .above .ascends))) has
     where
       b : ℕ
       b = baseAt ws
@@ -67,20 +62,9 @@ module _ (ws : List ℕ) (a : AList ws) where
           (all-zip (λ y t f q. f (ap (shared b D (n .key)) (t .key) ∙ q)) later (s .above .shown) all)
           z (l .standing) (let i = s .shown .key in omega arith) (shares z l)
 
-      at : {c : ℕ} → Least (SharesExactly b D (n .key) d) later c → Settled ws (n .cell) d c
-      at (least y m q all) =
-          let t = all-in (Shown ws) m (s .above .shown) in
-          let k = all-in (λ z. n .key < z .key) m (asc-above (n .key) later (s .above .ascends)) in
-          leads (s .dimension) h (larger y t k q)
-          (has (λ z. keyAt ws (y .cell) ≤ keyAt ws z) (all-zip (λ z u f r. let i = t .key in let j = u .key in let l = f r in omega arith) later (s .above .shown) all))
-      at (nowhere all) = leads-nowhere (s .dimension) h (has (λ z. ⊥) all)
-
-  settled-link : (p : Place) (d : ℕ) → PlaceShown ws p → Settled ws (p .entry .cell) d (settledLink (baseAt ws) (dimensionsAt ws) p d)
-  settled-link p d q = at (leb (p .dimension) d) refl
-    where
-      at : (t : Bool) → leb (p .dimension) d ≡ t → Settled ws (p .entry .cell) d (cond t (firstSharing (baseAt ws) (dimensionsAt ws) (p .entry .key) d (p .later)) 0)
-      at true e = settled-first (p .entry) (p .dimension) (p .later) d (q .here) (leb-true (p .dimension) d e)
-      at false e = below-dimension (q .here .dimension) (leb-false (p .dimension) d e)
+  place-settled : (p : Place) (d : ℕ) → PlaceShown ws p → Settled ws (p .entry .cell) d (settledLink (baseAt ws) (dimensionsAt ws) p d)
+  place-settled p d q =
+      settled-link ws (baseAt ws) (dimensionsAt ws) (p .entry .cell) p d (q .here .dimension) (stands-settled (p .entry) (p .dimension) (p .later) d (q .here))
 
   -- Debts
 
@@ -113,7 +97,7 @@ module _ (ws : List ℕ) (a : AList ws) where
       let t = debt-shown ws a (p .before) (p .beforeDimension) (p .entry ∷ p .later) s o in
       let l = t .low in
       let g = t .high in
-      settled-unique ws a (settled-first (p .before) (p .beforeDimension) (p .entry ∷ p .later) d s h)
+      settled-unique ws a (stands-settled (p .before) (p .beforeDimension) (p .entry ∷ p .later) d s h)
       (subst (λ c. Settled ws n d (linkAt ws c d)) (t .owed) (m .owed-links d (omega arith) (omega arith)))
 
   -- who owes link d of the entry of a place is the entry before
@@ -129,9 +113,7 @@ module _ (ws : List ℕ) (a : AList ws) where
       (o, (let h = t .low in let k = v .low in omega arith, let h = t .high in let k = v .high in omega arith))
 
   pub link-shown : (p : Place) (d : ℕ) → PlaceShown ws p → d < dimensionsAt ws → link (baseAt ws) (dimensionsAt ws) p d ≡ linkAt ws (p .entry .cell) d
-  unfolding link
-  link-shown p d q less =
-      at (p .before .owes && between (p .beforeDimension) (p .dimension) d) (p .entry .owes && between (low p) (high b D p) d) refl refl
+  link-shown p d q less = at (linkDue p d) (linkOwing b D p d) refl refl
     where
       b : ℕ
       b = baseAt ws
@@ -142,19 +124,20 @@ module _ (ws : List ℕ) (a : AList ws) where
       x : ℕ
       x = p .entry .cell
 
-      at : (t u : Bool) → (p .before .owes && between (p .beforeDimension) (p .dimension) d) ≡ t → (p .entry .owes && between (low p) (high b D p) d) ≡ u →
-          cond t (firstSharing b D (p .before .key) d (p .entry ∷ p .later)) (cond u 0 (settledLink b D p d)) ≡ linkAt ws x d
+      at : (t u : Bool) → linkDue p d ≡ t → linkOwing b D p d ≡ u → link b D p d ≡ linkAt ws x d
       at true u e f =
-          let i = inside (p .before .owes) (p .beforeDimension) (p .dimension) d e in
-          link-owed p d (q .behind) (i .0) (i .1 .0) (i .1 .1)
+          link-tested b D p d e f ∙
+          (let i = inside (p .before .owes) (p .beforeDimension) (p .dimension) d e in
+          link-owed p d (q .behind) (i .0) (i .1 .0) (i .1 .1))
       at false true e f =
           let i = inside (p .entry .owes) (low p) (high b D p) d f in
           let m = a .debts x (q .here .shown .standing) (q .here .shown .owing (i .0)) in
           let l = low-shown p q in
           let g = high-shown p q in
-          sym (m .own-links d (omega arith) (omega arith))
+          link-tested b D p d e f ∙ sym (m .own-links d (omega arith) (omega arith))
       at false false e f =
-          settled-unique ws a (settled-link p d q)
+          link-tested b D p d e f
+          ∙ settled-unique ws a (place-settled p d q)
           (a .links x d (q .here .shown .standing) less
           (λ w. outside (p .entry .owes) (low p) (high b D p) d f (owes-shown (p .entry) (q .here .shown) (w .owes))
           (let l = low-shown p q in let k = w .low in omega arith) (let g = high-shown p q in let k = w .high in omega arith))

@@ -16,7 +16,7 @@ use Rattle.meaning.specs.Words.{keyAt, valueAt, markAt, owedAt}
 use Rattle.meaning.specs.Sentences.{countAt, Free, Standing, AList}
 use Rattle.meaning.proofs.Order.{All, Asc, all-map}
 use Rattle.meaning.proofs.Cells.{occurrences-here, occurrences-past}
-use Rattle.meaning.proofs.Places.{all-mapped, occurrences-append, none-occurs, keyOf-same, keyOf-other}
+use Rattle.meaning.proofs.Places.{all-mapped, occurrences-append, none-occurs, keyOf-has}
 use Rattle.meaning.proofs.SentencesCells.{standing-not-free}
 use Rattle.meaning.proofs.ConverseKeys.{head-stands, free-or-standing}
 
@@ -100,13 +100,7 @@ unowing-shown x s e = at (x .owes) refl
 
 -- the key of a cell that occurs in a row
 pub shown-key : (ws : List ℕ) (c : ℕ) (row : List Entry) → All (Shown ws) row → 0 < occurrences c (map (λ x. x .cell) row) → keyOf c row ≡ keyAt ws c
-unfolding occurrences
-shown-key ws c [] all h = absurd (omega arith)
-shown-key ws c (x ∷ row) all h = at (ℕ-discrete (x .cell) c) (shown-key ws c row (all .1))
-  where
-    at : Dec (x .cell ≡ c) → (0 < occurrences c (map (λ y. y .cell) row) → keyOf c row ≡ keyAt ws c) → keyOf c (x ∷ row) ≡ keyAt ws c
-    at (yes e) more = keyOf-same c x row e ∙ all .0 .key ∙ ap (keyAt ws) e
-    at (no ne) more = keyOf-other c x row ne ∙ more (rw (occurrences-past c (x .cell) (map (λ y. y .cell) row) ne) at h)
+shown-key ws c row all h = keyOf-has (λ key. key ≡ keyAt ws c) c row h (all-map (λ x s e. s .key ∙ ap (keyAt ws) e) row all)
 
 -- The row
 

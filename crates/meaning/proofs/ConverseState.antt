@@ -20,10 +20,10 @@ use Rattle.meaning.proofs.Order.{All, all-map, all-append}
 use Rattle.meaning.proofs.State.{cellsIn, Debt, Sound}
 use Rattle.meaning.proofs.Cells.{occurrences-here}
 use Rattle.meaning.proofs.Picture.{first-has}
-use Rattle.meaning.proofs.Places.{all-mapped, occurrences-append, occurrences-more, none-occurs}
+use Rattle.meaning.proofs.Places.{all-mapped, occurrences-append, occurrences-more, none-occurs, all-occur}
 use Rattle.meaning.proofs.SentencesCells.{standing-not-free}
 use Rattle.meaning.proofs.ConverseKeys.{next-larger-unique, dimension-unique, head-stands, free-or-standing}
-use Rattle.meaning.proofs.ConverseCount.{each-once, all-occur}
+use Rattle.meaning.proofs.ConverseCount.{each-once}
 use Rattle.meaning.proofs.ConverseRow.{Shown, unowing-shown, standingRow, shown-key, head-shown, row-shown, row-once}
 use Rattle.meaning.proofs.ConversePlaces.{Above, above-next-larger, Stands, PlaceShown, row-above, shown-shared, row-placed}
 

@@ -1,14 +1,13 @@
 -- What finishing writes: the picture of the state with the debt of cell n paid is the words after the links have moved and the debt is
 -- cleared. Only two cells' words depend on that debt: those of n and those of the standing cell after it.
 use mathlib.Core.Path.{_≡_, refl, sym, ap, ap₂, _∙_, subst}
-use mathlib.Core.Bool.{Bool, true, false, cond, _&&_}
+use mathlib.Core.Bool.{Bool, true, false, cond}
 use mathlib.Core.List.{_∷_, map}
 use mathlib.Core.Option.{Option, none, some}
 use Prim.Native.Nat.{ℕ, zero, suc, _+_, _-_, _≤_, _<_}
 use native.Mathlib.Nat.{pos-of-ne-zero}
 use native.Mathlib.Decide.{ℕ-discrete, decLe, decLt}
 use native.Mathlib.Omega.{arith}
-use lib.Dec.{ltb}
 use lib.ListN.{getD}
 use borrow.Author.Tests.{lt-leb}
 use Rattle.settings.specs.Numbers.{headerWords, fieldsBeforeCoordinates, cellWords}
@@ -27,9 +26,9 @@ use Rattle.meaning.proofs.Picture.{picture-dimensions}
 use Rattle.meaning.proofs.Places.{onCell, onCell-cases}
 use Rattle.meaning.proofs.Keeps.{changedState}
 use Rattle.meaning.proofs.KeepsFinish.{paid-keeping}
-use Rattle.meaning.proofs.WalkRead.{between-is, between-not, settled-above}
+use Rattle.meaning.proofs.WalkRead.{between-is, settled-above, between-out}
 use Rattle.meaning.proofs.SentencesRow.Led.{head, led}
-use Rattle.meaning.proofs.SentencesCells.{placesIn, Placed, placed-has, placed-cell, head-placed, occurs-placed, placed-below, place-owed, place-low, place-high}
+use Rattle.meaning.proofs.SentencesCells.{placesIn, Placed, placed-has, placed-cell, head-placed, occurs-placed, placed-below, place-owed, place-low, place-high, place-unowing}
 use Rattle.meaning.proofs.SentencesShape.{NextIn, LedIn, placed-ascends, placed-led, place-after}
 use Rattle.meaning.proofs.Changed.{wordsBy, by-coordinate, by-link, placed-word, changed-word, changed-free, changed-header, changed-path}
 use Rattle.meaning.proofs.Stores.{wordIn, picture-exact, words-equal, field-cases, exact-finished, finishWords-finished, finishWords-none, finishWords-below, Owing, finishWords-debt, finishWords-given, finishWords-cleared, finishWords-cell, finishWords-field, finishWords-before, finishWords-after}
@@ -76,14 +75,6 @@ inside-cases {R} least above d inside outside = at (decLe least d) (decLt d abov
     at (yes h) (yes l) = inside h l
     at (yes h) (no l) = outside (λ a c. l c)
     at (no h) more = outside (λ a c. h a)
-
-between-out : (least above d : ℕ) → (least ≤ d → d < above → ⊥) → between least above d ≡ false
-between-out least above d out = at (decLe least d) (decLe above d)
-  where
-    at : Dec (least ≤ d) → Dec (above ≤ d) → between least above d ≡ false
-    at (yes h) (yes m) = between-not least above d m
-    at (yes h) (no m) = absurd (out h (omega arith))
-    at (no h) more = ap (λ t. t && ltb d above) (lt-leb least d (omega arith))
 
 -- The state after finishing cell n, whose place is p.
 module _ {s : State} (v : Sound s) {n : ℕ} {p : Place} (here : Placed s n p) where
@@ -376,13 +367,6 @@ module _ {s : State} (v : Sound s) {n : ℕ} {p : Place} (here : Placed s n p) w
 -- Any standing cell
 
 module _ {s : State} (v : Sound s) {n : ℕ} {p : Place} (here : Placed s n p) where
-  place-unowing : p .entry .owes ≡ false → OwesNothing (picture s) n
-  place-unowing e = (
-    place-owed v here ∙ ap (λ t. cond t (firstOf (p .later) .cell) 0) e,
-    place-low v here ∙ ap (λ t. cond t (p .dimension) 0) e,
-    place-high v here ∙ ap (λ t. cond t (shared (s .settings .base) (s .settings .dimensions) (p .entry .key) (firstOf (p .later) .key)) 0) e,
-  )
-
   -- it owes nothing, or owes to the standing cell after it
   debt-cases : {R : Type 0} → (OwesNothing (picture s) n → p .entry .owes ≡ false → R) →
       (p .entry .owes ≡ true → (q : Place) → Placed s (q .entry .cell) q → NextIn s p q → Debt (s .settings .base) (s .settings .dimensions) p → R) → R
@@ -393,7 +377,7 @@ module _ {s : State} (v : Sound s) {n : ℕ} {p : Place} (here : Placed s n p) w
           let debt = placed-has here (λ m. m .entry .owes ≡ true → Debt (s .settings .base) (s .settings .dimensions) m) (v .debts) owes in
           let (q, there, next) = place-after v here (debt .later) in
           something owes q there next debt
-      at false unowing = nothing (place-unowing unowing) unowing
+      at false unowing = nothing (place-unowing v here unowing) unowing
 
 module _ (s : State) (v : Sound s) (n : ℕ) (stands : 0 < occurrences n (0 ∷ map (λ x. x .cell) (s .row))) where
   -- what a standing cell owes can be finished

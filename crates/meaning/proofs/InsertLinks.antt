@@ -2,7 +2,7 @@
 -- leads to x, and that is link p of the parent. The next larger entry's dimension becomes q: if that is more than it was, x owes, and
 -- what the entry then has below q is just what x is due. What comes later keeps its links.
 use mathlib.Core.Path.{_≡_, refl, sym, _∙_, ap, subst, subst₂}
-use mathlib.Core.Bool.{Bool, true, false, cond, _&&_}
+use mathlib.Core.Bool.{Bool, true, false, cond, _&&_, and-false}
 use mathlib.Core.List.{List, [], _∷_, _++_}
 use mathlib.Core.Option.{Option, none, some}
 use Prim.Native.Nat.{ℕ, _≤_, _<_, min}
@@ -18,8 +18,8 @@ use Rattle.meaning.proofs.Keys.{shared-less, ultra}
 use Rattle.meaning.proofs.Cells.{all-zip}
 use Rattle.meaning.proofs.Picture.{place-here, place-past, Told, told}
 use Rattle.meaning.proofs.Places.{asc-left, lastFrom}
-use Rattle.meaning.proofs.Parent.{dimensionAfter, parentAfter, placesFrom, Apart, ParentPlace, asc-last, apart-left, sharing-skips, sharing-hits, sharing-none, link-leads, first-place, parent-unique}
-use Rattle.meaning.proofs.WalkRead.{all-places, between-not, between-is, settled-above}
+use Rattle.meaning.proofs.Parent.{dimensionAfter, parentAfter, placesFrom, Apart, ParentPlace, asc-last, apart-left, sharing-skips, sharing-hits, sharing-none, link-leads, first-place, parent-unique, sharing-alike, sharing-above}
+use Rattle.meaning.proofs.WalkRead.{all-places, between-not, between-is, settled-above, between-below, linkDue, dueLink, linkOwing, link-tested, link-settled}
 use Rattle.meaning.proofs.SentencesRow.{places-ascend}
 
 -- Choices between numbers
@@ -35,10 +35,6 @@ and-same : (o t u : Bool) → (o ≡ true → t ≡ u) → (o && t) ≡ (o && u)
 and-same true t u e = e refl
 and-same false t u e = refl
 
-pub and-none : (t : Bool) → (t && false) ≡ false
-and-none true = refl
-and-none false = refl
-
 zero-either : (t : Bool) (v : ℕ) → v ≡ 0 → cond t 0 v ≡ 0
 zero-either true v e = refl
 zero-either false v e = e
@@ -47,9 +43,6 @@ zero-or : (t : Bool) (v : ℕ) → v ≡ 0 → cond t v 0 ≡ 0
 zero-or true v e = e
 zero-or false v e = refl
 
-pub between-below : (least above d : ℕ) → d < least → between least above d ≡ false
-between-below least above d h = ap (λ t. t && ltb d above) (lt-leb least d h)
-
 -- x of dimension d, after a of dimension e
 abbrev pub placeAfter : Entry → ℕ → Entry → ℕ → List Entry → Place
 placeAfter a e x d later = record { entry = x; dimension = d; before = a; beforeDimension = e; later = later }
@@ -57,49 +50,32 @@ placeAfter a e x d later = record { entry = x; dimension = d; before = a; before
 -- Links as they stand, by who owes
 
 module _ (b D : ℕ) where
-  -- link d of p is one that the entry before is due, or one that p's owes
-  abbrev due : Place → ℕ → Bool
-  due p d = p .before .owes && between (p .beforeDimension) (p .dimension) d
-
-  abbrev owing : Place → ℕ → Bool
-  owing p d = p .entry .owes && between (low p) (high b D p) d
-
-  -- what the entry before p is due as link d
-  abbrev dueLink : Place → ℕ → ℕ
-  dueLink p d = firstSharing b D (p .before .key) d (p .entry ∷ p .later)
-
   link-same :
-      (p q : Place) (d : ℕ) → due p d ≡ due q d → (due q d ≡ true → dueLink p d ≡ dueLink q d) → owing p d ≡ owing q d →
-      (owing q d ≡ false → settledLink b D p d ≡ settledLink b D q d) → link b D p d ≡ link b D q d
+      (p q : Place) (d : ℕ) → linkDue p d ≡ linkDue q d → (linkDue q d ≡ true → dueLink b D p d ≡ dueLink b D q d) → linkOwing b D p d ≡ linkOwing b D q d →
+      (linkOwing b D q d ≡ false → settledLink b D p d ≡ settledLink b D q d) → link b D p d ≡ link b D q d
   unfolding link
   link-same p q d e f g h =
-      cond-same (due p d) (due q d) (dueLink p d) (cond (owing p d) 0 (settledLink b D p d)) (dueLink q d) (cond (owing q d) 0 (settledLink b D q d)) e f
-      (λ undue. cond-same (owing p d) (owing q d) 0 (settledLink b D p d) 0 (settledLink b D q d) g (λ y. refl) h)
+      cond-same (linkDue p d) (linkDue q d) (dueLink b D p d) (cond (linkOwing b D p d) 0 (settledLink b D p d)) (dueLink b D q d) (cond (linkOwing b D q d) 0 (settledLink b D q d)) e f
+      (λ undue. cond-same (linkOwing b D p d) (linkOwing b D q d) 0 (settledLink b D p d) 0 (settledLink b D q d) g (λ y. refl) h)
 
   -- after an entry that owes nothing
-  pub link-undue : (p : Place) (d : ℕ) → p .before .owes ≡ false → link b D p d ≡ cond (p .entry .owes && between (low p) (high b D p) d) 0 (settledLink b D p d)
-  unfolding link
-  link-undue p d e = ap (λ t. cond (t && between (p .beforeDimension) (p .dimension) d) (dueLink p d) (cond (owing p d) 0 (settledLink b D p d))) e
+  pub link-undue : (p : Place) (d : ℕ) → p .before .owes ≡ false → link b D p d ≡ cond (linkOwing b D p d) 0 (settledLink b D p d)
+  link-undue p d e = link-tested b D p d (ap (λ t. t && between (p .beforeDimension) (p .dimension) d) e) refl
 
   -- of an entry that owes nothing
-  pub link-unowing :
-      (p : Place) (d : ℕ) → p .entry .owes ≡ false →
-      link b D p d ≡ cond (p .before .owes && between (p .beforeDimension) (p .dimension) d) (firstSharing b D (p .before .key) d (p .entry ∷ p .later)) (settledLink b D p d)
-  unfolding link
-  link-unowing p d e = ap (λ t. cond (due p d) (dueLink p d) (cond (t && between (low p) (high b D p) d) 0 (settledLink b D p d))) e
+  unowing : (p : Place) (d : ℕ) → p .entry .owes ≡ false → linkOwing b D p d ≡ false
+  unowing p d e = ap (λ t. t && between (low p) (high b D p) d) e
+
+  pub link-unowing : (p : Place) (d : ℕ) → p .entry .owes ≡ false → link b D p d ≡ cond (linkDue p d) (dueLink b D p d) (settledLink b D p d)
+  link-unowing p d e = link-tested b D p d refl (unowing p d e)
 
   -- where neither owes, every link is settled
   pub link-unowed : (p : Place) (d : ℕ) → p .before .owes ≡ false → p .entry .owes ≡ false → link b D p d ≡ settledLink b D p d
-  link-unowed p d e f = link-undue p d e ∙ ap (λ t. cond (t && between (low p) (high b D p) d) 0 (settledLink b D p d)) f
+  link-unowed p d e f = link-undue p d e ∙ ap (λ t. cond t 0 (settledLink b D p d)) (unowing p d f)
 
   -- from the dimension up, the links of a place that owes nothing are settled
   pub link-above : (p : Place) (d : ℕ) → p .entry .owes ≡ false → p .dimension ≤ d → link b D p d ≡ firstSharing b D (p .entry .key) d (p .later)
-  link-above p d e h =
-      link-unowing p d e
-      ∙ cond-same (due p d) false (dueLink p d) (settledLink b D p d) (dueLink p d) (settledLink b D p d)
-      (and-same (p .before .owes) (between (p .beforeDimension) (p .dimension) d) false (λ o. between-not (p .beforeDimension) (p .dimension) d h) ∙ and-none (p .before .owes))
-      (λ y. refl) (λ n. refl)
-      ∙ settled-above b D p d h
+  link-above p d e h = link-settled b D p d h (unowing p d e) ∙ settled-above b D p d h
 
 -- Two rows, place by place
 
@@ -161,25 +137,11 @@ module _ (b D : ℕ) where
           let same = ih (rw (ne-eqb (shared b D key (y .key)) d ne) at o) in
           rw (ne-eqb (shared b D key (y .key)) d ne) same
 
-  sharing-same : (k l d : ℕ) (row : List Entry) → All (λ u. (shared b D k (u .key) ≡ d → shared b D l (u .key) ≡ d) × (shared b D l (u .key) ≡ d → shared b D k (u .key) ≡ d)) row → firstSharing b D k d row ≡ firstSharing b D l d row
-  unfolding firstSharing
-  sharing-same k l d [] a = refl
-  sharing-same k l d (u ∷ row) a = at (ℕ-discrete (shared b D k (u .key)) d) (sharing-same k l d row (a .1))
-    where
-      at : Dec (shared b D k (u .key) ≡ d) → firstSharing b D k d row ≡ firstSharing b D l d row → firstSharing b D k d (u ∷ row) ≡ firstSharing b D l d (u ∷ row)
-      at (yes e) ih = sharing-hits b D k d u row e ∙ sym (sharing-hits b D l d u row (a .0 .0 e))
-      at (no ne) ih = rw (ne-eqb (shared b D k (u .key)) d ne, ne-eqb (shared b D l (u .key)) d (λ e. ne (a .0 .1 e))) ih
-
   -- below what x shares with the next larger entry, the links of the two lead to the same
   pub sharing-next : 0 < b → (key d : ℕ) (z : Entry) (rest : List Entry) → key < z .key → Asc (z .key) rest → d < shared b D key (z .key) → firstSharing b D key d (z ∷ rest) ≡ firstSharing b D (z .key) d rest
   sharing-next pos key d z rest h a l =
       sharing-skips b D key d (z ∷ []) rest (λ e. omega arith, tt)
-      ∙ sharing-same key (z .key) d rest (all-map (λ u k. let m = ultra b D key (z .key) (u .key) pos (omega arith) (omega arith) in (λ e. omega arith, λ e. omega arith)) rest (asc-above (z .key) rest a))
-
-  -- above what x shares with the next larger entry, it has no link
-  pub sharing-above : 0 < b → (key d : ℕ) (z : Entry) (rest : List Entry) → key < z .key → Asc (z .key) rest → shared b D key (z .key) < d → firstSharing b D key d (z ∷ rest) ≡ 0
-  sharing-above pos key d z rest h a l =
-      sharing-none b D key d (z ∷ rest) (λ e. omega arith, all-map (λ u k e. let m = ultra b D key (z .key) (u .key) pos (omega arith) (omega arith) in omega arith) rest (asc-above (z .key) rest a))
+      ∙ sharing-alike b D key (z .key) d rest (all-map (λ u k. let m = ultra b D key (z .key) (u .key) pos (omega arith) (omega arith) in (λ e. omega arith, λ e. omega arith)) rest (asc-above (z .key) rest a))
 
 -- The new entry and what comes behind it
 
@@ -212,7 +174,7 @@ module _ (b D : ℕ) (pos : 0 < b) where
       e = p .dimension
 
       unsettled : settledLink b D p d ≡ 0 → link b D p d ≡ 0
-      unsettled f = link-undue b D p d un ∙ zero-either (owing b D p d) (settledLink b D p d) f
+      unsettled f = link-undue b D p d un ∙ zero-either (linkOwing b D p d) (settledLink b D p d) f
 
       at : (later : List Entry) → p .later ≡ later → Asc key later → p .entry .owes ≡ newOwes b D key e later → link b D p d ≡ newLink b D key e later d
       at [] is a own = unsettled (zero-or (leb e d) (firstSharing b D key d (p .later)) (ap (firstSharing b D key d) is ∙ sharing-none b D key d [] tt))
@@ -231,20 +193,20 @@ module _ (b D : ℕ) (pos : 0 < b) where
               and-test (yes h) = rw (le-leb e q h) (ne-eqb d q (f h))
               and-test (no h) = rw (lt-leb e q (omega arith)) refl
 
-          owned : e < q → d < q → e ≤ d → owing b D p d ≡ true
+          owned : e < q → d < q → e ≤ d → linkOwing b D p d ≡ true
           owned h l g =
               let o : p .entry .owes ≡ true = own ∙ lt-ltb e q h in
               let low-is = ap (λ t. cond t e 0) o in
               let high-is = ap (λ t. cond t (shared b D key (firstOf (p .later) .key)) 0) o ∙ ap (λ r. shared b D key (firstOf r .key)) is in
               and-both (p .entry .owes) (between (low p) (high b D p) d) o (between-is (low p) (high b D p) d (omega arith) (omega arith))
 
-          unowned : d ≡ q → owing b D p d ≡ false
+          unowned : d ≡ q → linkOwing b D p d ≡ false
           unowned g =
               and-same (p .entry .owes) (between (low p) (high b D p) d) false
               (λ o.
               let high-is = ap (λ t. cond t (shared b D key (firstOf (p .later) .key)) 0) o ∙ ap (λ r. shared b D key (firstOf r .key)) is in
               between-not (low p) (high b D p) d (omega arith))
-              ∙ and-none (p .entry .owes)
+              ∙ and-false (p .entry .owes)
 
           split : Dec (d < e) → Dec (d < q) → Dec (d ≡ q) → link b D p d ≡ cond (leb e q && eqb d q) (z .cell) 0
           split (yes h) l g =
@@ -259,7 +221,7 @@ module _ (b D : ℕ) (pos : 0 < b) where
               ∙ sharing-hits b D key d z rest (sym g)
               ∙ sym (ap (λ t. cond t (z .cell) 0) (and-both (leb e q) (eqb d q) (le-leb e q m) (eq-eqb d q g)))
           split (no h) (no l) (no g) =
-              unsettled (sought (omega arith) ∙ sharing-above b D pos key d z rest (a .0) (a .1) (omega arith)) ∙ sym (no-link (λ m n. g n))
+              unsettled (sought (omega arith) ∙ sharing-above b D pos key d z rest (let h = a .0 in omega arith) (a .1) (omega arith)) ∙ sym (no-link (λ m n. g n))
 
   -- The next larger entry z: before x stood it came after a and had dimension min p q, now it comes after x and has dimension q.
   pub link-of-next :
@@ -290,11 +252,11 @@ module _ (b D : ℕ) (pos : 0 < b) where
           settled : z .owes ≡ false → link b D before d ≡ settledLink b D before d
           settled o = link-unowed b D before d un o
 
-          given : z .owes ≡ false → (t : Bool) → due b D now d ≡ t → link b D now d ≡ cond t (firstSharing b D (x .key) d (z ∷ rest)) (settledLink b D now d)
+          given : z .owes ≡ false → (t : Bool) → linkDue now d ≡ t → link b D now d ≡ cond t (firstSharing b D (x .key) d (z ∷ rest)) (settledLink b D now d)
           given o t f = link-unowing b D now d o ∙ ap (λ r. cond r (dueLink b D now d) (settledLink b D now d)) f
 
-          undue : between p q d ≡ false → due b D now d ≡ false
-          undue f = ap (λ t. x .owes && t) f ∙ and-none (x .owes)
+          undue : between p q d ≡ false → linkDue now d ≡ false
+          undue f = ap (λ t. x .owes && t) f ∙ and-false (x .owes)
 
           paid : z .owes ≡ false → Dec (d < p) → Dec (d < q) → link b D now d ≡ link b D before d
           paid o (yes l) m =

@@ -2,13 +2,10 @@
 -- position, so it shares with the position at least what the new entry shares, and comes earlier. A key up to the position's makes the
 -- parent the position.
 use mathlib.Core.Path.{_≡_, refl, sym, _∙_, ap, subst, fun-ext}
-use mathlib.Core.Bool.{cond}
 use mathlib.Core.List.{List, [], _∷_, _++_, map}
 use Prim.Native.Nat.{ℕ, suc, _≤_, _<_}
 use native.Mathlib.Omega.{arith}
 use native.Mathlib.Decide.{decLt}
-use lib.Dec.{eqb}
-use borrow.Author.Tests.{ne-eqb}
 use Rattle.meaning.specs.Keys.{shared}
 use Rattle.meaning.specs.Row.{Entry, headEntry}
 use Rattle.meaning.specs.State.{State, keyOf, positionKey}
@@ -16,17 +13,11 @@ use Rattle.meaning.specs.Picture.{numbersFrom, firstWith, pathWord, path
 use Rattle.meaning.proofs.Order.{All, Asc, all-map, all-append}
 use Rattle.meaning.proofs.Keys.{shared-sym, ultra}
 use Rattle.meaning.proofs.State.{Sound, base-positive}
-use Rattle.meaning.proofs.Places.{asc-left, lastFrom}
-use Rattle.meaning.proofs.Parent.{Without, all-last, last-greatest, first-skips, first-front}
-use Rattle.meaning.proofs.Slot.{Gap}
+use Rattle.meaning.proofs.Places.{asc-left, lastFrom, keyOf-put}
+use Rattle.meaning.proofs.Parent.{Without, last-greatest, first-skips, first-front}
+use Rattle.meaning.proofs.Slot.{Gap, gap-last}
 use Rattle.meaning.proofs.SentencesCells.{placed-entry, placed-cell, placed-keyOf, position-placed}
 use Rattle.meaning.proofs.InsertPut.{withNew}
-
--- an entry of another cell does not matter for the key of a cell
-keyOf-put : (c : ℕ) (x : Entry) (pre post : List Entry) → (x .cell ≡ c → ⊥) → keyOf c (pre ++ x ∷ post) ≡ keyOf c (pre ++ post)
-unfolding keyOf
-keyOf-put c x [] post n = rw (ne-eqb (x .cell) c n) refl
-keyOf-put c x (y ∷ pre) post n = ap (cond (eqb (y .cell) c) (y .key)) (keyOf-put c x pre post n)
 
 -- one that shares too little is passed over
 first-passes : (b D key n : ℕ) (x : Entry) (pre post : List Entry) → shared b D (x .key) key < n → firstWith b D key n (pre ++ x ∷ post) ≡ firstWith b D key n (pre ++ post)
@@ -45,7 +36,7 @@ module _ (s : State) (v : Sound s) (x : Entry) (g : Gap (x .key) (s .row)) (new 
   last = lastFrom headEntry (g .pre)
 
   last-below : last .key < x .key
-  last-below = all-last (λ y. y .key < x .key) headEntry (g .pre) (omega (arith, above)) (g .below)
+  last-below = gap-last (omega (arith, above)) g
 
   -- the entry before the new one is not below the position
   position-least : positionKey s ≤ last .key

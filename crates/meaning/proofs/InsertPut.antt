@@ -17,20 +17,21 @@ use Rattle.settings.specs.Numbers.{headerWords, fieldsBeforeCoordinates, cellWo
 use Rattle.meaning.specs.Keys.{coordinates, coordinate, shared}
 use Rattle.meaning.specs.Row.{Entry, headEntry, firstOf, Place, places, owed, low, high, link, placeOf}
 use Rattle.meaning.specs.State.{State}
-use Rattle.meaning.specs.Picture.{numbersFrom, firstNumber, mark, standingWords, nextFree, freeWords, wordsOf, pathWord, path, picture}
+use Rattle.meaning.specs.Picture.{numbersFrom, firstNumber, mark, standingWords, nextFree, freeWords, wordsOf, path, picture}
 use Rattle.meaning.specs.Words.{place, wordAt, coordinateAt, linkAt}
 use Rattle.meaning.specs.Operations.{Slot, newEntry, slotOwes}
 use Rattle.meaning.specs.Stores.{store, linkField, writePath, newWords}
 use Rattle.meaning.proofs.Order.{All, both, all-left}
 use Rattle.meaning.proofs.State.{Sound, base-positive}
 use Rattle.meaning.proofs.Blocks.{made-at, made-length}
-use Rattle.meaning.proofs.Picture.{wordsOf-length, path-length, picture-path}
+use Rattle.meaning.proofs.Picture.{wordsOf-length, path-length}
 use Rattle.meaning.proofs.Places.{lastFrom, dimensionFrom}
 use Rattle.meaning.proofs.Parent.{dimensionAfter, Without, Apart, asc-last, place-at}
 use Rattle.meaning.proofs.Slot.{Gap, sound-apart, dimensions-positive, SlotIs}
 use Rattle.meaning.proofs.KeepsInsert.{slot-first}
 use Rattle.meaning.proofs.SentencesCells.{placesIn, Placed, place-word, place-key, place-value, place-mark, place-owed, place-low, place-high, place-coordinate, place-link, free-cell-word}
 use Rattle.meaning.proofs.Stores.{Exact, picture-exact, field-cases, words-equal, exact-set, exact-sets, header-set-place, store-same, store-other, store-below, cell-sets-inside, cell-sets-other, cell-sets-below, path-sets-header, path-sets-path, path-sets-place}
+use Rattle.meaning.proofs.Changed.{picture-path-word}
 use Rattle.meaning.proofs.InsertLinks.{placeAfter, Kept, OnBoth, newLink, Cleared, link-of-new, kept-places, link-of-parent, link-of-other}
 use Rattle.meaning.proofs.InsertSlot.{slot-below, slot-next, slotLinks, slotLinks-length, slot-number, slot-new, slot-parent-placed, slot-apart, slot-link, slot-cleared}
 
@@ -53,10 +54,6 @@ next-free : (c : ℕ) (free : List ℕ) → (firstNumber free ≡ c → ⊥) →
 unfolding nextFree
 next-free c [] other = refl
 next-free c (n ∷ free) other = sym (ap (λ t. cond t (firstNumber free) (nextFree c free)) (ne-eqb n c other))
-
-path-word : (s : State) (d : ℕ) → d < s .settings .dimensions → getD (path s) d 0 ≡ pathWord s d
-unfolding path
-path-word s d h = made-at (pathWord s) 0 (s .settings .dimensions) d 0 h ∙ ap (pathWord s) (zero-add d)
 
 -- Where neither the parent nor c owes
 
@@ -271,5 +268,5 @@ module _ (s : State) (v : Sound s) (key value : ℕ) (positive : 0 < key) (g : G
       let ws = writeNew b D (picture s) key value t in
       words-equal (picture-exact now) (exact-sets exact headerWords (path now))
       (λ k h. put-header k h ∙ sym (path-sets-header ws (path now) k h))
-      (λ d h. picture-path now d h ∙ sym (path-sets-path exact (path now) (path-length now) d h ∙ path-word now d h))
+      (λ d h. picture-path-word now d h ∙ sym (path-sets-path exact (path now) (path-length now) d h))
       (λ c j h k. put-cell c j h k ∙ sym (path-sets-place D ws (path now) (path-length now) c j))

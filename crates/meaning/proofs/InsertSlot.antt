@@ -25,7 +25,7 @@ use Rattle.meaning.proofs.Picture.{first-has, free-found}
 use Rattle.meaning.proofs.Places.{all-splits, asc-left, lastFrom, Keeping, firstOf-changed}
 use Rattle.meaning.proofs.Keeps.{cells-positive, cell-stands}
 use Rattle.meaning.proofs.Parent.{dimensionAfter, Without, Apart, all-last, apart-left, first-place}
-use Rattle.meaning.proofs.Slot.{Gap, sound-apart, free-apart, first-free-all, dimensions-positive, slotCell, SlotIs, last-changed, parent-changed}
+use Rattle.meaning.proofs.Slot.{Gap, sound-apart, first-free-all, dimensions-positive, slotCell, SlotIs, last-changed, parent-changed, gap-last, first-free-apart}
 use Rattle.meaning.proofs.SentencesCells.{placesIn, Placed, placed-entry, placed-cell, head-placed, occurs-placed, free-cell-first}
 use Rattle.meaning.proofs.KeepsInsert.{slot-first, owing-parent}
 use Rattle.meaning.proofs.InsertLinks.{newOwes, newLink, NextUnowing, Cleared}
@@ -151,19 +151,16 @@ module _ (s : State) (v : Sound s) (key : ℕ) (positive : 0 < key) (g : Gap key
   abbrev D : ℕ
   D = s .settings .dimensions
 
-  last-below : lastFrom headEntry (g .pre) .key < key
-  last-below = all-last (λ z. z .key < key) headEntry (g .pre) positive (g .below)
-
   -- p is the number of a link, and n of a cell
   pub slot-number : t .p < s .settings .dimensions
-  slot-number = rw (i .p-is) (shared-less b D (lastFrom headEntry (g .pre) .key) key (dimensions-positive s v) (omega (arith, last-below)))
+  slot-number = rw (i .p-is) (shared-less b D (lastFrom headEntry (g .pre) .key) key (dimensions-positive s v) (omega (arith, gap-last positive g)))
 
   pub slot-below : t .n < s .settings .cells
   slot-below = rw (i .n-is) (first-free-all (λ c. (0 < c) × (c < s .settings .cells)) (s .free) f (free-range s v) .1)
 
   -- the new cell is none that stands
   pub slot-new : Without (t .n) (headEntry ∷ s .row)
-  slot-new = subst (λ c. Without c (headEntry ∷ s .row)) (sym (i .n-is)) (first-free-all (λ c. Without c (headEntry ∷ s .row)) (s .free) f (free-apart s v))
+  slot-new = subst (λ c. Without c (headEntry ∷ s .row)) (sym (i .n-is)) (first-free-apart s v f)
 
   pub slot-parent-placed : (p : Place) × Placed s (t .parent) p
   unfolding places
@@ -172,7 +169,7 @@ module _ (s : State) (v : Sound s) (key : ℕ) (positive : 0 < key) (g : Gap key
       first-place b D (base-positive s v) (dimensions-positive s v) (dimensionAfter b D headEntry (g .pre) key) headEntry 0 headEntry 0 (g .pre) (g .post)
       (asc-left 0 (g .pre) (g .post) (subst (Asc 0) (g .splits) (v .ascends)))
       (apart-left (headEntry ∷ g .pre) (g .post) (subst (λ r. Apart (headEntry ∷ r)) (g .splits) (sound-apart s v)))
-      (shared-less b D (lastFrom headEntry (g .pre) .key) key (dimensions-positive s v) (omega (arith, last-below))) (λ q. omega arith) in
+      (shared-less b D (lastFrom headEntry (g .pre) .key) key (dimensions-positive s v) (omega (arith, gap-last positive g))) (λ q. omega arith) in
       (found .0, record { found = ap₂ (λ c r. placeOf c (places b D r)) (i .parent-is) (g .splits) ∙ found .1 })
 
   pub slot-apart : t .n ≡ t .parent → ⊥

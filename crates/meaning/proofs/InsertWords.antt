@@ -2,7 +2,7 @@
 -- the new cell written, taken off the free chain and set as link p of the parent. Finishing does not move the slot, so the new entry
 -- comes into the row of the state with both debts paid, where it changes only those words.
 use mathlib.Core.Path.{_≡_, refl, sym, _∙_, ap, subst}
-use mathlib.Core.Bool.{Bool, true, false, cond, _&&_, not}
+use mathlib.Core.Bool.{Bool, true, false, cond, _&&_, not, and-false}
 use mathlib.Core.List.{_∷_, map}
 use mathlib.Core.Option.{none}
 use Prim.Native.Nat.{ℕ, zero, suc, _≤_, _<_}
@@ -22,25 +22,17 @@ use Rattle.meaning.specs.Stores.{linkField, finishWords, writePath, newW
 use Rattle.meaning.proofs.Order.{All, and-both, all-map}
 use Rattle.meaning.proofs.State.{Sound}
 use Rattle.meaning.proofs.Cells.{all-each}
-use Rattle.meaning.proofs.Places.{all-mapped, cells-changed, keys-changed, keyOf-head-changed, onCell, onCell-cases}
+use Rattle.meaning.proofs.Places.{all-mapped, cells-changed, keys-changed, onCell, onCell-cases}
 use Rattle.meaning.proofs.KeepsFinish.{paid-keeping, finished-sound}
 use Rattle.meaning.proofs.Slot.{Gap, gap, SlotIs, slot-is, gap-changed}
-use Rattle.meaning.proofs.KeepsInsert.{added-row, added-position, added-sound-at}
+use Rattle.meaning.proofs.KeepsInsert.{added-row, added-position, added-sound-at, parentPaid, bothPaid, both-sound, both-gap, both-position}
 use Rattle.meaning.proofs.SentencesCells.{Placed, head-placed, placed-below, place-word, place-key, place-value, place-mark, place-owed, place-coordinate, place-link}
 use Rattle.meaning.proofs.Stores.{finishWords-none}
 use Rattle.meaning.proofs.Changed.{path-unmoved}
 use Rattle.meaning.proofs.FinishWords.{finish-words, finish-own, finish-others, finish-finished, finish-nothing}
-use Rattle.meaning.proofs.InsertLinks.{and-none}
 use Rattle.meaning.proofs.InsertSlot.{slot-changed, slotLinks, slotLinks-none, slotLinks-other, slotLinks-here, placed-occurs, slot-new, slot-parent-placed, slot-apart, slot-next, slot-c-placed, slot-c-apart, slot-shares}
 use Rattle.meaning.proofs.InsertPut.{withNew, newPlace, writeNew, put-new, put-link, put-new-words, put-elsewhere, put-parent, put-words}
 use Rattle.meaning.proofs.InsertPath.{put-path}
-
--- the state with what the parent owes finished, and then what c owes
-abbrev pub parentPaid : State → Slot → State
-parentPaid s t = withRow s (finished (t .parent) (s .row))
-
-abbrev pub bothPaid : State → Slot → State
-bothPaid s t = withRow (parentPaid s t) (finished (t .c) (finished (t .parent) (s .row)))
 
 finish-unmoved : (s : State) (v : Sound s) (n : ℕ) → 0 < occurrences n (0 ∷ map (λ y. y .cell) (s .row)) → (x j : ℕ) → j < cellWords (s .settings .dimensions) → Unmoved (picture s) n x j →
     wordAt (picture (withRow s (finished n (s .row)))) x j ≡ wordAt (picture s) x j
@@ -70,7 +62,7 @@ module _ (s : State) (v : Sound s) (key value : ℕ) (positive : 0 < key) (g : G
   one-sound = finished-sound s (t .parent) v
 
   two-sound : Sound two
-  two-sound = finished-sound one (t .c) one-sound
+  two-sound = both-sound s t v
 
   parent-stands : 0 < occurrences (t .parent) (0 ∷ map (λ y. y .cell) (s .row))
   parent-stands = placed-occurs (slot-parent-placed s v key positive g f t i .1)
@@ -101,14 +93,11 @@ module _ (s : State) (v : Sound s) (key value : ℕ) (positive : 0 < key) (g : G
       at (no ne) = rw (ne-eqb (t .c) 0 ne) (ap (λ ws. finishWords D ws (t .c)) first ∙ second)
 
   -- the slot is the same
-  two-gap : Gap key (two .row)
-  unfolding finished
-  two-gap =
-      gap-changed (onCell (t .c) paid) (paid-keeping (t .c)) key (finished (t .parent) (s .row))
-      (gap-changed (onCell (t .parent) paid) (paid-keeping (t .parent)) key (s .row) g)
+  abbrev two-gap : Gap key (two .row)
+  two-gap = both-gap s t key g
 
   two-slot : SlotIs two key (two-gap .pre) (two-gap .post) t
-  unfolding finished two-gap gap-changed
+  unfolding finished both-gap gap-changed
   two-slot =
       slot-changed one (onCell (t .c) paid) (paid-keeping (t .c)) key (map (onCell (t .parent) paid) (g .pre)) (map (onCell (t .parent) paid) (g .post)) t
       (slot-changed s (onCell (t .parent) paid) (paid-keeping (t .parent)) key (g .pre) (g .post) t i (finished (t .parent) (s .row)))
@@ -146,17 +135,11 @@ module _ (s : State) (v : Sound s) (key value : ℕ) (positive : 0 < key) (g : G
       keys-changed (onCell (t .c) paid) (paid-keeping (t .c)) (finished (t .parent) (s .row))
       ∙ keys-changed (onCell (t .parent) paid) (paid-keeping (t .parent)) (s .row)
 
-  two-position : positionKey two ≡ positionKey s
-  unfolding finished
-  two-position =
-      keyOf-head-changed (onCell (t .c) paid) (paid-keeping (t .c)) (s .position) (finished (t .parent) (s .row))
-      ∙ keyOf-head-changed (onCell (t .parent) paid) (paid-keeping (t .parent)) (s .position) (s .row)
-
   abbrev now : State
   now = withNew two (two-gap .pre) (newEntry (t .n) key value (slotOwes t)) (two-gap .post) (added s key value t .position)
 
   added-is : added s key value t ≡ now
-  unfolding added finished two-gap gap-changed
+  unfolding added finished both-gap gap-changed
   added-is =
       let position = added s key value t .position in
       ap {B = State} (λ r. record { settings = s .settings; row = r; free = drop 1 (s .free); position = position }) (added-row s v key value positive g f t i)
@@ -173,7 +156,7 @@ module _ (s : State) (v : Sound s) (key value : ℕ) (positive : 0 < key) (g : G
       let x = newEntry (t .n) key value (slotOwes t) in
       ap path added-is
       ∙ ap (λ p. path (withNew two (two-gap .pre) x (two-gap .post) p)) (added-position-kept h)
-      ∙ put-path two two-sound x two-gap (slot-new two two-sound key positive two-gap f t two-slot) (subst (λ k. k < key) (sym two-position) h)
+      ∙ put-path two two-sound x two-gap (slot-new two two-sound key positive two-gap f t two-slot) (subst (λ k. k < key) (sym (both-position s t)) h)
       ∙ path-unmoved two s refl refl two-cells two-keys
 
   -- Who owes, and what is moved, after both are finished
@@ -293,7 +276,7 @@ module _ (s : State) (v : Sound s) (key value : ℕ) (positive : 0 < key) (g : G
 
         unowing : ((t .c ≡ 0 → ⊥) → t .q ≤ t .p) → Dec (t .c ≡ 0) → slotOwes t ≡ false
         unowing more (yes e) = ap (λ r. not r && ltb (t .p) (t .q)) (eq-eqb (t .c) 0 e)
-        unowing more (no ne) = ap (λ r. not (eqb (t .c) 0) && r) (le-ltb (t .p) (t .q) (more ne)) ∙ and-none (not (eqb (t .c) 0))
+        unowing more (no ne) = ap (λ r. not (eqb (t .c) 0) && r) (le-ltb (t .p) (t .q) (more ne)) ∙ and-false (not (eqb (t .c) 0))
 
         header : (k : ℕ) → k < 4 → getD (picture now) k 0 ≡ getD (picture s) k 0
         header zero h = refl

@@ -13,9 +13,9 @@ use Rattle.meaning.specs.Keys.{shared}
 use Rattle.meaning.specs.Row.{Entry, headEntry, firstOf, Place, headPlace, placesAfter, places}
 use Rattle.meaning.specs.State.{State, keyOf, occurrences, positionKey}
 use Rattle.meaning.specs.Operations.{deadFront, fromLive, lastOf, lastAlone}
-use Rattle.meaning.proofs.Order.{All, all-map, all-left, all-right}
+use Rattle.meaning.proofs.Order.{All, all-map, all-right}
 use Rattle.meaning.proofs.State.{Sound, Debt, cellsIn}
-use Rattle.meaning.proofs.Cells.{all-of-map, occurrences-past}
+use Rattle.meaning.proofs.Cells.{occurrences-past, row-range}
 use Rattle.meaning.proofs.Places.{all-mapped, all-at, occurrences-append, occurrences-between, occurrences-more, Found, occurs-found, keyOf-same, keyOf-other, keyOf-first, places-entries, Keeping, changedPlace, cells-changed, keyOf-head-changed, asc-changed, firstOf-changed, places-changed}
 
 -- Cells
@@ -57,9 +57,7 @@ keyOf-row s v front x later e =
 
 -- no entry's cell is the head
 pub cells-positive : (s : State) → Sound s → All (λ x. 0 < x .cell) (s .row)
-cells-positive s v =
-    all-of-map (λ c. 0 < c) (λ x. x .cell) (s .row)
-    (all-left (λ c. 0 < c) (map (λ x. x .cell) (s .row)) (s .free) (all-map (λ c h. h .0) (cellsIn s) (v .range)))
+cells-positive s v = all-map (λ x r. r .0) (s .row) (row-range s v)
 
 -- an entry's cell can be the position
 pub cell-stands : (s : State) (front : List Entry) (x : Entry) (later : List Entry) → s .row ≡ front ++ (x ∷ later) → 0 < occurrences (x .cell) (0 ∷ map (λ y. y .cell) (s .row))

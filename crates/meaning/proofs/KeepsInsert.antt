@@ -20,11 +20,12 @@ use Rattle.meaning.proofs.Order.{All, Asc, both, all-map, all-left, all
 use Rattle.meaning.proofs.Keys.{shared-less, ultra}
 use Rattle.meaning.proofs.State.{Sound, Debt, cellsIn, base-positive}
 use Rattle.meaning.proofs.Cells.{all-zip, occurrences-here}
-use Rattle.meaning.proofs.Places.{all-mapped, occurrences-append, occurrences-more, none-occurs, asc-left, lastFrom, dimensionFrom, Keeping, cells-changed, keyOf-head-changed, asc-changed, firstOf-changed, onCell, onCell-cases, onCell-keeping}
+use Rattle.meaning.proofs.Picture.{first-has}
+use Rattle.meaning.proofs.Places.{all-mapped, occurrences-append, occurrences-more, none-occurs, asc-left, lastFrom, dimensionFrom, Keeping, cells-changed, keyOf-head-changed, asc-changed, firstOf-changed, onCell, onCell-cases, onCell-keeping, keyOf-put}
 use Rattle.meaning.proofs.Keeps.{changed-sound}
 use Rattle.meaning.proofs.KeepsFinish.{paid-keeping, finished-sound}
-use Rattle.meaning.proofs.Parent.{dimensionAfter, parentAfter, placesFrom, Without, Apart, all-last, asc-last, apart-left, apart-at, first-among, first-key, last-shares, last-first, parent-is}
-use Rattle.meaning.proofs.Slot.{Gap, gap, put-gap, asc-put, apart-put, sound-apart, free-apart, first-free, first-free-all, dimensions-positive, slotCell, SlotIs, slot-is, without-changed, apart-changed, gap-changed, last-changed, parent-changed}
+use Rattle.meaning.proofs.Parent.{dimensionAfter, parentAfter, placesFrom, Without, Apart, asc-last, apart-left, apart-at, first-among, first-key, last-shares, last-first, parent-is}
+use Rattle.meaning.proofs.Slot.{Gap, gap, put-gap, asc-put, apart-put, sound-apart, first-free, dimensions-positive, slotCell, SlotIs, slot-is, without-changed, apart-changed, gap-changed, last-changed, parent-changed, gap-last, first-free-apart}
 
 -- The position
 
@@ -263,10 +264,6 @@ put-sound s x free p v h most g first value un own same lowered =
 
 -- What the slot says of the next larger entry
 
-first-above : (key : ℕ) (post : List Entry) → 0 < length post → All (λ y. key < y .key) post → key < firstOf post .key
-first-above key [] h a = absurd (omega arith)
-first-above key (x ∷ post) h a = a .0
-
 first-owes : (post : List Entry) → firstOf post .owes ≡ true → 0 < length post
 first-owes [] h = absurd (let z : _≡_ {A = ℕ} 0 1 = cc in omega arith)
 first-owes (x ∷ post) h = omega arith
@@ -309,19 +306,14 @@ owing-parent s v key h g owes =
     let D = s .settings .dimensions in
     let A = lastFrom headEntry (g .pre) in
     let t = debt-last b D headEntry 0 headEntry 0 (g .pre) (g .post) (subst (λ r. All (λ n. n .entry .owes ≡ true → Debt b D n) (places b D r)) (g .splits) (v .debts)) owes in
-    let low : A .key < key = all-last (λ z. z .key < key) headEntry (g .pre) h (g .below) in
-    let high = first-above key (g .post) (t .0) (g .above) in
+    let low = gap-last h g in
+    let high = first-has (λ y. key < y .key) (g .post) (g .above) (t .0) in
     let u = ultra b D (A .key) key (firstOf (g .post) .key) (base-positive s v) (omega arith) (omega arith) in
     let l = t .1 in
     let m = shared-less b D (A .key) key (dimensions-positive s v) (omega arith) in
     last-first b D (base-positive s v) (dimensions-positive s v) (shared b D (A .key) key) headEntry 0 (g .pre) (asc-left 0 (g .pre) (g .post) (subst (Asc 0) (g .splits) (v .ascends))) m (omega arith)
 
 -- The row with one entry more
-
-keyOf-put : (c : ℕ) (x : Entry) (pre post : List Entry) → (x .cell ≡ c → ⊥) → keyOf c (pre ++ x ∷ post) ≡ keyOf c (pre ++ post)
-unfolding keyOf
-keyOf-put c x [] post n = rw (ne-eqb (x .cell) c n) refl
-keyOf-put c x (y ∷ pre) post n = ap (cond (eqb (y .cell) c) (y .key)) (keyOf-put c x pre post n)
 
 occurrences-put : (c : ℕ) (x : Entry) (pre post : List Entry) → occurrences c (map (λ y. y .cell) (pre ++ post)) ≤ occurrences c (map (λ y. y .cell) (pre ++ x ∷ post))
 occurrences-put c x pre post =
@@ -338,6 +330,29 @@ occurrences-put c x pre post =
 pub paid-owes : (c : ℕ) (x : Entry) → onCell c paid x .owes ≡ true → (x .owes ≡ true) × (x .cell ≡ c → ⊥)
 paid-owes c x = onCell-cases (λ y. y .owes ≡ true → (x .owes ≡ true) × (x .cell ≡ c → ⊥)) c paid x (λ here h. absurd (let z : _≡_ {A = ℕ} 0 1 = cc in omega arith)) (λ other h. (h, other))
 
+-- the state with what the parent owes finished, and then what c owes
+abbrev pub parentPaid : State → Slot → State
+parentPaid s t = withRow s (finished (t .parent) (s .row))
+
+abbrev pub bothPaid : State → Slot → State
+bothPaid s t = withRow (parentPaid s t) (finished (t .c) (finished (t .parent) (s .row)))
+
+pub both-sound : (s : State) (t : Slot) → Sound s → Sound (bothPaid s t)
+both-sound s t v = finished-sound (parentPaid s t) (t .c) (finished-sound s (t .parent) v)
+
+-- the gap in its row
+unfoldable pub both-gap : (s : State) (t : Slot) (key : ℕ) → Gap key (s .row) → Gap key (bothPaid s t .row)
+unfolding finished
+both-gap s t key g =
+    gap-changed (onCell (t .c) paid) (paid-keeping (t .c)) key (finished (t .parent) (s .row))
+    (gap-changed (onCell (t .parent) paid) (paid-keeping (t .parent)) key (s .row) g)
+
+pub both-position : (s : State) (t : Slot) → positionKey (bothPaid s t) ≡ positionKey s
+unfolding finished
+both-position s t =
+    keyOf-head-changed (onCell (t .c) paid) (paid-keeping (t .c)) (s .position) (finished (t .parent) (s .row))
+    ∙ keyOf-head-changed (onCell (t .parent) paid) (paid-keeping (t .parent)) (s .position) (s .row)
+
 module _ (s : State) (v : Sound s) (key value : ℕ) (positive : 0 < key) (g : Gap key (s .row)) (f : 0 < length (s .free)) (t : Slot) (i : SlotIs s key (g .pre) (g .post) t) where
   abbrev b : ℕ
   b = s .settings .base
@@ -348,12 +363,12 @@ module _ (s : State) (v : Sound s) (key value : ℕ) (positive : 0 < key) (g : G
   abbrev x : Entry
   x = newEntry (t .n) key value (slotOwes t)
 
-  -- the state before x is put into it: what the parent and c owe is finished
+  -- the state before x is put into it
   abbrev settled : State
-  settled = withRow (withRow s (finished (t .parent) (s .row))) (finished (t .c) (finished (t .parent) (s .row)))
+  settled = bothPaid s t
 
   settled-sound : Sound settled
-  settled-sound = finished-sound (withRow s (finished (t .parent) (s .row))) (t .c) (finished-sound s (t .parent) v)
+  settled-sound = both-sound s t v
 
   abbrev pay : Entry → Entry
   pay y = onCell (t .c) paid (onCell (t .parent) paid y)
@@ -363,11 +378,6 @@ module _ (s : State) (v : Sound s) (key value : ℕ) (positive : 0 < key) (g : G
 
   abbrev back : List Entry
   back = finished (t .c) (finished (t .parent) (g .post))
-
-  -- the gap in its row: front and back
-  settled-gap : Gap key (settled .row)
-  unfolding finished gap-changed
-  settled-gap = gap-changed (onCell (t .c) paid) (paid-keeping (t .c)) key (finished (t .parent) (s .row)) (gap-changed (onCell (t .parent) paid) (paid-keeping (t .parent)) key (s .row) g)
 
   pay-key : (y : Entry) → pay y .key ≡ y .key
   pay-key y = paid-keeping (t .c) .key (onCell (t .parent) paid y) ∙ paid-keeping (t .parent) .key y
@@ -417,8 +427,8 @@ module _ (s : State) (v : Sound s) (key value : ℕ) (positive : 0 < key) (g : G
       let c = paid-owes (t .c) (onCell (t .parent) paid (firstOf (g .post))) (sym (ap (λ y. y .owes) next-paid) ∙ owes) in
       let stands = first-owes (g .post) (paid-owes (t .parent) (firstOf (g .post)) (c .0) .0) in
       let less = slot-not-first b D key (dimensionAfter b D headEntry (g .pre) key) (g .post) stands (λ e. c .1 (paid-keeping (t .parent) .cell (firstOf (g .post)) ∙ e ∙ sym (i .c-is))) in
-      let low : lastFrom headEntry (g .pre) .key < key = all-last (λ z. z .key < key) headEntry (g .pre) positive (g .below) in
-      let high = first-above key (g .post) stands (g .above) in
+      let low = gap-last positive g in
+      let high = first-has (λ y. key < y .key) (g .post) (g .above) stands in
       let u = ultra b D (lastFrom headEntry (g .pre) .key) key (firstOf (g .post) .key) (base-positive s v) (omega arith) (omega arith) in
       let same : shared b D (lastFrom headEntry (g .pre) .key) (firstOf (g .post) .key) ≡ shared b D key (firstOf (g .post) .key) = omega arith in
       subst₂ (λ m n. shared b D m n ≡ shared b D key n) (sym last-key) (sym next-key) same
@@ -426,7 +436,7 @@ module _ (s : State) (v : Sound s) (key value : ℕ) (positive : 0 < key) (g : G
   -- The cell of x is new, and the position's is not
 
   new-cell : Without (x .cell) (headEntry ∷ settled .row)
-  new-cell = subst (λ c. Without c (headEntry ∷ settled .row)) (sym (i .n-is)) (first-free-all (λ c. Without c (headEntry ∷ settled .row)) (s .free) f (free-apart settled settled-sound))
+  new-cell = subst (λ c. Without c (headEntry ∷ settled .row)) (sym (i .n-is)) (first-free-apart settled settled-sound f)
 
   position-old : x .cell ≡ s .position → ⊥
   position-old e =
@@ -434,19 +444,13 @@ module _ (s : State) (v : Sound s) (key value : ℕ) (positive : 0 < key) (g : G
       let stands = subst (λ c. 0 < occurrences c (map (λ y. y .cell) (headEntry ∷ settled .row))) (sym e) (settled-sound .position) in
       omega arith
 
-  position-same : positionKey settled ≡ positionKey s
-  unfolding finished
-  position-same =
-      keyOf-head-changed (onCell (t .c) paid) (paid-keeping (t .c)) (s .position) (finished (t .parent) (s .row))
-      ∙ keyOf-head-changed (onCell (t .parent) paid) (paid-keeping (t .parent)) (s .position) (s .row)
-
   settled-row : settled .row ≡ front ++ back
-  unfolding settled-gap finished gap-changed
-  settled-row = settled-gap .splits
+  unfolding both-gap finished gap-changed
+  settled-row = both-gap s t key g .splits
 
   new-ascends : Asc 0 (front ++ x ∷ back)
-  unfolding settled-gap finished gap-changed
-  new-ascends = asc-put 0 x front back positive (subst (Asc 0) settled-row (settled-sound .ascends)) (settled-gap .below) (settled-gap .above)
+  unfolding both-gap finished gap-changed
+  new-ascends = asc-put 0 x front back positive (subst (Asc 0) settled-row (settled-sound .ascends)) (both-gap s t key g .below) (both-gap s t key g .above)
 
   new-apart : Apart (headEntry ∷ (front ++ x ∷ back))
   new-apart = apart-put headEntry x front back (subst (λ r. Apart (headEntry ∷ r)) settled-row (sound-apart settled settled-sound)) (subst (λ r. Without (x .cell) (headEntry ∷ r)) settled-row new-cell)
@@ -456,14 +460,14 @@ module _ (s : State) (v : Sound s) (key value : ℕ) (positive : 0 < key) (g : G
       let more = occurrences-put (s .position) x (headEntry ∷ front) back in
       let stands = subst (λ r. 0 < occurrences (s .position) (0 ∷ map (λ y. y .cell) r)) settled-row (settled-sound .position) in
       let l = position-lowers s (base-positive s v) (dimensions-positive s v) front x back new-ascends new-apart (omega arith)
-      (keyOf-put (s .position) x (headEntry ∷ front) back position-old ∙ ap (λ r. keyOf (s .position) (headEntry ∷ r)) (sym settled-row) ∙ position-same) in
-      record { stands = l .stands; below = l .below; least = subst (λ k. keyOf (positionAfter s key (t .n) (front ++ x ∷ back)) (headEntry ∷ (front ++ x ∷ back)) ≤ k) (sym position-same) (l .least) }
+      (keyOf-put (s .position) x (headEntry ∷ front) back position-old ∙ ap (λ r. keyOf (s .position) (headEntry ∷ r)) (sym settled-row) ∙ both-position s t) in
+      record { stands = l .stands; below = l .below; least = subst (λ k. keyOf (positionAfter s key (t .n) (front ++ x ∷ back)) (headEntry ∷ (front ++ x ∷ back)) ≤ k) (sym (both-position s t)) (l .least) }
 
   pub added-row :
       added s key value t .row
       ≡ finished (t .c) (finished (t .parent) (g .pre)) ++ newEntry (t .n) key value (slotOwes t) ∷ finished (t .c) (finished (t .parent) (g .post))
-  unfolding added settled-gap finished gap-changed
-  added-row = put-gap x (settled .row) settled-gap
+  unfolding added both-gap finished gap-changed
+  added-row = put-gap x (settled .row) (both-gap s t key g)
 
   -- the parent in the new settled shape is the slot's
   pub added-parent : parentIn s (t .n) (added s key value t .row) ≡ t .parent
@@ -480,10 +484,10 @@ module _ (s : State) (v : Sound s) (key value : ℕ) (positive : 0 < key) (g : G
   added-position = ap (λ c. cond (leb key (positionKey s)) c (s .position)) added-parent
 
   pub added-sound-at : key ≤ s .settings .largest → Sound (added s key value t)
-  unfolding added settled-gap finished gap-changed
+  unfolding added both-gap finished gap-changed
   added-sound-at most =
       subst (λ r. Sound (record { settings = s .settings; row = r; free = drop 1 (s .free); position = positionAfter s key (t .n) r })) (sym added-row)
-      (put-sound settled x (drop 1 (s .free)) (positionAfter s key (t .n) (front ++ x ∷ back)) settled-sound positive most settled-gap
+      (put-sound settled x (drop 1 (s .free)) (positionAfter s key (t .n) (front ++ x ∷ back)) settled-sound positive most (both-gap s t key g)
       (first-free (s .free) f ∙ ap {B = List ℕ} (λ c. c ∷ drop 1 (s .free)) (sym (i .n-is)))
       (λ l. absurd (let z : _≡_ {A = ℕ} 0 1 = cc in omega arith)) last-unowing new-debt next-same new-lowered)
 

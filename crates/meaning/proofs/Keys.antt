@@ -1,19 +1,18 @@
 -- Laws of coordinates and of shared coordinates, for every D at once, by induction on D: the last coordinate is the remainder by b, the
 -- others are those of the quotient. All that is proved of rows rests on `ultra`.
-use mathlib.Core.Path.{_≡_, refl, sym, _∙_, ap, subst}
+use mathlib.Core.Path.{_≡_, refl, sym, _∙_, ap}
 use mathlib.Core.Bool.{true, false}
 use mathlib.Core.Logic.{_↔_}
-use mathlib.Core.List.{List, [], _∷_, _++_}
+use mathlib.Core.List.{List, [], _∷_}
 use Prim.Native.Nat.{ℕ, zero, suc, _+_, _*_, _-_, _/_, _%_, _^_, _≤_, _<_, min}
-use native.Mathlib.Nat.{add-zero, mul-le-mul-right, pow-zero, pow-suc, pow-succ', mod-lt, mod-eq-of-lt, zero-mod, mul-add-mod-self-right, zero-div, div-one, div-eq-of-lt, div-add-mod', div-mul-le-self, div-div-eq-div-mul, le-div-iff-mul-le, div-lt-iff-lt-mul, mul-add-div-right}
+use native.Mathlib.Nat.{add-zero, pow-zero, pow-suc, pow-succ', mod-lt, mod-eq-of-lt, zero-mod, mul-add-mod-self-right, zero-div, div-one, div-eq-of-lt, div-add-mod', div-mul-le-self, div-div-eq-div-mul, le-div-iff-mul-le, div-lt-iff-lt-mul, mul-add-div-right}
 use native.Mathlib.Decide.{ℕ-discrete, decLt}
 use native.Mathlib.Omega.{arith}
-use lib.ListN.{length, getD, take, length-append, List·getD-append, List·getD-eq-default}
-use lib.Seq.{getD-at, take-suc, take-all, length-take-le}
+use lib.ListN.{length, getD, length-append, List·getD-append, List·getD-eq-default}
+use lib.Seq.{getD-at}
 use borrow.Author.Tests.{eq-eqb, ne-eqb, lt-ltb, le-ltb}
 use Rattle.meaning.specs.Keys.{coordinates, coordinate, shared}
 use Rattle.meaning.specs.Sentences.{agreed, precedes}
-use Rattle.meaning.proofs.Order.{All, all-left, all-right}
 
 -- Quotients by the base, and remainders
 
@@ -214,86 +213,38 @@ coordinate-other b D x y pos hx hy ne e = go (decLt x y)
     go (yes h) = omega (arith, e, coordinate-less b D x y pos hx hy h)
     go (no h) = let less = coordinate-less b D y x pos hy hx (omega (arith, h, ne)) in omega (arith, e, rw (shared-sym b D y x) at less)
 
--- agreeing leading coordinates are shared
-pub coordinate-shared : (b D x y d : ℕ) → 0 < b → d < D → x < b ^ D → y < b ^ D →
-    ((i : ℕ) → i ≤ d → coordinate b D x i ≡ coordinate b D y i) → d < shared b D x y
-coordinate-shared b D x y d pos h hx hy same = go (decLt d (shared b D x y)) (ℕ-discrete x y)
+-- so of keys that share d coordinates, the one that is larger at d is larger
+pub coordinate-larger : (b D x y d : ℕ) → 0 < b → x < b ^ D → y < b ^ D → d ≤ shared b D x y → coordinate b D x d < coordinate b D y d → x < y
+coordinate-larger b D x y d pos hx hy h less = go (decLt x y)
   where
-    go : Dec (d < shared b D x y) → Dec (x ≡ y) → d < shared b D x y
-    go (yes k) e = k
-    go (no k) (yes e) = omega (arith, h, ap (λ z. shared b D x z) e, shared-same b D x)
-    go (no k) (no ne) = absurd (coordinate-other b D x y pos hx hy ne (same (shared b D x y) (omega (arith, k))))
+    go : Dec (x < y) → x < y
+    go (yes l) = l
+    go (no l) = absurd (omega (arith, less, coordinate-rises b D y x d pos hy hx (omega (arith, h, shared-sym b D x y)) (omega (arith, l))))
 
--- Horner's rule: the key that a list of digits is of
+-- of keys that share d coordinates, coordinate d is shared too if it is the same, ..
+pub shared-past : (b D x y d : ℕ) → 0 < b → x < b ^ D → y < b ^ D → d < D → d ≤ shared b D x y → coordinate b D x d ≡ coordinate b D y d → d < shared b D x y
+shared-past b D x y d pos hx hy inside h same = go (ℕ-discrete d (shared b D x y)) (ℕ-discrete x y)
+  where
+    go : Dec (d ≡ shared b D x y) → Dec (x ≡ y) → d < shared b D x y
+    go (no ne) e = omega (arith, h, ne)
+    go (yes q) (yes e) = omega (arith, inside, ap (shared b D x) e, shared-same b D x)
+    go (yes q) (no ne) = absurd (coordinate-other b D x y pos hx hy ne (rw q at same))
 
--- from a number, one digit after the other: what is reached so far, times b, plus the digit
-unfoldable pub hornerFrom : ℕ → ℕ → List ℕ → ℕ
-hornerFrom b reached [] = reached
-hornerFrom b reached (x ∷ xs) = hornerFrom b (reached * b + x) xs
+-- .. and else they share just d
+pub shared-stop : (b D x y d : ℕ) → d ≤ shared b D x y → (coordinate b D x d ≡ coordinate b D y d → ⊥) → shared b D x y ≡ d
+shared-stop b D x y d h other = go (decLt d (shared b D x y))
+  where
+    go : Dec (d < shared b D x y) → shared b D x y ≡ d
+    go (yes less) = absurd (other (coordinate-same b D x y d less))
+    go (no more) = omega (arith, h, more)
 
-unfoldable pub horner : ℕ → List ℕ → ℕ
-horner b xs = hornerFrom b 0 xs
-
-pub hornerFrom-last : (b reached : ℕ) (xs : List ℕ) (x : ℕ) → hornerFrom b reached (xs ++ (x ∷ [])) ≡ hornerFrom b reached xs * b + x
-unfolding hornerFrom
-hornerFrom-last b reached [] x = refl
-hornerFrom-last b reached (y ∷ xs) x = hornerFrom-last b (reached * b + y) xs x
-
-pub horner-none : (b : ℕ) → horner b [] ≡ 0
-unfolding horner hornerFrom
-horner-none b = refl
-
-pub horner-last : (b : ℕ) (xs : List ℕ) (x : ℕ) → horner b (xs ++ (x ∷ [])) ≡ horner b xs * b + x
-unfolding horner
-horner-last b xs x = hornerFrom-last b 0 xs x
-
--- one step of a loop over the digits
-pub horner-step : (b i : ℕ) (xs : List ℕ) → i < length xs → horner b (take (suc i) xs) ≡ horner b (take i xs) * b + getD xs i 0
-horner-step b i xs h = rw (take-suc xs i 0 h) (horner-last b (take i xs) (getD xs i 0))
-
-pub coordinates-value : (b D key : ℕ) → 0 < b → key < b ^ D → horner b (coordinates b D key) ≡ key
-unfolding coordinates
-coordinates-value b zero key pos h = horner-none b ∙ sym (below-power-zero b key h)
-coordinates-value b (suc D) key pos h =
-    horner-last b (coordinates b D (key / b)) (key % b) ∙
-    rw (coordinates-value b D (key / b) pos (quotient-below b D key pos h)) (div-add-mod' key b)
-
+-- keys with the same coordinates are the same
 pub coordinates-determine : (b D x y : ℕ) → 0 < b → x < b ^ D → y < b ^ D → coordinates b D x ≡ coordinates b D y → x ≡ y
-coordinates-determine b D x y pos hx hy e = sym (coordinates-value b D x pos hx) ∙ ap (horner b) e ∙ coordinates-value b D y pos hy
-
--- a list of D digits is the list of coordinates of the key that it is of, and that key is below b ^ D
-pub horner-coordinates : (b D key : ℕ) (xs : List ℕ) → length xs ≡ D → All (λ x. x < b) xs → horner b xs ≡ key →
-    (coordinates b D key ≡ xs) × (key < b ^ D)
-unfolding coordinates
-horner-coordinates b zero key [] e a h = (refl, omega (arith, horner-none b, pow-zero b))
-horner-coordinates b zero key (x ∷ xs) e a h = absurd (omega arith)
-horner-coordinates b (suc D) key xs e a h =
-    go (all-right (λ x. x < b) front (last ∷ []) both .0)
-    (horner-coordinates b D n front (length-take-le D xs (omega arith)) (all-left (λ x. x < b) front (last ∷ []) both) refl)
+coordinates-determine b D x y pos hx hy e = go (ℕ-discrete x y)
   where
-    front : List ℕ
-    front = take D xs
-
-    last : ℕ
-    last = getD xs D 0
-
-    n : ℕ
-    n = horner b front
-
-    split : xs ≡ front ++ (last ∷ [])
-    split = sym (take-all (suc D) xs (omega (arith, e))) ∙ take-suc xs D 0 (omega (arith, e))
-
-    both : All (λ x. x < b) (front ++ (last ∷ []))
-    both = subst (All (λ x. x < b)) split a
-
-    is : key ≡ n * b + last
-    is = sym h ∙ ap (horner b) split ∙ horner-last b front last
-
-    go : last < b → (coordinates b D n ≡ front) × (n < b ^ D) → (coordinates b D (key / b) ++ (key % b ∷ []) ≡ xs) × (key < b ^ suc D)
-    go below (c, less) = (
-      rw (is, quotient-is b n last below, remainder-is b n last below, c) (sym split),
-      omega (arith, is, pow-suc b D, mul-le-mul-right b less),
-    )
+    go : Dec (x ≡ y) → x ≡ y
+    go (yes q) = q
+    go (no ne) = absurd (coordinate-other b D x y pos hx hy ne (ap (λ xs. getD xs (shared b D x y) 0) e))
 
 -- Two lists that are equal up to a place, and there they differ or end
 

@@ -1,16 +1,12 @@
 -- What a call leaves alone, carried from states to lists.
 use mathlib.Core.Path.{_≡_, refl, _∙_, sym, ap, subst}
-use mathlib.Core.Bool.{Bool, true, false}
-use mathlib.Core.Logic.{_⊎_, inl, inr}
 use mathlib.Core.List.{List, [], _∷_, map}
-use mathlib.Core.Option.{Option, none, some}
-use Prim.Native.Nat.{ℕ, zero, suc, _≤_, _<_}
-use native.Mathlib.Omega.{arith}
-use lib.ListN.{length}
+use mathlib.Core.Option.{none, some}
+use Prim.Native.Nat.{ℕ, _<_}
 use Rattle.meaning.specs.Row.{Entry, entryAt, placeOf}
 use Rattle.meaning.specs.State.{State, occurrences}
 use Rattle.meaning.specs.Picture.{picture, path}
-use Rattle.meaning.specs.Refusals.{Outcome, refused, badKey, keyLive, noFreeCell, nothingLive, keyNotStanding}
+use Rattle.meaning.specs.Refusals.{Outcome, refused, badKey, keyLive, nothingLive, keyNotStanding}
 use Rattle.meaning.specs.Words.{keyAt}
 use Rattle.meaning.specs.Operations.{looked, insertOut, finishOut, takeOut, sweepOut, deadFront, fromLive, taken, revived, slotFor, finished, withRow, due, placesOf, keysAbove}
 use Rattle.meaning.specs.Calls.{outcome}
@@ -30,10 +26,10 @@ use Rattle.meaning.proofs.KeepsInsert.{entry-split}
 use Rattle.meaning.proofs.FinishWords.{finish-moved, finish-own, finish-others, finish-nothing, finish-finished}
 use Rattle.meaning.proofs.TakeWords.{taken-words, revived-words}
 use Rattle.meaning.proofs.InsertWords.{added-inserted}
-use Rattle.meaning.proofs.Outcomes.{on-read-lists, in-range-or-not, find-writes-nothing, take-outcome-none, take-outcome-first, insert-outcome-bad-key, insert-outcome-live, insert-outcome-dead, insert-outcome-full, insert-outcome-new, finish-outcome-bad-key, finish-outcome-absent, finish-outcome-standing, sweep-outcome}
+use Rattle.meaning.proofs.Outcomes.{on-read-lists, find-writes-nothing, take-outcome-none, take-outcome-first, insert-outcome-bad-key, insert-outcome-live, insert-outcome-dead, insert-outcome-new, finish-outcome-bad-key, finish-outcome-absent, finish-outcome-standing, sweep-outcome, key-cases, live-cases}
 use Rattle.meaning.proofs.SweepTarget.{sweep-words}
 use Rattle.meaning.proofs.SweepSentences.{swept-owes-nothing}
-use Rattle.meaning.proofs.Serves.{refused-not}
+use Rattle.meaning.proofs.Serves.{refused-not, new-accepted}
 
 pub find-writes : FindWritesNothing
 unfolding outcome
@@ -67,28 +63,22 @@ take-writes =
 
 revive-marked : (s : State) → Sound s → (key value : ℕ) → (entryAt key (s .row) ≡ none → ⊥) → insertOut (picture s) key value .answered .refusal ≡ 0 → Marked (picture s) (insertOut (picture s) key value .words) key value 1
 unfolding picture revived
-revive-marked s v key value stands z = go (in-range-or-not key (s .settings .largest))
-  where
-    old : 1 ≤ key → key ≤ s .settings .largest → (x : Entry) → entryAt key (s .row) ≡ some x → (t : Bool) → x .live ≡ t → Marked (picture s) (insertOut (picture s) key value .words) key value 1
-    old h l x a true q = absurd (refused-not (insertOut (picture s) key value) (refused (keyLive key (looked s key)) (picture s)) 4 (insert-outcome-live s v key value h l x a q) refl z)
-    old h l x a false q =
-        let k = entry-key key x (s .row) a in
-        record {
-          cell = x .cell;
-          within = entry-has (λ y. (0 < y .cell) × (y .cell < s .settings .cells)) key x (s .row) a (row-range s v) .1;
-          same = entry-has (λ y. keyAt (picture s) (y .cell) ≡ y .key) key x (s .row) a (row-key-read s v) ∙ k;
-          path = path (revived s x value);
-          long = path-length (revived s x value);
-          words = ap (λ (p : Outcome). p .words) (insert-outcome-dead s v key value h l x a q) ∙ revived-words s x value v (subst (λ (m : ℕ). entryAt m (s .row) ≡ some x) (sym k) a);
-        }
-
-    found : 1 ≤ key → key ≤ s .settings .largest → (o : Option Entry) → entryAt key (s .row) ≡ o → Marked (picture s) (insertOut (picture s) key value .words) key value 1
-    found h l none a = absurd (stands a)
-    found h l (some x) a = old h l x a (x .live) refl
-
-    go : ((1 ≤ key) × (key ≤ s .settings .largest)) ⊎ (1 ≤ key → s .settings .largest < key) → Marked (picture s) (insertOut (picture s) key value .words) key value 1
-    go (inl k) = found (k .0) (k .1) (entryAt key (s .row)) refl
-    go (inr n) = absurd (refused-not (insertOut (picture s) key value) (refused badKey (picture s)) 3 (insert-outcome-bad-key s v key value n) refl z)
+revive-marked s v key value stands z =
+    key-cases s key
+    (λ n. absurd (refused-not (insertOut (picture s) key value) (refused badKey (picture s)) 3 (insert-outcome-bad-key s v key value n) refl z))
+    (λ h l a. absurd (stands a))
+    (λ h l x a. live-cases x
+    (λ q. absurd (refused-not (insertOut (picture s) key value) (refused (keyLive key (looked s key)) (picture s)) 4 (insert-outcome-live s v key value h l x a q) refl z))
+    (λ q.
+    let k = entry-key key x (s .row) a in
+    record {
+      cell = x .cell;
+      within = entry-has (λ y. (0 < y .cell) × (y .cell < s .settings .cells)) key x (s .row) a (row-range s v) .1;
+      same = entry-has (λ y. keyAt (picture s) (y .cell) ≡ y .key) key x (s .row) a (row-key-read s v) ∙ k;
+      path = path (revived s x value);
+      long = path-length (revived s x value);
+      words = ap (λ (p : Outcome). p .words) (insert-outcome-dead s v key value h l x a q) ∙ revived-words s x value v (subst (λ (m : ℕ). entryAt m (s .row) ≡ some x) (sym k) a);
+    }))
 
 pub revive-writes : ReviveWrites
 unfolding outcome
@@ -98,17 +88,9 @@ revive-writes =
     revive-marked
 
 insert-inserted : (s : State) → Sound s → (key value : ℕ) → entryAt key (s .row) ≡ none → insertOut (picture s) key value .answered .refusal ≡ 0 → Inserted (picture s) (insertOut (picture s) key value .words) key value (slotFor s key)
-insert-inserted s v key value a z = go (in-range-or-not key (s .settings .largest))
-  where
-    room : 1 ≤ key → key ≤ s .settings .largest → (n : ℕ) → length (s .free) ≡ n → Inserted (picture s) (insertOut (picture s) key value .words) key value (slotFor s key)
-    room h l zero f = absurd (refused-not (insertOut (picture s) key value) (refused (noFreeCell key (looked s key)) (picture s)) 5 (insert-outcome-full s v key value h l a f) refl z)
-    room h l (suc n) f =
-        let some-free : 0 < length (s .free) = omega (arith, f) in
-        subst (λ (us : List ℕ). Inserted (picture s) us key value (slotFor s key)) (ap (λ (p : Outcome). p .words) (sym (insert-outcome-new s v key value h l a some-free))) (added-inserted s v key value h l a some-free)
-
-    go : ((1 ≤ key) × (key ≤ s .settings .largest)) ⊎ (1 ≤ key → s .settings .largest < key) → Inserted (picture s) (insertOut (picture s) key value .words) key value (slotFor s key)
-    go (inl k) = room (k .0) (k .1) (length (s .free)) refl
-    go (inr n) = absurd (refused-not (insertOut (picture s) key value) (refused badKey (picture s)) 3 (insert-outcome-bad-key s v key value n) refl z)
+insert-inserted s v key value a z =
+    let (h, l, f) = new-accepted s v key value a z in
+    subst (λ (us : List ℕ). Inserted (picture s) us key value (slotFor s key)) (ap (λ (p : Outcome). p .words) (sym (insert-outcome-new s v key value h l a f))) (added-inserted s v key value h l a f)
 
 pub insert-writes : InsertWrites
 unfolding outcome
@@ -122,7 +104,11 @@ entry-stands : (s : State) (key : ℕ) (x : Entry) → entryAt key (s .row) ≡ 
 entry-stands s key x a = let t = entry-split key x (s .row) a in cell-stands s (t .0) x (t .1) (t .2)
 
 finish-finishes : (s : State) → Sound s → (key : ℕ) → finishOut (picture s) key .answered .refusal ≡ 0 → Finishes (picture s) (finishOut (picture s) key .words) key (finishOut (picture s) key .answered .count)
-finish-finishes s v key z = go (in-range-or-not key (s .settings .largest))
+finish-finishes s v key z =
+    key-cases s key
+    (λ n. absurd (refused-not (finishOut (picture s) key) (refused badKey (picture s)) 3 (finish-outcome-bad-key s v key n) refl z))
+    (λ h l a. absurd (refused-not (finishOut (picture s) key) (refused (keyNotStanding key) (picture s)) 7 (finish-outcome-absent s v key h l a) refl z))
+    (λ h l x a. subst (λ (p : Outcome). Finishes (picture s) (p .words) key (p .answered .count)) (sym (finish-outcome-standing s v key h l x a)) (done x a))
   where
     done : (x : Entry) → entryAt key (s .row) ≡ some x → Finishes (picture s) (picture (withRow s (finished (x .cell) (s .row)))) key (due s (placeOf (x .cell) (placesOf s (s .row))))
     done x a =
@@ -136,15 +122,6 @@ finish-finishes s v key z = go (in-range-or-not key (s .settings .largest))
           nothing = finish-nothing s v (x .cell) n;
           finished = finish-finished s v (x .cell) n;
         }
-
-    found : 1 ≤ key → key ≤ s .settings .largest → (o : Option Entry) → entryAt key (s .row) ≡ o → Finishes (picture s) (finishOut (picture s) key .words) key (finishOut (picture s) key .answered .count)
-    found h l none a = absurd (refused-not (finishOut (picture s) key) (refused (keyNotStanding key) (picture s)) 7 (finish-outcome-absent s v key h l a) refl z)
-    found h l (some x) a =
-        subst (λ (p : Outcome). Finishes (picture s) (p .words) key (p .answered .count)) (sym (finish-outcome-standing s v key h l x a)) (done x a)
-
-    go : ((1 ≤ key) × (key ≤ s .settings .largest)) ⊎ (1 ≤ key → s .settings .largest < key) → Finishes (picture s) (finishOut (picture s) key .words) key (finishOut (picture s) key .answered .count)
-    go (inl k) = found (k .0) (k .1) (entryAt key (s .row)) refl
-    go (inr n) = absurd (refused-not (finishOut (picture s) key) (refused badKey (picture s)) 3 (finish-outcome-bad-key s v key n) refl z)
 
 pub finish-writes : FinishWrites
 unfolding outcome

@@ -1,6 +1,6 @@
 -- What holds of all members of a list, and rows in ascending order of keys.
-use mathlib.Core.Path.{_≡_, refl}
-use mathlib.Core.Bool.{Bool, true, false, _&&_}
+use mathlib.Core.Path.{_≡_, refl, sym}
+use mathlib.Core.Bool.{Bool, true, false, _&&_, cond}
 use mathlib.Core.List.{List, [], _∷_, _++_}
 use Prim.Native.Nat.{ℕ, _≤_, _<_}
 use native.Mathlib.Omega.{arith}
@@ -26,6 +26,16 @@ both false t e = absurd (let z : _≡_ {A = ℕ} 0 1 = cc in omega arith)
 
 pub and-both : (s t : Bool) → s ≡ true → t ≡ true → (s && t) ≡ true
 and-both s t p q = rw (p, q) refl
+
+pub cond-has : {A : Type 0} (P : A → Type 0) (t : Bool) (x y : A) → P x → P y → P (cond t x y)
+cond-has P true x y p q = p
+cond-has P false x y p q = q
+
+-- tests that hold together are equal
+pub tests-same : (s t : Bool) → (s ≡ true → t ≡ true) → (t ≡ true → s ≡ true) → s ≡ t
+tests-same true t f g = sym (f refl)
+tests-same false true f g = g refl
+tests-same false false f g = refl
 
 pub every-all : {A : Type 0} (test : A → Bool) (xs : List A) → every test xs ≡ true → All (λ x. test x ≡ true) xs
 unfolding every

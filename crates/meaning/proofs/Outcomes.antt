@@ -4,7 +4,6 @@
 -- nothing.
 use mathlib.Core.Path.{_≡_, refl, ap, _∙_, subst}
 use mathlib.Core.Bool.{Bool, true, false, cond, _&&_, _||_, not}
-use mathlib.Core.Logic.{_⊎_, inl, inr}
 use mathlib.Core.List.{List, [], _∷_}
 use mathlib.Core.Option.{Option, none, some}
 use Prim.Native.Nat.{ℕ, zero, suc, _+_, _*_, _≤_, _<_}
@@ -12,25 +11,24 @@ use native.Mathlib.Nat.{mul-le-mul-right, lt-of-not-le}
 use native.Mathlib.Decide.{decLe, decLt}
 use native.Mathlib.Omega.{arith}
 use lib.Dec.{eqb, leb}
-use lib.ListN.{length, getD, getD-replicate, List·getD-eq-default}
+use lib.ListN.{length, getD, List·getD-eq-default}
 use borrow.Author.Tests.{eq-eqb, ne-eqb, le-leb, lt-leb}
 use Rattle.settings.specs.Numbers.{inRange, lengthOf, headerWords, cellWords}
-use Rattle.meaning.specs.Keys.{shared}
-use Rattle.meaning.specs.Row.{Entry, headEntry, firstOf, Place, placesAfter, places, owed, placeOf, entryAt}
+use Rattle.meaning.specs.Row.{Entry, firstOf, Place, places, owed, placeOf, entryAt}
 use Rattle.meaning.specs.State.{State, positionKey}
-use Rattle.meaning.specs.Picture.{mark, standingWords, freeWords, wordsOf, picture}
+use Rattle.meaning.specs.Picture.{mark, standingWords, wordsOf, picture, nextFree}
 use Rattle.meaning.specs.Reading.{read, isList}
 use Rattle.meaning.specs.Refusals.{Outcome, accepted, Refusal, outOfRange, wrongLength, notAList, badKey, keyLive, noFreeCell, nothingLive, keyNotLive, keyNotStanding, owedNotStanding, refused}
 use Rattle.meaning.specs.Words.{markAt, owedAt}
 use Rattle.meaning.specs.Operations.{onList, onKey, owesFromFree, placesOf, looked, fresh, setUpOut, finished, withRow, due, finishAt, finishOut, findAt, findOut, revived, slotFor, added, insertNew, insertAt, insertOut, fromLive, keysAbove, keysPassed, taken, takeFrom, takeOut, freedBy, swept, someOwesFromFree, sweepOn, sweepOut}
 use Rattle.meaning.specs.Calls.{set-up, insert-key, find-key, finish-key, take-least, sweep-dead, outcome}
 use Rattle.meaning.specs.Promises.{RefusedAltersNothing}
-use Rattle.meaning.proofs.Order.{All, all-map}
+use Rattle.meaning.proofs.Order.{All, cond-has}
 use Rattle.meaning.proofs.State.{Sound}
-use Rattle.meaning.proofs.Cells.{all-zip, row-range}
-use Rattle.meaning.proofs.Picture.{picture-length, picture-dimensions, picture-word, Told, told, first-has, later-has, place-found}
+use Rattle.meaning.proofs.Cells.{all-zip}
+use Rattle.meaning.proofs.Picture.{picture-length, picture-dimensions, picture-word, Told, told, first-has, freeWords-rest, places-later}
 use Rattle.meaning.proofs.Reading.{mark-stands, read-of-picture, picture-is-list, list-is-picture, list-sound}
-use Rattle.meaning.proofs.WalkRead.{all-places}
+use Rattle.meaning.proofs.WalkRead.{row-mark-read}
 
 -- What holds of each state in order and its picture holds of each list and the state that it holds.
 pub on-read-lists : (P : State → List ℕ → Type 0) → ((s : State) → Sound s → P s (picture s)) → (ws : List ℕ) → isList ws ≡ true → P (read ws) ws
@@ -40,33 +38,6 @@ pub on-lists : (P : List ℕ → Type 0) → ((s : State) → Sound s → P (pic
 on-lists P f ws e = on-read-lists (λ s. P) f ws e
 
 -- The words of a cell that the debt test reads
-
--- what holds of the entry of each place holds of each entry of the row
-pub row-of-places : (P : Entry → Type 0) (b D : ℕ) (a : Entry) (e : ℕ) (row : List Entry) → All (λ p. P (p .entry)) (placesAfter b D a e row) → All P row
-unfolding placesAfter
-row-of-places P b D a e [] h = tt
-row-of-places P b D a e (x ∷ row) h = (h .0, row-of-places P b D x (shared b D (a .key) (x .key)) row (h .1))
-
--- the mark of a standing cell, as its picture shows it
-pub standing-mark : (s : State) (p : Place) → p .entry .cell < s .settings .cells →
-    placeOf (p .entry .cell) (places (s .settings .base) (s .settings .dimensions) (s .row)) ≡ some p →
-    markAt (picture s) (p .entry .cell) ≡ mark (p .entry .live)
-unfolding wordsOf standingWords
-standing-mark s p h found =
-    picture-word s (p .entry .cell) 2 h (omega arith)
-    ∙ ap (λ o. getD (wordsOf (s .settings .base) (s .settings .dimensions) (s .free) (p .entry .cell) o) 2 0) found
-
-pub places-mark : (s : State) → Sound s → All (λ p. markAt (picture s) (p .entry .cell) ≡ mark (p .entry .live)) (places (s .settings .base) (s .settings .dimensions) (s .row))
-places-mark s v =
-    let b = s .settings .base in
-    let D = s .settings .dimensions in
-    all-zip (standing-mark s) (places b D (s .row))
-    (all-places (λ x. x .cell < s .settings .cells) b D (s .row) (let h = v .cells-least in omega arith) (all-map (λ x h. h .1) (s .row) (row-range s v)))
-    (place-found s v)
-
-pub row-mark : (s : State) → Sound s → All (λ x. markAt (picture s) (x .cell) ≡ mark (x .live)) (s .row)
-unfolding places
-row-mark s v = row-of-places (λ x. markAt (picture s) (x .cell) ≡ mark (x .live)) (s .settings .base) (s .settings .dimensions) headEntry 0 (s .row) (places-mark s v .1)
 
 -- a debt test fails if the owed word is 0 or names a cell whose mark is not 0
 debt-clear : (ws : List ℕ) (x o : ℕ) → owedAt ws x ≡ o → (0 < o → eqb (markAt ws o) 0 ≡ false) → owesFromFree ws x ≡ false
@@ -84,18 +55,16 @@ owed-marked ws false y f h = absurd (omega arith)
 
 -- what a standing cell owes from stands
 pub places-owed : (s : State) → Sound s → All (λ p. 0 < owed p → eqb (markAt (picture s) (owed p)) 0 ≡ false) (places (s .settings .base) (s .settings .dimensions) (s .row))
-unfolding places
 places-owed s v =
     let b = s .settings .base in
     let D = s .settings .dimensions in
-    let marked : All (λ x. markAt (picture s) (x .cell) ≡ mark (x .live)) (s .row) = row-mark s v in
     all-zip (λ p debt later.
     owed-marked (picture s) (p .entry .owes) (firstOf (p .later)) (λ o. first-has (λ x. markAt (picture s) (x .cell) ≡ mark (x .live)) (p .later) later (debt o .later)))
-    (places b D (s .row)) (v .debts) (marked, later-has (λ x. markAt (picture s) (x .cell) ≡ mark (x .live)) b D headEntry 0 (s .row) marked)
+    (places b D (s .row)) (v .debts) (places-later (λ x. markAt (picture s) (x .cell) ≡ mark (x .live)) b D (s .row) (row-mark-read s v))
 
 -- "a cell owed from is not standing": of no cell of the picture of a state in order
 pub owed-stands : (s : State) → Sound s → (x : ℕ) → x < s .settings .cells → owesFromFree (picture s) x ≡ false
-unfolding wordsOf freeWords standingWords
+unfolding wordsOf standingWords
 owed-stands s v x h =
     at (placeOf x (places b D (s .row))) (picture-word s x 3 h (omega arith))
     (told (λ p. 0 < owed p → eqb (markAt (picture s) (owed p)) 0 ≡ false) x (places b D (s .row)) (places-owed s v))
@@ -108,9 +77,7 @@ owed-stands s v x h =
 
     at : (o : Option Place) → owedAt (picture s) x ≡ getD (wordsOf b D (s .free) x o) 3 0 →
         Told (λ p. 0 < owed p → eqb (markAt (picture s) (owed p)) 0 ≡ false) x o → owesFromFree (picture s) x ≡ false
-    at none word t =
-        let enough : 2 < 5 + 2 * D = omega arith in
-        debt-clear (picture s) x 0 (word ∙ getD-replicate {A = ℕ} (5 + 2 * D) 2 0 0 enough) (λ q. absurd (omega arith))
+    at none word t = debt-clear (picture s) x 0 (word ∙ freeWords-rest D (nextFree x (s .free)) 3 (omega arith) (omega arith)) (λ q. absurd (omega arith))
     at (some p) word t = debt-clear (picture s) x (owed p) word (t .1)
 
 -- .. nor of a number that is no cell's
@@ -311,10 +278,6 @@ sweep-outcome s v = on-picture s v (sweepOn (picture s)) ∙ rw (row-owed-never-
 
 -- What holds of each end of an operation, on any words, holds of its outcome
 
-cond-has : (P : Outcome → Type 0) (t : Bool) (done other : Outcome) → P done → P other → P (cond t done other)
-cond-has P true done other p q = p
-cond-has P false done other p q = q
-
 onList-has : (P : Outcome → Type 0) (ws : List ℕ) (act : State → Outcome) → P (refused notAList ws) → ((s : State) → P (act s)) → P (onList ws act)
 unfolding onList
 onList-has P ws act p q = at (isList ws)
@@ -401,11 +364,32 @@ refused-alters-nothing sweep-dead ws = sweep-has (Kept ws) ws (λ r ne. refl) (�
 pub find-writes-nothing : (ws : List ℕ) (key : ℕ) → findOut ws key .words ≡ ws
 find-writes-nothing ws key = find-has (λ o. o .words ≡ ws) ws (λ r. refl) key (λ value count. refl)
 
--- a key is in range or not
-pub in-range-or-not : (key most : ℕ) → ((1 ≤ key) × (key ≤ most)) ⊎ (1 ≤ key → most < key)
-in-range-or-not key most = go (decLe 1 key) (decLe key most)
+-- A key is out of range, or absent, or an entry's.
+pub key-cases : {R : Type 0} (s : State) (key : ℕ) → ((1 ≤ key → s .settings .largest < key) → R) → (1 ≤ key → key ≤ s .settings .largest → entryAt key (s .row) ≡ none → R) →
+    (1 ≤ key → key ≤ s .settings .largest → (x : Entry) → entryAt key (s .row) ≡ some x → R) → R
+key-cases {R} s key bad absent standing = go (decLe 1 key) (decLe key (s .settings .largest))
   where
-    go : Dec (1 ≤ key) → Dec (key ≤ most) → ((1 ≤ key) × (key ≤ most)) ⊎ (1 ≤ key → most < key)
-    go (yes h) (yes k) = inl (h, k)
-    go (yes h) (no n) = inr (λ z. lt-of-not-le n)
-    go (no n) d = inr (λ h. absurd (n h))
+    found : 1 ≤ key → key ≤ s .settings .largest → (o : Option Entry) → entryAt key (s .row) ≡ o → R
+    found h l none a = absent h l a
+    found h l (some x) a = standing h l x a
+
+    go : Dec (1 ≤ key) → Dec (key ≤ s .settings .largest) → R
+    go (yes h) (yes l) = found h l (entryAt key (s .row)) refl
+    go (yes h) (no n) = bad (λ z. lt-of-not-le n)
+    go (no n) d = bad (λ h. absurd (n h))
+
+-- an entry is live or dead
+pub live-cases : {R : Type 0} (x : Entry) → (x .live ≡ true → R) → (x .live ≡ false → R) → R
+live-cases {R} x live dead = go (x .live) refl
+  where
+    go : (t : Bool) → x .live ≡ t → R
+    go true e = live e
+    go false e = dead e
+
+-- there is a free cell or none
+pub free-cases : {R : Type 0} (s : State) → (length (s .free) ≡ 0 → R) → (0 < length (s .free) → R) → R
+free-cases {R} s full room = go (length (s .free)) refl
+  where
+    go : (n : ℕ) → length (s .free) ≡ n → R
+    go zero e = full e
+    go (suc n) e = room (omega arith)

@@ -113,6 +113,31 @@ module _ (b D : ℕ) where
   sharing-none key d [] a = refl
   sharing-none key d (z ∷ later) a = rw (ne-eqb (shared b D key (z .key)) d (a .0)) (sharing-none key d later (a .1))
 
+  -- keys that the same of some entries share just d with
+  pub sharing-alike :
+      (k l d : ℕ) (later : List Entry) →
+      All (λ y. (shared b D k (y .key) ≡ d → shared b D l (y .key) ≡ d) × (shared b D l (y .key) ≡ d → shared b D k (y .key) ≡ d)) later →
+      firstSharing b D k d later ≡ firstSharing b D l d later
+  unfolding firstSharing
+  sharing-alike k l d [] a = refl
+  sharing-alike k l d (y ∷ later) a = at (ℕ-discrete (shared b D k (y .key)) d) (sharing-alike k l d later (a .1))
+    where
+      at : Dec (shared b D k (y .key) ≡ d) → firstSharing b D k d later ≡ firstSharing b D l d later → firstSharing b D k d (y ∷ later) ≡ firstSharing b D l d (y ∷ later)
+      at (yes e) more = sharing-hits k d y later e ∙ sym (sharing-hits l d y later (a .0 .0 e))
+      at (no ne) more = rw (ne-eqb (shared b D k (y .key)) d ne, ne-eqb (shared b D l (y .key)) d (λ e. ne (a .0 .1 e))) more
+
+  -- what comes after a key y shares no more with a smaller key than y does
+  sharing-falls : 0 < b → (key y : ℕ) (later : List Entry) → key ≤ y → Asc y later → All (λ z. shared b D key (z .key) ≤ shared b D key y) later
+  sharing-falls pos key y later h asc = all-map (λ z l. omega (arith, ultra b D key y (z .key) pos h (omega arith))) later (asc-above y later asc)
+
+  -- so after a y that shares less than d none shares just d
+  pub sharing-behind : 0 < b → (key d y : ℕ) (later : List Entry) → key ≤ y → shared b D key y < d → Asc y later → firstSharing b D key d later ≡ 0
+  sharing-behind pos key d y later h l asc = sharing-none key d later (all-map (λ z m e. omega arith) later (sharing-falls pos key y later h asc))
+
+  -- nor does that y itself
+  pub sharing-above : 0 < b → (key d : ℕ) (y : Entry) (later : List Entry) → key ≤ y .key → Asc (y .key) later → shared b D key (y .key) < d → firstSharing b D key d (y ∷ later) ≡ 0
+  sharing-above pos key d y later h asc l = sharing-skips key d (y ∷ []) later ((λ e. omega arith), tt) ∙ sharing-behind pos key d (y .key) later h l asc
+
   -- no link leads to a cell that does not come later
   pub sharing-without : (key d c : ℕ) (later : List Entry) → (c ≡ 0 → ⊥) → Without c later → firstSharing b D key d later ≡ c → ⊥
   unfolding firstSharing

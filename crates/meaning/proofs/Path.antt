@@ -17,11 +17,11 @@ use Rattle.meaning.specs.Row.{Entry, headEntry, firstSharing, Place, pla
 use Rattle.meaning.specs.State.{State, positionKey}
 use Rattle.meaning.specs.Picture.{firstWith, path}
 use Rattle.meaning.specs.Paths.{pathFor, onward}
-use Rattle.meaning.proofs.Order.{All, Asc, all-map, asc-above}
+use Rattle.meaning.proofs.Order.{All, Asc, all-map}
 use Rattle.meaning.proofs.Keys.{shared-same, shared-le, shared-less, ultra}
 use Rattle.meaning.proofs.Blocks.{made-at, made-length}
 use Rattle.meaning.proofs.Places.{asc-left, lastFrom, dimensionFrom}
-use Rattle.meaning.proofs.Parent.{dimensionAfter, Apart, ParentPlace, asc-last, last-least, last-greatest, sharing-skips, sharing-hits, sharing-none, first-hits, first-skips, first-front, near, first-place, last-first}
+use Rattle.meaning.proofs.Parent.{dimensionAfter, Apart, ParentPlace, asc-last, last-least, last-greatest, sharing-skips, sharing-hits, sharing-none, first-hits, first-skips, first-front, near, first-place, last-first, sharing-above}
 use Rattle.meaning.proofs.WalkRead.{settled-above}
 
 -- The words of a path
@@ -204,7 +204,7 @@ module _ (b D : ℕ) (pos : 0 < b) (deep : 0 < D) where
       ∙ ap (firstSharing b D (p .entry .key) d) (at .later-is)
       ∙ sharing-skips b D (p .entry .key) d (at .between) later (all-map (λ z h e. omega arith) (at .between) (near b D pos deep (p .entry) (at .between) (at .ascends)))
 
-  parent-shares :
+  pub parent-shares :
       (d : ℕ) (a : Entry) (later : List Entry) (p : Place) → ParentPlace b D d a later p → (key : ℕ) → a .key ≤ key →
       shared b D (p .entry .key) key ≡ min (shared b D (p .entry .key) (a .key)) (shared b D (a .key) key)
   parent-shares d a later p at key h =
@@ -212,7 +212,8 @@ module _ (b D : ℕ) (pos : 0 < b) (deep : 0 < D) where
       ultra b D (p .entry .key) (a .key) key pos (omega (arith, up, ap (λ z. z .key) (at .last-is))) h
 
   module _ (pre : List Entry) where
-    path-link :
+    -- link d of word d of the last entry's path leads to c, if c is the first of what comes after that shares just d with that word's cell
+    pub path-link :
         (later : List Entry) (d c : ℕ) → Asc 0 pre → Apart (headEntry ∷ pre) → d < D →
         ((p : Place) → ParentPlace b D d (lastFrom headEntry pre) later p → firstSharing b D (p .entry .key) d later ≡ c) →
         PathLink b D (pre ++ later) (lastFrom headEntry pre .key) d c
@@ -249,12 +250,9 @@ module _ (b D : ℕ) (pos : 0 < b) (deep : 0 < D) where
         let less = up .0 in
         path-link (y ∷ post) d 0 (asc-left 0 pre (y ∷ post) asc) apart l
         (λ p at.
-        let shares = at .shares in
-        sharing-none b D (p .entry .key) d (y ∷ post) (
-          λ e. omega (arith, parent-shares d A (y ∷ post) p at (y .key) (omega arith)),
-          all-map (λ z g e. omega (arith, parent-shares d A (y ∷ post) p at (z .key) (omega arith), ultra b D (A .key) (y .key) (z .key) pos (omega arith) (omega arith)))
-              post (asc-above (y .key) post (up .1)),
-        ))
+        let least = last-least (p .entry) (at .between) (at .ascends) in
+        let last = ap (λ z. z .key) (at .last-is) in
+        sharing-above b D pos (p .entry .key) d y post (omega arith) (up .1) (omega (arith, parent-shares d A (y ∷ post) p at (y .key) (omega arith))))
 
     -- .. and from the path of the last entry none leads anywhere
     pub last-link : (d : ℕ) → Asc 0 pre → Apart (headEntry ∷ pre) → d < D → PathLink b D pre (lastFrom headEntry pre .key) d 0

@@ -22,7 +22,7 @@ use Rattle.meaning.proofs.Cells.{row-range}
 use Rattle.meaning.proofs.Keeps.{cell-alone, position-cases, position-head, position-entry}
 use Rattle.meaning.proofs.Places.{Found, asc-left, lastFrom}
 use Rattle.meaning.proofs.Parent.{Apart, asc-last, apart-left}
-use Rattle.meaning.proofs.Slot.{sound-apart}
+use Rattle.meaning.proofs.Slot.{sound-apart, dimensions-positive}
 use Rattle.meaning.proofs.WalkRead.{link-read}
 use Rattle.meaning.proofs.SentencesCells.{Placed, placed-has, placed-cell}
 use Rattle.meaning.proofs.Path.{path-is, pathFor-length, path-head, path-last, path-holds, PathLink, path-next, next-link, next-link-above, last-link}
@@ -100,7 +100,7 @@ module _ (s : State) (v : Sound s) where
   apart-front pre later split = apart-left (headEntry ∷ pre) later (subst (λ r. Apart (headEntry ∷ r)) split (sound-apart s v))
 
   deep : 0 < s .settings .dimensions
-  deep = let least = v .dimensions-least in omega arith
+  deep = dimensions-positive s v
 
   -- from the path of an entry that has a next one, or of the head, to that one
   pub next-of-path :

@@ -20,15 +20,14 @@ use Rattle.meaning.specs.Paths.{pathFor, onward, nextFrom, Ahead, aheadF
 use Rattle.meaning.proofs.Order.{All, and-both, Asc, all-map, all-append, all-left, asc-above}
 use Rattle.meaning.proofs.State.{Sound}
 use Rattle.meaning.proofs.Cells.{free-length, all-zip}
+use Rattle.meaning.proofs.Picture.{picture-dimensions}
 use Rattle.meaning.proofs.Put.{those-all, those-none}
 use Rattle.meaning.proofs.Places.{all-at, asc-left, asc-smaller, asc-larger, lastFrom, Keeping, onCell, keyOf-head-changed}
+use Rattle.meaning.proofs.WalkRead.{row-mark-read}
 use Rattle.meaning.proofs.Keeps.{cell-alone, row-split, deadFront-dead, fromLive-live}
 use Rattle.meaning.proofs.KeepsTake.{dead-keeping, taken-key}
 use Rattle.meaning.proofs.Parent.{asc-last, last-greatest}
 use Rattle.meaning.proofs.Slot.{first-changed}
-use Rattle.meaning.proofs.WalkRead.{dimensions-read}
-use Rattle.meaning.proofs.SentencesCells.{place-mark}
-use Rattle.meaning.proofs.SentencesShape.{row-placed}
 use Rattle.meaning.proofs.Path.{path-is}
 use Rattle.meaning.proofs.PathNext.{wayTo, PathOf, last-snoc, position-on-way, way-next, way-end, way-on}
 
@@ -58,13 +57,10 @@ module _ (ws : List ℕ) (D : ℕ) (is-D : getD ws 0 0 ≡ D) (fuel : ℕ) (path
 -- Past dead cells
 
 module _ (s : State) (v : Sound s) where
-  pub marks-read : All (λ y. markAt (picture s) (y .cell) ≡ mark (y .live)) (s .row)
-  marks-read = all-map (λ y h. place-mark v (h .placed) ∙ ap (λ z. mark (z .live)) (h .entry)) (s .row) (row-placed v)
-
   -- the mark of an entry between two parts of the row
   pub mark-read : (front : List Entry) (y : Entry) (later : List Entry) → s .row ≡ front ++ (y ∷ later) → markAt (picture s) (y .cell) ≡ mark (y .live)
   mark-read front y later split =
-      all-at (λ z. markAt (picture s) (z .cell) ≡ mark (z .live)) front y later (subst (All (λ z. markAt (picture s) (z .cell) ≡ mark (z .live))) split marks-read)
+      all-at (λ z. markAt (picture s) (z .cell) ≡ mark (z .live)) front y later (subst (All (λ z. markAt (picture s) (z .cell) ≡ mark (z .live))) split (row-mark-read s v))
 
   dead-past :
       (fuel passed : ℕ) (front : List Entry) (y : Entry) (later : List Entry) → s .row ≡ front ++ (y ∷ later) → y .live ≡ false →
@@ -73,7 +69,7 @@ module _ (s : State) (v : Sound s) where
       let D = s .settings .dimensions in
       let e = shared (s .settings .base) D (lastFrom headEntry front .key) (y .key) in
       let here : PathOf s (wayTo s front) front (y ∷ later) = record { split = split; is = refl } in
-      ahead-past (picture s) D (dimensions-read s) fuel (wayTo s front) passed (y .cell) e (way-next v here) (cell-alone s v front y later split .standing)
+      ahead-past (picture s) D (picture-dimensions s) fuel (wayTo s front) passed (y .cell) e (way-next v here) (cell-alone s v front y later split .standing)
       (λ one. omega (arith, mark-read front y later split, ap mark dead))
       ∙ ap (λ p. aheadFrom fuel (picture s) p (suc passed)) (way-on v here .is)
 
@@ -104,7 +100,7 @@ module _ (s : State) (v : Sound s) where
       let n : fuel ≡ length dead + suc (fuel - suc (length dead)) = omega arith in
       ap (λ i. aheadFrom i (picture s) (wayTo s front) passed) n
       ∙ ahead-passes (suc (fuel - suc (length dead))) passed front dead (x ∷ later) split a
-      ∙ ahead-here (picture s) D (dimensions-read s) (fuel - suc (length dead)) (wayTo s (front ++ dead)) (passed + length dead) (x .cell) e (way-next v here)
+      ∙ ahead-here (picture s) D (picture-dimensions s) (fuel - suc (length dead)) (wayTo s (front ++ dead)) (passed + length dead) (x .cell) e (way-next v here)
       (cell-alone s v (front ++ dead) x later (here .split) .standing) (mark-read (front ++ dead) x later (here .split) ∙ ap mark live)
       ∙ ap {B = Ahead} (λ p. record { cell = x .cell; passed = suc (passed + length dead); path = p })
       (way-on v here .is ∙ ap (λ y. pathFor (s .settings .base) D (s .row) (y .key)) (last-snoc headEntry (front ++ dead) x))
@@ -119,7 +115,7 @@ module _ (s : State) (v : Sound s) where
       let n : fuel ≡ length dead + suc (fuel - suc (length dead)) = omega arith in
       ap (λ i. aheadFrom i (picture s) (wayTo s front) passed) n
       ∙ ahead-passes (suc (fuel - suc (length dead))) passed front dead [] all a
-      ∙ ahead-end (picture s) D (dimensions-read s) (fuel - suc (length dead)) (wayTo s (front ++ dead)) (passed + length dead) 0 (way-end v here)
+      ∙ ahead-end (picture s) D (picture-dimensions s) (fuel - suc (length dead)) (wayTo s (front ++ dead)) (passed + length dead) 0 (way-end v here)
       ∙ ap {B = Ahead} (λ r. record { cell = 0; passed = passed + length dead; path = wayTo s r }) (sym split)
 
 -- What a take finds

@@ -25,15 +25,17 @@ use Rattle.meaning.proofs.Order.{All, Asc, all-map, asc-above}
 use Rattle.meaning.proofs.Keys.{shared-same, shared-less, shared-le}
 use Rattle.meaning.proofs.State.{Sound, base-positive, base-above}
 use Rattle.meaning.proofs.Cells.{all-zip}
+use Rattle.meaning.proofs.Picture.{picture-dimensions, picture-base}
 use Rattle.meaning.proofs.Places.{asc-left, lastFrom}
 use Rattle.meaning.proofs.Parent.{asc-last, first-hits}
 use Rattle.meaning.proofs.RowWalk.{Next, Stop, next}
-use Rattle.meaning.proofs.WalkRead.{Read, dimensions-read, base-read, key-read}
+use Rattle.meaning.proofs.WalkRead.{Read, key-read}
 use Rattle.meaning.proofs.Walk.{move-shares, along-go, StandingPlace, place-up, place-top, place-over, place-along, head-read, others-standing}
 use Rattle.meaning.proofs.WalkStop.{Wanting, Moved, rests}
 use Rattle.meaning.proofs.SentencesCells.{Placed, placed-entry, placed-cell, place-key}
 use Rattle.meaning.proofs.Path.{path-same, path-next-own, path-head, path-from}
 use Rattle.meaning.proofs.PathNext.{last-snoc}
+use Rattle.meaning.proofs.BookRow.{entry-key, entry-has}
 
 -- a walk that has come to its end builds no more of a path in more steps
 ends-path : (fuel more : ℕ) (ws : List ℕ) (k : ℕ) (path : List ℕ) (x d : ℕ) → ends fuel ws k x d ≡ true → fuel ≤ more → pathAlong more ws k path x d ≡ pathAlong fuel ws k path x d
@@ -265,7 +267,7 @@ module _ (s : State) (v : Sound s) (k : ℕ) (least : 1 ≤ k) (most : k ≤ s .
       let h = v .dimensions-least in
       let above = base-above s v in
       ap (λ p. pathAlong (D * b) (picture s) k p 0 0) (sym (path-head b D (s .row)))
-      ∙ rests-below (picture s) b D k (dimensions-read s) (base-read s) (base-positive s v) (omega arith) (omega arith) (s .row) (D * b) (headPlace (s .row))
+      ∙ rests-below (picture s) b D k (picture-dimensions s) (picture-base s) (base-positive s v) (omega arith) (omega arith) (s .row) (D * b) (headPlace (s .row))
       (head-read s v) (key-read s v .0) head-way others-stand (omega arith) (v .ascends) 0 (omega arith) (omega arith) 0 0 0
 
   -- for a standing key that is the cell with the key, ..
@@ -316,21 +318,13 @@ path-of-cell {s} v {x} {p} here other =
     path-of-standing s v key (omega arith) (omega arith)
     (λ e. placed-entry here (λ y. y .key ≡ key → ⊥) (λ z. omega arith) (entry-absent key (s .row) e) refl)
 
--- The same, of a standing key: what holds of all entries holds of the one with the key.
-entry-has : (P : Entry → Type 0) (key : ℕ) (x : Entry) (row : List Entry) → All P row → entryAt key row ≡ some x → (x .key ≡ key) × P x
-unfolding entryAt
-entry-has P key x [] a e = absurd (let z : _≡_ {A = ℕ} 0 1 = cc in omega arith)
-entry-has P key x (y ∷ row) a e = at (ℕ-discrete (y .key) key) e (entry-has P key x row (a .1))
-  where
-    at : Dec (y .key ≡ key) → cond (eqb (y .key) key) (some y) (entryAt key row) ≡ some x → (entryAt key row ≡ some x → (x .key ≡ key) × P x) → (x .key ≡ key) × P x
-    at (yes q) f more = let same : y ≡ x = cc (rw (eq-eqb (y .key) key q) at f) in subst (λ z. (z .key ≡ key) × P z) same (q, a .0)
-    at (no q) f more = more (rw (ne-eqb (y .key) key q) at f)
-
+-- The same, of a standing key.
 pub path-of-walk :
     (s : State) → Sound s → (k : ℕ) (x : Entry) → entryAt k (s .row) ≡ some x →
     pathAlong (s .settings .dimensions * s .settings .base) (picture s) k (replicate (s .settings .dimensions) 0) 0 0
     ≡ pathFor (s .settings .base) (s .settings .dimensions) (s .row) k
 path-of-walk s v k x stands =
-    let above = entry-has (λ y. 0 < y .key) k x (s .row) (asc-above 0 (s .row) (v .ascends)) stands in
-    let most = entry-has (λ y. y .key ≤ s .settings .largest) k x (s .row) (v .keys) stands in
+    let same = entry-key k x (s .row) stands in
+    let above = entry-has (λ y. 0 < y .key) k x (s .row) stands (asc-above 0 (s .row) (v .ascends)) in
+    let most = entry-has (λ y. y .key ≤ s .settings .largest) k x (s .row) stands (v .keys) in
     path-of-standing s v k (omega arith) (omega arith) (λ e. let z : _≡_ {A = ℕ} 0 1 = cc in omega arith)

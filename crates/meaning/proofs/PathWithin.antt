@@ -1,7 +1,7 @@
 -- Every cell number that the words of a picture hold is below C: a cell that is owed from, where a link leads as it stands, and as it is
 -- read. A standing cell's debt and links lead to entries of the row, and a free cell has neither.
 use mathlib.Core.Path.{_≡_, refl, ap, _∙_}
-use mathlib.Core.Bool.{Bool, true, false, cond, _&&_, not}
+use mathlib.Core.Bool.{Bool, cond, _&&_, not}
 use mathlib.Core.List.{List, [], _∷_}
 use mathlib.Core.Option.{Option, none, some}
 use Prim.Native.Nat.{ℕ, _+_, _<_}
@@ -14,38 +14,34 @@ use Rattle.meaning.specs.State.{State}
 use Rattle.meaning.specs.Picture.{picture}
 use Rattle.meaning.specs.Words.{wordAt, owedAt, lowAt, highAt, linkAt}
 use Rattle.meaning.specs.Walk.{linkRead}
-use Rattle.meaning.proofs.Order.{All, all-map}
+use Rattle.meaning.proofs.Order.{All, all-map, cond-has}
 use Rattle.meaning.proofs.State.{Sound}
-use Rattle.meaning.proofs.WalkRead.{dimensions-read}
+use Rattle.meaning.proofs.Picture.{picture-dimensions}
 use Rattle.meaning.proofs.SentencesCells.{placesIn, Placed, placed-below, placed-cell, place-owed, place-link, free-cell-rest}
 use Rattle.meaning.proofs.SentencesShape.{later-placed}
 
 -- Where a place leads
 
 module _ (P : ℕ → Type 0) where
-  either : (t : Bool) (m n : ℕ) → P m → P n → P (cond t m n)
-  either true m n p q = p
-  either false m n p q = q
-
   -- what holds of 0 and of the cell of each entry holds of where a link leads, ..
   pub sharing-among : (b D key d : ℕ) (later : List Entry) → P 0 → All (λ y. P (y .cell)) later → P (firstSharing b D key d later)
   unfolding firstSharing
   sharing-among b D key d [] nowhere all = nowhere
   sharing-among b D key d (y ∷ later) nowhere all =
-      either (eqb (shared b D key (y .key)) d) (y .cell) (firstSharing b D key d later) (all .0) (sharing-among b D key d later nowhere (all .1))
+      cond-has P (eqb (shared b D key (y .key)) d) (y .cell) (firstSharing b D key d later) (all .0) (sharing-among b D key d later nowhere (all .1))
 
   pub link-among : (b D : ℕ) (x : Place) (d : ℕ) → P 0 → P (x .entry .cell) → All (λ y. P (y .cell)) (x .later) → P (link b D x d)
   unfolding link
   link-among b D x d nowhere here all =
-      either (x .before .owes && between (x .beforeDimension) (x .dimension) d)
+      cond-has P (x .before .owes && between (x .beforeDimension) (x .dimension) d)
       (firstSharing b D (x .before .key) d (x .entry ∷ x .later)) (cond (x .entry .owes && between (low x) (high b D x) d) 0 (settledLink b D x d))
       (sharing-among b D (x .before .key) d (x .entry ∷ x .later) nowhere (here, all))
-      (either (x .entry .owes && between (low x) (high b D x) d) 0 (settledLink b D x d) nowhere
-      (either (leb (x .dimension) d) (firstSharing b D (x .entry .key) d (x .later)) 0 (sharing-among b D (x .entry .key) d (x .later) nowhere all) nowhere))
+      (cond-has P (x .entry .owes && between (low x) (high b D x) d) 0 (settledLink b D x d) nowhere
+      (cond-has P (leb (x .dimension) d) (firstSharing b D (x .entry .key) d (x .later)) 0 (sharing-among b D (x .entry .key) d (x .later) nowhere all) nowhere))
 
   -- .. and of a cell that is owed from
   pub owed-among : (x : Place) → P 0 → All (λ y. P (y .cell)) (x .later) → P (owed x)
-  owed-among x nowhere all = either (x .entry .owes) (firstOf (x .later) .cell) 0 (first (x .later) all) nowhere
+  owed-among x nowhere all = cond-has P (x .entry .owes) (firstOf (x .later) .cell) 0 (first (x .later) all) nowhere
     where
       first : (later : List Entry) → All (λ y. P (y .cell)) later → P (firstOf later .cell)
       first [] a = nowhere
@@ -74,7 +70,7 @@ module _ (s : State) (v : Sound s) where
     where
       at : (o : Option Place) → placeOf x (placesIn s) ≡ o → linkAt (picture s) x d < s .settings .cells
       at none e =
-          let word = ap (λ n. wordAt (picture s) x (fieldsBeforeCoordinates + n + d)) (dimensions-read s) in
+          let word = ap (λ n. wordAt (picture s) x (fieldsBeforeCoordinates + n + d)) (picture-dimensions s) in
           rw (word ∙ free-cell-rest s x h e (fieldsBeforeCoordinates + s .settings .dimensions + d) (omega arith) (omega arith)) cell-none
       at (some p) e =
           let here : Placed s x p = record { found = e } in
@@ -84,7 +80,7 @@ module _ (s : State) (v : Sound s) where
   pub linkRead-within : (x d : ℕ) → x < s .settings .cells → d < s .settings .dimensions → linkRead (picture s) x d < s .settings .cells
   unfolding linkRead
   linkRead-within x d h l =
-      link-within (cond through (owedAt (picture s) x) x) d (either (λ c. c < s .settings .cells) through (owedAt (picture s) x) x (owed-within x h) h) l
+      link-within (cond through (owedAt (picture s) x) x) d (cond-has (λ c. c < s .settings .cells) through (owedAt (picture s) x) x (owed-within x h) h) l
     where
       through : Bool
       through = not (eqb (owedAt (picture s) x) 0) && between (lowAt (picture s) x) (highAt (picture s) x) d

@@ -3,12 +3,12 @@ use mathlib.Core.Path.{_≡_, refl, sym, ap, _∙_, subst}
 use mathlib.Core.Bool.{cond}
 use mathlib.Core.List.{List, [], _∷_, map}
 use mathlib.Core.Option.{Option, none, some}
-use Prim.Native.Nat.{ℕ, suc, _+_, _*_, _<_}
+use Prim.Native.Nat.{ℕ, zero, suc, _+_, _*_, _<_}
 use native.Mathlib.Nat.{zero-add}
 use native.Mathlib.Decide.{ℕ-discrete}
 use native.Mathlib.Omega.{arith}
 use lib.Dec.{eqb}
-use lib.ListN.{length, getD, length-append, length-replicate, List·getD-append}
+use lib.ListN.{length, getD, length-append, length-replicate, List·getD-append, getD-replicate}
 use lib.Seq.{getD-append-add}
 use borrow.Author.Tests.{eq-eqb, ne-eqb}
 use Rattle.settings.specs.Numbers.{headerWords, cellWords, lengthOf}
@@ -75,16 +75,18 @@ pub picture-free : (s : State) → getD (picture s) 4 0 ≡ firstNumber (s .free
 unfolding picture
 picture-free s = refl
 
+pub path-word : (s : State) (d : ℕ) → d < s .settings .dimensions → getD (path s) d 0 ≡ pathWord s d
+unfolding path
+path-word s d h = made-at (pathWord s) 0 (s .settings .dimensions) d 0 h ∙ ap (pathWord s) (zero-add d)
+
 pub picture-path : (s : State) (d : ℕ) → d < s .settings .dimensions → getD (picture s) (headerWords + d) 0 ≡ pathWord s d
-unfolding path picture
+unfolding picture
 picture-path s d h =
-    let D = s .settings .dimensions in
     let there : headerWords + d ≡ suc (suc (suc (suc (suc d)))) = omega arith in
     let inside : d < length (path s) = omega (arith, path-length s) in
     ap (λ n. getD (picture s) n 0) there
     ∙ List·getD-append (path s) (cells s) 0 d inside
-    ∙ made-at (pathWord s) 0 D d 0 h
-    ∙ ap (pathWord s) (zero-add d)
+    ∙ path-word s d h
 
 -- word j of cell c of a picture
 pub picture-word : (s : State) (c j : ℕ) → c < s .settings .cells → j < cellWords (s .settings .dimensions) → wordAt (picture s) c j ≡ getD (wordsOf (s .settings .base) (s .settings .dimensions) (s .free) c (placeOf c (places (s .settings .base) (s .settings .dimensions) (s .row)))) j 0
@@ -99,6 +101,12 @@ picture-word s c j hc hj =
     ∙ getD-append-add (path s) (cells s) (c * w + j) 0
     ∙ block-word (shownWords s) w (shown-length s) numbers c j 0 inside hj
     ∙ ap (λ n. getD (shownWords s n) j 0) (numbers-at 0 (s .settings .cells) c 0 hc ∙ zero-add c)
+
+-- "A free cell's first word holds the next free cell, its other words are 0."
+pub freeWords-rest : (D next j : ℕ) → 0 < j → j < cellWords D → getD (freeWords D next) j 0 ≡ 0
+unfolding freeWords
+freeWords-rest D next zero h l = absurd (omega arith)
+freeWords-rest D next (suc j) h l = getD-replicate {A = ℕ} (5 + 2 * D) j 0 0 (omega arith)
 
 -- Which cells stand
 
@@ -153,10 +161,14 @@ pub first-has : (P : Entry → Type 0) (row : List Entry) → All P row → 0 < 
 first-has P [] a h = absurd (omega arith)
 first-has P (x ∷ row) a h = a .0
 
-pub later-has : (P : Entry → Type 0) (b D : ℕ) (a : Entry) (e : ℕ) (row : List Entry) → All P row → All (λ p. All P (p .later)) (placesAfter b D a e row)
+later-after : (P : Entry → Type 0) (b D : ℕ) (a : Entry) (e : ℕ) (row : List Entry) → All P row → All (λ p. All P (p .later)) (placesAfter b D a e row)
 unfolding placesAfter
-later-has P b D a e [] h = tt
-later-has P b D a e (x ∷ row) h = (h .1, later-has P b D x (shared b D (a .key) (x .key)) row (h .1))
+later-after P b D a e [] h = tt
+later-after P b D a e (x ∷ row) h = (h .1, later-after P b D x (shared b D (a .key) (x .key)) row (h .1))
+
+pub places-later : (P : Entry → Type 0) (b D : ℕ) (row : List Entry) → All P row → All (λ p. All P (p .later)) (places b D row)
+unfolding places
+places-later P b D row h = (h, later-after P b D headEntry 0 row h)
 
 -- each standing cell is found at its place, and a free cell is no standing one
 pub place-found : (s : State) → Sound s → All (λ p. placeOf (p .entry .cell) (places (s .settings .base) (s .settings .dimensions) (s .row)) ≡ some p) (places (s .settings .base) (s .settings .dimensions) (s .row))

@@ -13,7 +13,7 @@ use borrow.Author.Tests.{eq-eqb, ne-eqb, eqb-true, eqb-false}
 use Rattle.meaning.specs.Keys.{shared}
 use Rattle.meaning.specs.Row.{Entry, headEntry, firstOf, Place, headPlace, placesAfter, places}
 use Rattle.meaning.specs.State.{keyOf, occurrences}
-use Rattle.meaning.proofs.Order.{All, Asc, all-right, asc-weaken, asc-above}
+use Rattle.meaning.proofs.Order.{All, Asc, all-right, asc-weaken, asc-above, all-map}
 use Rattle.meaning.proofs.Cells.{occurrences-here, occurrences-past, occurrences-none}
 
 -- Members
@@ -67,6 +67,11 @@ occurrences-more c x xs = at-test (eqb x c)
     at-test true = omega arith
     at-test false = omega arith
 
+-- each member occurs
+pub all-occur : (xs : List ℕ) → All (λ x. 0 < occurrences x xs) xs
+all-occur [] = tt
+all-occur (x ∷ xs) = (omega (arith, occurrences-here x x xs refl), all-map (λ y h. omega (arith, occurrences-more y x xs)) xs (all-occur xs))
+
 -- a number that no member is does not occur
 pub none-occurs : (c : ℕ) (xs : List ℕ) → All (λ x. c ≡ x → ⊥) xs → occurrences c xs ≡ 0
 unfolding occurrences
@@ -110,6 +115,22 @@ keyOf-first c (y ∷ front) x later e p =
     let n = occurrences-none c (map (λ z. z .cell) (y ∷ front)) e in
     keyOf-other c y (front ++ (x ∷ later)) (λ q. n .0 (sym q)) ∙ keyOf-first c front x later (none-occurs c (map (λ z. z .cell) front) (n .1)) p
 
+-- what holds of the keys of the entries with a cell holds of the key of a cell that occurs
+pub keyOf-has : (P : ℕ → Type 0) (c : ℕ) (row : List Entry) → 0 < occurrences c (map (λ x. x .cell) row) → All (λ x. x .cell ≡ c → P (x .key)) row → P (keyOf c row)
+unfolding occurrences
+keyOf-has P c [] h a = absurd (omega arith)
+keyOf-has P c (x ∷ row) h a = at-test (ℕ-discrete (x .cell) c) (λ more. keyOf-has P c row more (a .1))
+  where
+    at-test : Dec (x .cell ≡ c) → (0 < occurrences c (map (λ y. y .cell) row) → P (keyOf c row)) → P (keyOf c (x ∷ row))
+    at-test (yes e) ih = rw (keyOf-same c x row e) (a .0 e)
+    at-test (no ne) ih = rw (keyOf-other c x row ne) (ih (rw (occurrences-past c (x .cell) (map (λ y. y .cell) row) ne) at h))
+
+-- an entry of another cell does not matter
+pub keyOf-put : (c : ℕ) (x : Entry) (front later : List Entry) → (x .cell ≡ c → ⊥) → keyOf c (front ++ x ∷ later) ≡ keyOf c (front ++ later)
+unfolding keyOf
+keyOf-put c x [] later ne = keyOf-other c x later ne
+keyOf-put c x (y ∷ front) later ne = ap (cond (eqb (y .cell) c) (y .key)) (keyOf-put c x front later ne)
+
 -- Ascending keys
 
 pub asc-right : (key : ℕ) (front later : List Entry) → Asc key (front ++ later) → Asc key later
@@ -135,6 +156,12 @@ pub places-entries : (P : Entry → Type 0) (b D : ℕ) (a : Entry) (e : ℕ) (r
 unfolding placesAfter
 places-entries P b D a e [] h = tt
 places-entries P b D a e (x ∷ row) h = (h .0, places-entries P b D x (shared b D (a .key) (x .key)) row (h .1))
+
+-- and what holds of the entries of the places holds of those of the row
+pub row-of-places : (P : Entry → Type 0) (b D : ℕ) (a : Entry) (e : ℕ) (row : List Entry) → All (λ n. P (n .entry)) (placesAfter b D a e row) → All P row
+unfolding placesAfter
+row-of-places P b D a e [] h = tt
+row-of-places P b D a e (x ∷ row) h = (h .0, row-of-places P b D x (shared b D (a .key) (x .key)) row (h .1))
 
 -- the last entry of a row that follows an entry, and its dimension
 unfoldable pub lastFrom : Entry → List Entry → Entry

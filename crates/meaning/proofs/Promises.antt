@@ -1,15 +1,12 @@
 -- The promises of specs/Promises.antt, each proved: the laws of states, carried to lists.
 use mathlib.Core.Path.{_≡_, refl, _∙_, sym, ap, ap₂, subst}
-use mathlib.Core.Bool.{Bool, true, false, true≢false}
-use mathlib.Core.Logic.{_⊎_, inl, inr}
-use mathlib.Core.Option.{Option, none, some}
+use mathlib.Core.Bool.{true, false, true≢false}
 use mathlib.Core.List.{List, map}
-use Prim.Native.Nat.{ℕ, zero, suc, _*_, _-_, _^_, _≤_, _<_}
+use Prim.Native.Nat.{ℕ, _*_, _-_, _^_, _≤_, _<_}
 use native.Mathlib.Omega.{arith}
 use lib.ListN.{length}
 use Rattle.settings.specs.Numbers.{baseOf}
 use Rattle.meaning.specs.State.{State}
-use Rattle.meaning.specs.Row.{Entry, entryAt}
 use Rattle.meaning.specs.Picture.{picture}
 use Rattle.meaning.specs.Reading.{read, isList}
 use Rattle.meaning.specs.Refusals.{Outcome, badKey, refused}
@@ -25,7 +22,7 @@ use Rattle.meaning.proofs.Keys.{shared-agreed, lexicographic, coordinat
 use Rattle.meaning.proofs.Ascending.{asc-rising, rising-equal}
 use Rattle.meaning.proofs.State.{Sound, base-positive, base-above}
 use Rattle.meaning.proofs.Reading.{list-sound, picture-is-list, read-of-picture}
-use Rattle.meaning.proofs.Outcomes.{on-lists, in-range-or-not, refused-alters-nothing, insert-outcome-bad-key, insert-outcome-live, insert-outcome-dead, insert-outcome-full, insert-outcome-new, find-outcome-bad-key, find-outcome-absent, find-outcome-dead, find-outcome-live}
+use Rattle.meaning.proofs.Outcomes.{on-lists, refused-alters-nothing, insert-outcome-bad-key, insert-outcome-live, insert-outcome-dead, insert-outcome-full, insert-outcome-new, find-outcome-bad-key, find-outcome-absent, find-outcome-dead, find-outcome-live, key-cases, live-cases, free-cases}
 use Rattle.meaning.proofs.Book.{calls-keep-lists, lists-stay-lists, calls-are-booked, takes-in-turn, takes-end}
 use Rattle.meaning.proofs.Leaves.{find-writes, take-writes, revive-writes, insert-writes, finish-writes, sweep-writes}
 use Rattle.meaning.proofs.Serves.{each-cell-once, swept-cells-first, insert-uses-first}
@@ -107,38 +104,24 @@ not-looked : (s : State) (key : ℕ) (o : Outcome) → o ≡ refused badKey (pic
 not-looked s key o e l = absurd (let z : true ≡ false = sym l ∙ ap (λ (t : Outcome). answersLooked (t .answered .refusal)) e in true≢false z)
 
 insert-counts : (s : State) → Sound s → (key value : ℕ) → answersLooked (insertOut (picture s) key value .answered .refusal) ≡ true → Counts s key (insertOut (picture s) key value)
-insert-counts s v key value e = go (in-range-or-not key (s .settings .largest))
-  where
-    new : 1 ≤ key → key ≤ s .settings .largest → entryAt key (s .row) ≡ none → (n : ℕ) → length (s .free) ≡ n → Counts s key (insertOut (picture s) key value)
-    new h l a zero f = counted-by s key (insertOut (picture s) key value) _ h l (insert-outcome-full s v key value h l a f) refl
-    new h l a (suc n) f = counted-by s key (insertOut (picture s) key value) _ h l (insert-outcome-new s v key value h l a (omega (arith, f))) refl
-
-    old : 1 ≤ key → key ≤ s .settings .largest → (x : Entry) → entryAt key (s .row) ≡ some x → (t : Bool) → x .live ≡ t → Counts s key (insertOut (picture s) key value)
-    old h l x a true q = counted-by s key (insertOut (picture s) key value) _ h l (insert-outcome-live s v key value h l x a q) refl
-    old h l x a false q = counted-by s key (insertOut (picture s) key value) _ h l (insert-outcome-dead s v key value h l x a q) refl
-
-    found : 1 ≤ key → key ≤ s .settings .largest → (o : Option Entry) → entryAt key (s .row) ≡ o → Counts s key (insertOut (picture s) key value)
-    found h l none a = new h l a (length (s .free)) refl
-    found h l (some x) a = old h l x a (x .live) refl
-
-    go : ((1 ≤ key) × (key ≤ s .settings .largest)) ⊎ (1 ≤ key → s .settings .largest < key) → Counts s key (insertOut (picture s) key value)
-    go (inl k) = found (k .0) (k .1) (entryAt key (s .row)) refl
-    go (inr n) = not-looked s key (insertOut (picture s) key value) (insert-outcome-bad-key s v key value n) e
+insert-counts s v key value e =
+    key-cases s key
+    (λ n. not-looked s key (insertOut (picture s) key value) (insert-outcome-bad-key s v key value n) e)
+    (λ h l a. free-cases s
+    (λ f. counted-by s key (insertOut (picture s) key value) _ h l (insert-outcome-full s v key value h l a f) refl)
+    (λ f. counted-by s key (insertOut (picture s) key value) _ h l (insert-outcome-new s v key value h l a f) refl))
+    (λ h l x a. live-cases x
+    (λ q. counted-by s key (insertOut (picture s) key value) _ h l (insert-outcome-live s v key value h l x a q) refl)
+    (λ q. counted-by s key (insertOut (picture s) key value) _ h l (insert-outcome-dead s v key value h l x a q) refl))
 
 find-counts : (s : State) → Sound s → (key : ℕ) → answersLooked (findOut (picture s) key .answered .refusal) ≡ true → Counts s key (findOut (picture s) key)
-find-counts s v key e = go (in-range-or-not key (s .settings .largest))
-  where
-    old : 1 ≤ key → key ≤ s .settings .largest → (x : Entry) → entryAt key (s .row) ≡ some x → (t : Bool) → x .live ≡ t → Counts s key (findOut (picture s) key)
-    old h l x a true q = counted-by s key (findOut (picture s) key) _ h l (find-outcome-live s v key h l x a q) refl
-    old h l x a false q = counted-by s key (findOut (picture s) key) _ h l (find-outcome-dead s v key h l x a q) refl
-
-    found : 1 ≤ key → key ≤ s .settings .largest → (o : Option Entry) → entryAt key (s .row) ≡ o → Counts s key (findOut (picture s) key)
-    found h l none a = counted-by s key (findOut (picture s) key) _ h l (find-outcome-absent s v key h l a) refl
-    found h l (some x) a = old h l x a (x .live) refl
-
-    go : ((1 ≤ key) × (key ≤ s .settings .largest)) ⊎ (1 ≤ key → s .settings .largest < key) → Counts s key (findOut (picture s) key)
-    go (inl k) = found (k .0) (k .1) (entryAt key (s .row)) refl
-    go (inr n) = not-looked s key (findOut (picture s) key) (find-outcome-bad-key s v key n) e
+find-counts s v key e =
+    key-cases s key
+    (λ n. not-looked s key (findOut (picture s) key) (find-outcome-bad-key s v key n) e)
+    (λ h l a. counted-by s key (findOut (picture s) key) _ h l (find-outcome-absent s v key h l a) refl)
+    (λ h l x a. live-cases x
+    (λ q. counted-by s key (findOut (picture s) key) _ h l (find-outcome-live s v key h l x a q) refl)
+    (λ q. counted-by s key (findOut (picture s) key) _ h l (find-outcome-dead s v key h l x a q) refl))
 
 -- .. which is the walk's number of cells, and the rule's
 looks : (s : State) (v : Sound s) (key : ℕ) (o : Outcome) → Counts s key o → Looks (picture s) key (o .answered .count)

@@ -6,12 +6,12 @@ use mathlib.Core.Path.{_≡_, refl, sym, ap, _∙_, subst}
 use mathlib.Core.Bool.{Bool, true, false, cond, _&&_, not, false≢true}
 use mathlib.Core.List.{List, [], _∷_, map}
 use mathlib.Core.Option.{Option, none, some}
-use Prim.Native.Nat.{ℕ, zero, suc, _+_, _*_, _-_, _≤_, _<_}
+use Prim.Native.Nat.{ℕ, zero, suc, _+_, _-_, _≤_, _<_}
 use native.Mathlib.Nat.{zero-add}
 use native.Mathlib.Decide.{ℕ-discrete, decLe}
 use native.Mathlib.Omega.{arith}
 use lib.Dec.{eqb, leb}
-use lib.ListN.{length, getD, drop, getD-replicate}
+use lib.ListN.{length, getD, drop}
 use lib.Seq.{drop-at}
 use borrow.Author.Tests.{eq-eqb, ne-eqb, eqb-true, le-leb, lt-leb, le-ltb, lt-ltb}
 use Rattle.settings.specs.Numbers.{inRange, headerWords, cellWords, lengthOf}
@@ -27,7 +27,8 @@ use Rattle.meaning.proofs.State.{Sound, sound-ranges, valid-sound, soun
 use Rattle.meaning.proofs.Blocks.{numbers-length, made-at, made-rest, blocks-cut}
 use Rattle.meaning.proofs.Cells.{Distinct, all-zip, all-of-map, row-distinct, free-distinct, row-range, free-range, free-length}
 use Rattle.meaning.proofs.Put.{those-all, those-none, those-same, those-keep, put-front, put-past}
-use Rattle.meaning.proofs.Picture.{shownWords, shown-length, path-length, picture-length, picture-path, place-past, Told, told, first-has, later-has, free-found}
+use Rattle.meaning.proofs.Picture.{shownWords, shown-length, path-length, picture-length, picture-path, place-past, Told, told, first-has, free-found, freeWords-rest, places-later}
+use Rattle.meaning.proofs.Places.{keyOf-has}
 
 -- The blocks
 
@@ -120,22 +121,19 @@ cut b D a e i (x ∷ row) asc d = at (ℕ-discrete (x .cell) i) (cut b D x (shar
 
 -- the owed words of the places tell who owes, since no standing cell but the head has number 0
 pub owes-shown : (s : State) → Sound s → All (λ p. not (eqb (owed p) 0) ≡ p .entry .owes) (places (s .settings .base) (s .settings .dimensions) (s .row))
-unfolding places
 owes-shown s v =
     let b = s .settings .base in
     let D = s .settings .dimensions in
     let above : All (λ x. 0 < x .cell) (s .row) = all-map (λ x h. h .0) (s .row) (row-range s v) in
     all-zip (λ p debt later.
     owes-told (p .entry .owes) (firstOf (p .later) .cell) (λ o. first-has (λ x. 0 < x .cell) (p .later) later (debt o .later)))
-    (places b D (s .row)) (v .debts) (above, later-has (λ x. 0 < x .cell) b D headEntry 0 (s .row) above)
+    (places b D (s .row)) (v .debts) (places-later (λ x. 0 < x .cell) b D (s .row) above)
 
 standing-read : (b D : ℕ) (free : List ℕ) (i : ℕ) (row : List Entry) (cells : List (List ℕ)) (o : Option Place) →
     Told (λ p. not (eqb (owed p) 0) ≡ p .entry .owes) i o → Cut 0 i row o → standing (suc i) cells ≡ those (from (suc i)) row →
     standing i (wordsOf b D free i o ∷ cells) ≡ those (from i) row
-unfolding standing wordsOf freeWords standingWords
-standing-read b D free i row cells none t c more =
-    let enough : 1 < 5 + 2 * D = omega arith in
-    rw (getD-replicate {A = ℕ} (5 + 2 * D) 1 0 0 enough) (more ∙ sym c)
+unfolding standing wordsOf standingWords
+standing-read b D free i row cells none t c more = rw (freeWords-rest D (nextFree i free) 2 (omega arith) (omega arith)) (more ∙ sym c)
 standing-read b D free i row cells (some p) t c more =
     rw (mark-stands (p .entry .live))
     (ap (λ x. put x (standing (suc i) cells)) (entry-read b D i p (t .0) (t .1))
@@ -222,15 +220,6 @@ free-read s v =
 
 -- The position
 
-pub key-above : (low c : ℕ) (row : List Entry) → All (λ x. low < x .key) row → 0 < occurrences c (map (λ x. x .cell) row) → low < keyOf c row
-unfolding keyOf occurrences
-key-above low c [] a o = absurd (omega arith)
-key-above low c (x ∷ row) a o = at (ℕ-discrete (x .cell) c) (key-above low c row (a .1))
-  where
-    at : Dec (x .cell ≡ c) → (0 < occurrences c (map (λ y. y .cell) row) → low < keyOf c row) → low < cond (eqb (x .cell) c) (x .key) (keyOf c row)
-    at (yes e) more = rw (eq-eqb (x .cell) c e) (a .0)
-    at (no ne) more = rw (ne-eqb (x .cell) c ne) (more (rw (ne-eqb (x .cell) c ne) at o))
-
 -- one standing cell: it is c, or c is one of the later ones
 first-is : (b D c : ℕ) (x : Entry) (row : List Entry) → 0 < D → Asc (x .key) row → 0 < occurrences c (map (λ y. y .cell) (x ∷ row)) →
     (0 < occurrences c (map (λ y. y .cell) row) → firstWith b D (keyOf c row) D row ≡ c) →
@@ -242,7 +231,7 @@ first-is b D c x row pos asc o more = at (ℕ-discrete (x .cell) c)
     at (yes e) = rw (eq-eqb (x .cell) c e, le-ltb (shared b D (x .key) (x .key)) D (omega (arith, shared-same b D (x .key)))) e
     at (no ne) =
         let o′ : 0 < occurrences c (map (λ y. y .cell) row) = rw (ne-eqb (x .cell) c ne) at o in
-        let above = key-above (x .key) c row (asc-above (x .key) row asc) o′ in
+        let above = keyOf-has (λ key. x .key < key) c row o′ (all-map (λ y h e. h) row (asc-above (x .key) row asc)) in
         let less = shared-less b D (x .key) (keyOf c row) pos (λ e. omega arith) in
         rw (ne-eqb (x .cell) c ne, lt-ltb (shared b D (x .key) (keyOf c row)) D less) (more o′)
 

@@ -19,6 +19,7 @@ use Rattle.meaning.proofs.Keys.{shared-same, shared-less, ultra, coordi
 use Rattle.meaning.proofs.Cells.{Distinct, all-of-map}
 use Rattle.meaning.proofs.Places.{all-mapped}
 use Rattle.meaning.proofs.Rule.{keys, met, none-met, rule-is-met}
+use Rattle.meaning.proofs.Parent.{sharing-behind}
 
 all-cond : (P : Entry → Type 0) (t : Bool) (xs ys : List Entry) → All P xs → All P ys → All P (cond t xs ys)
 all-cond P true xs ys a c = a
@@ -90,14 +91,6 @@ module _ (b D k : ℕ) (pos : 0 < b) (some : 0 < D) where
       let u = ultra b D x y (z .key) pos h (omega arith) in
       rw (ne-eqb (shared b D x (z .key)) (shared b D x k) (λ e. omega arith)) (row-walk-none x (z .key) row (omega arith) (omega arith) (asc .1))
 
-  first-none : (x y : ℕ) (row : List Entry) → x ≤ y → shared b D x y < shared b D x k → Asc y row → firstSharing b D x (shared b D x k) row ≡ 0
-  unfolding firstSharing
-  first-none x y [] h l asc = refl
-  first-none x y (z ∷ row) h l asc =
-      let m = asc .0 in
-      let u = ultra b D x y (z .key) pos h (omega arith) in
-      rw (ne-eqb (shared b D x (z .key)) (shared b D x k) (λ e. omega arith)) (first-none x (z .key) row (omega arith) (omega arith) (asc .1))
-
   -- an entry passed over: it shares more with x than k does
   next-past : (R : Place → Type 0) (y : Entry) (later : List Entry) (x : ℕ) → shared b D x k < shared b D x (y .key) →
       Stop b D k x later ⊎ Next b D k x later R → Stop b D k x (y ∷ later) ⊎ Next b D k x (y ∷ later) R
@@ -127,7 +120,7 @@ module _ (b D k : ℕ) (pos : 0 < b) (some : 0 < D) where
   next-none y later x h less asc =
       let test = ne-eqb (shared b D x (y .key)) (shared b D x k) (λ e. omega arith) in
       record {
-        leads = rw test (first-none x (y .key) later h less asc);
+        leads = rw test (sharing-behind b D pos x (shared b D x k) (y .key) later h less asc);
         gone = rw test (row-walk-none x (y .key) later h less asc);
         passed = (beyond, all-map (λ z l m. beyond (omega arith)) later (asc-above (y .key) later asc));
       }

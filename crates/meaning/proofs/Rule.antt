@@ -1,7 +1,7 @@
 -- The rule for looked, put by the key before: a key is met just if the one before it is below k and shares as many coordinates with k as
 -- with it. Up to k the rule counts just the keys met; above k at most the least key is counted, by either half of the rule, just if met.
-use mathlib.Core.Path.{_≡_, refl, _∙_, sym, ap}
-use mathlib.Core.Bool.{Bool, true, false, cond, _&&_, not}
+use mathlib.Core.Path.{_≡_, refl, _∙_, ap}
+use mathlib.Core.Bool.{Bool, true, false, cond, _&&_, not, and-true}
 use mathlib.Core.List.{List, [], _∷_, _++_, map}
 use Prim.Native.Nat.{ℕ, _^_, _≤_, _<_, min}
 use native.Mathlib.Decide.{decLe, ℕ-discrete}
@@ -11,7 +11,7 @@ use borrow.Author.Tests.{ltb-true, leb-true, eqb-true, lt-ltb, le-ltb, le-leb, l
 use Rattle.meaning.specs.Keys.{coordinate, shared}
 use Rattle.meaning.specs.Row.{Entry, every}
 use Rattle.meaning.specs.Rule.{counted, leastAbove, plusOne, rule}
-use Rattle.meaning.proofs.Order.{All, Asc, asc-above, both, and-both, all-every}
+use Rattle.meaning.proofs.Order.{All, Asc, asc-above, both, and-both, all-every, tests-same}
 use Rattle.meaning.proofs.Keys.{shared-same, shared-sym, shared-less, ultra, triangle, coordinate-same, coordinate-less}
 
 -- the keys of a row
@@ -31,12 +31,6 @@ meets b D k before x = ltb before k && eqb (shared b D before k) (shared b D bef
 unfoldable pub met : ℕ → ℕ → ℕ → ℕ → List Entry → List Entry
 met b D k before [] = []
 met b D k before (x ∷ row) = cond (meets b D k before (x .key)) (x ∷ met b D k (x .key) row) (met b D k (x .key) row)
-
--- tests that hold together are equal
-tests-same : (s t : Bool) → (s ≡ true → t ≡ true) → (t ≡ true → s ≡ true) → s ≡ t
-tests-same true t f g = sym (f refl)
-tests-same false true f g = g refl
-tests-same false false f g = refl
 
 -- from k on no key is met
 pub none-met : (b D k a : ℕ) (row : List Entry) → k ≤ a → Asc a row → met b D k a row ≡ []
@@ -60,10 +54,6 @@ absorbed : (s t u : Bool) → (t ≡ true → s ≡ true) → (s && (t && u)) �
 absorbed true t u f = refl
 absorbed false true u f = absurd (let e = f refl in let z : _≡_ {A = ℕ} 0 1 = cc in omega arith)
 absorbed false false u f = refl
-
-and-true : (t : Bool) → (t && true) ≡ t
-and-true true = refl
-and-true false = refl
 
 -- one key counted by the first half of the rule or else by the second
 halves : (c m : Bool) (x : Entry) → (c ≡ true → m ≡ true) →

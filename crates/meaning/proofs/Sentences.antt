@@ -1,17 +1,15 @@
 -- Every sentence of document 01 holds of a list. A list is the picture of a state in order; its standing cells have their places, its other
 -- cells are free, and what a sentence says of cells by their words is so of the places by the order of the row.
-use mathlib.Core.Path.{_≡_, refl, sym, ap, ap₂, _∙_, subst, subst₂}
-use mathlib.Core.Bool.{Bool, true, false, cond, _&&_, not, false≢true}
+use mathlib.Core.Path.{_≡_, refl, sym, ap, _∙_, subst, subst₂}
+use mathlib.Core.Bool.{Bool, true, false, cond, false≢true}
 use mathlib.Core.List.{List, [], _∷_, List·Memᴰ}
 use mathlib.Core.Logic.{inr}
 use mathlib.Core.Option.{Option, none, some}
 use Prim.Native.Nat.{ℕ, suc, _≤_, _<_}
 use native.Mathlib.Omega.{arith}
-use lib.Dec.{leb, ltb, eqb}
-use borrow.Author.Tests.{leb-true, ltb-true, ne-eqb}
 use Rattle.settings.proofs.Laws.{base-is}
 use Rattle.meaning.specs.Keys.{shared}
-use Rattle.meaning.specs.Row.{headEntry, firstOf, firstSharing, Place, headPlace, places, settledLink, owed, low, high, between, link, placeOf}
+use Rattle.meaning.specs.Row.{headEntry, firstOf, Place, headPlace, settledLink, low, high, between, placeOf}
 use Rattle.meaning.specs.State.{State, positionKey}
 use Rattle.meaning.specs.Picture.{firstNumber, mark, pathWord, picture}
 use Rattle.meaning.specs.Reading.{read, isList}
@@ -19,64 +17,20 @@ use Rattle.meaning.specs.Words.{keyAt, valueAt, markAt, owedAt, lowAt, h
 use Rattle.meaning.specs.Walk.{linkRead}
 use Rattle.meaning.specs.Sentences.{Standing, sharedAt, positionAt, NextLarger, Dimension, Settled, Chained, FreeChain, Owing, MayOwe, Sharing, OnPath, AList}
 use Rattle.meaning.specs.Sentences.Chained.{ended, onward}
-use Rattle.meaning.proofs.Order.{All, both, and-both, all-map}
+use Rattle.meaning.proofs.Order.{All, both, and-both}
 use Rattle.meaning.proofs.Keys.{shared-same, shared-le, shared-sym}
 use Rattle.meaning.proofs.State.{Sound, Debt}
-use Rattle.meaning.proofs.Cells.{row-range, free-range, free-distinct}
-use Rattle.meaning.proofs.Picture.{picture-length, picture-path, later-has, free-found}
+use Rattle.meaning.proofs.Cells.{free-range, free-distinct}
+use Rattle.meaning.proofs.Picture.{picture-length, picture-path, free-found, places-later}
 use Rattle.meaning.proofs.Reading.{Follow, distinct-follow, position-read, list-is-picture, list-sound}
-use Rattle.meaning.proofs.WalkRead.{between-is, between-not, link-read}
+use Rattle.meaning.proofs.WalkRead.{between-is, link-read, between-facts, linkDue, linkOwing, link-tested, undue-above, read-through}
+use Rattle.meaning.proofs.Keeps.{cells-positive}
 use Rattle.meaning.proofs.SentencesRow.{all-in, members, Compared, Least, SharesAtLeast, first-with}
 use Rattle.meaning.proofs.SentencesRow.Led.{head, led}
 use Rattle.meaning.proofs.SentencesRow.Compared.{same, later, earlier}
 use Rattle.meaning.proofs.SentencesRow.Least.{least, nowhere}
-use Rattle.meaning.proofs.SentencesCells.{placesIn, Placed, placed-has, placed-entry, placed-cell, placed-keyOf, head-placed, place-key, place-value, place-mark, place-owed, place-low, place-high, place-coordinate, place-link, place-standing, free-cell-first, free-cell-rest, free-cell-free, cell-standing, cell-unfound, cell-free, free-cell, position-placed}
+use Rattle.meaning.proofs.SentencesCells.{placesIn, Placed, placed-has, placed-entry, placed-cell, placed-keyOf, head-placed, place-key, place-value, place-mark, place-owed, place-low, place-high, place-coordinate, place-link, place-standing, free-cell-first, free-cell-rest, free-cell-free, cell-standing, cell-unfound, cell-free, free-cell, position-placed, place-unowing}
 use Rattle.meaning.proofs.SentencesShape.{NextIn, LedIn, HasPlace, placed-shared, placed-digit, placed-led, placed-compared, next-larger, place-after, place-next-smaller, place-dimension, row-placed, place-settled}
-
--- Links of a place
-
-and-false : (t u : Bool) → u ≡ false → (t && u) ≡ false
-and-false true u e = e
-and-false false u e = refl
-
-between-facts : (from above d : ℕ) → between from above d ≡ true → (from ≤ d) × (d < above)
-between-facts from above d e = let (h, k) = both (leb from d) (ltb d above) e in (leb-true from d h, ltb-true d above k)
-
-module _ (b D : ℕ) (p : Place) (d : ℕ) where
-  -- link d is one that the cell before is due
-  abbrev due : Bool
-  due = p .before .owes && between (p .beforeDimension) (p .dimension) d
-
-  -- link d is one that the cell itself owes
-  abbrev owing : Bool
-  owing = p .entry .owes && between (low p) (high b D p) d
-
-  -- the link, where it is known whether it is one or the other
-  abbrev tested : Bool → Bool → ℕ
-  tested t u = cond t (firstSharing b D (p .before .key) d (p .entry ∷ p .later)) (cond u 0 (settledLink b D p d))
-
-  link-tested : (t u : Bool) → due ≡ t → owing ≡ u → link b D p d ≡ tested t u
-  unfolding link
-  link-tested t u e f = ap₂ tested e f
-
-  -- "Links low to high-1 of n are then 0"
-  link-owing : p .dimension ≤ d → owing ≡ true → link b D p d ≡ 0
-  link-owing h e =
-      let outside = between-not (p .beforeDimension) (p .dimension) d h in
-      link-tested false true (and-false (p .before .owes) (between (p .beforeDimension) (p .dimension) d) outside) e
-
-  -- "Every other link is settled."
-  link-other : due ≡ false → owing ≡ false → link b D p d ≡ settledLink b D p d
-  link-other e f = link-tested false false e f
-
--- a link in what a cell owes is read from the cell that it owes to
-read-through : (ws : List ℕ) (x d : ℕ) → 0 < owedAt ws x → lowAt ws x ≤ d → d < highAt ws x → linkRead ws x d ≡ linkAt ws (owedAt ws x) d
-unfolding linkRead
-read-through ws x d o h l =
-    ap (λ t. linkAt ws (cond t (owedAt ws x) x) d)
-    (and-both (not (eqb (owedAt ws x) 0)) (between (lowAt ws x) (highAt ws x) d)
-    (ap not (ne-eqb (owedAt ws x) 0 (λ e. omega arith)))
-    (between-is (lowAt ws x) (highAt ws x) d h l))
 
 -- What a cell owes
 
@@ -93,11 +47,9 @@ pub record Owes (s : State) (x : ℕ) (p q : Place) : Type 0 where
 
 module _ {s : State} (v : Sound s) where
   pub later-positive : {x : ℕ} {p : Place} → Placed s x p → All (λ y. 0 < y .cell) (p .later)
-  unfolding places
   later-positive here =
-      let row = all-map (λ y r. r .0) (s .row) (row-range s v) in
       placed-has here (λ p. All (λ y. 0 < y .cell) (p .later))
-      (row, later-has (λ y. 0 < y .cell) (s .settings .base) (s .settings .dimensions) headEntry 0 (s .row) row)
+      (places-later (λ y. 0 < y .cell) (s .settings .base) (s .settings .dimensions) (s .row) (cells-positive s v))
 
   pub place-owes : {x : ℕ} {p : Place} → Placed s x p → p .entry .owes ≡ true → (q : Place) × Owes s x p q
   place-owes {x} {p} here o =
@@ -120,22 +72,13 @@ module _ {s : State} (v : Sound s) where
         },
       )
 
-  -- "A cell that owes nothing has owed, low and high 0."
-  pub place-owes-nothing : {x : ℕ} {p : Place} → Placed s x p → p .entry .owes ≡ false →
-      (owedAt (picture s) x ≡ 0) × (lowAt (picture s) x ≡ 0) × (highAt (picture s) x ≡ 0)
-  place-owes-nothing {x} {p} here o = (
-    place-owed v here ∙ ap (λ t. cond t (firstOf (p .later) .cell) 0) o,
-    place-low v here ∙ ap (λ t. cond t (p .dimension) 0) o,
-    place-high v here ∙ ap (λ t. cond t (shared (s .settings .base) (s .settings .dimensions) (p .entry .key) (firstOf (p .later) .key)) 0) o,
-  )
-
   -- a cell whose owed word is not 0 owes
   pub owed-owes : {x : ℕ} {p : Place} → Placed s x p → 0 < owedAt (picture s) x → p .entry .owes ≡ true
   owed-owes {x} {p} here h = at (p .entry .owes) refl
     where
       at : (t : Bool) → p .entry .owes ≡ t → t ≡ true
       at true e = refl
-      at false e = absurd (omega (arith, h, place-owes-nothing here e .0))
+      at false e = absurd (omega (arith, h, place-unowing v here e .0))
 
   owing-standing : {x : ℕ} {p q : Place} → Placed s x p → Owes s x p q → (d : ℕ) → p .dimension ≤ d → d < q .dimension → Owing (picture s) x d
   owing-standing here o d h k =
@@ -157,7 +100,7 @@ module _ {s : State} (v : Sound s) where
           omega (arith, placed-cell here)
 
   owing-true : {x : ℕ} {p : Place} → Placed s x p → p .entry .owes ≡ true → (d : ℕ) → lowAt (picture s) x ≤ d → d < highAt (picture s) x →
-      owing (s .settings .base) (s .settings .dimensions) p d ≡ true
+      linkOwing (s .settings .base) (s .settings .dimensions) p d ≡ true
   owing-true {x} {p} here o d h k =
       let b = s .settings .base in
       let D = s .settings .dimensions in
@@ -177,13 +120,13 @@ module _ {s : State} (v : Sound s) where
       record {
         not-head = owes-not-head here o;
         owed = subst (NextLarger (picture s) n) (sym (owes .owed)) (next-larger v here (owes .placed) (owes .next));
-        owes-nothing = ap (λ c. owedAt (picture s) c) (owes .owed) ∙ place-owes-nothing (owes .placed) (owes .unowing) .0;
+        owes-nothing = ap (λ c. owedAt (picture s) c) (owes .owed) ∙ place-unowing v (owes .placed) (owes .unowing) .0;
         low = subst (Dimension (picture s) n) (sym (owes .low)) (place-dimension v here);
         high =
             owes .high ∙ owes .next .dimension ∙ sym (placed-shared v here (owes .placed))
             ∙ ap (λ c. sharedAt (picture s) n c) (sym (owes .owed));
         low-below-high = let h = owes .lower in omega (arith, owes .low, owes .high);
-        own-links = λ d h k. place-link v here d (inside d k) ∙ link-owing b D p d (above d h) (owing-true here o d h k);
+        own-links = λ d h k. place-link v here d (inside d k) ∙ link-tested b D p d (undue-above p d (above d h)) (owing-true here o d h k);
         owed-links = λ d h k.
             let through = read-through (picture s) n d (let z = owes .positive in omega (arith, owes .owed)) h k in
             subst (Settled (picture s) n d) (sym (owed-link here d (inside d k) (above d h)) ∙ through) (place-settled v here d);
@@ -209,7 +152,7 @@ module _ {s : State} (v : Sound s) where
   pub link-sentence : {x : ℕ} {p : Place} → Placed s x p → (d : ℕ) → d < s .settings .dimensions → (Owing (picture s) x d → ⊥) →
       ((n : ℕ) → Owing (picture s) n d → owedAt (picture s) n ≡ x → ⊥) → Settled (picture s) x d (linkAt (picture s) x d)
   link-sentence {x} {p} here d h own due-to =
-      let is = link-other b D p d (not-due (due b D p d) refl) (not-owing (owing b D p d) refl) in
+      let is = link-tested b D p d (not-due (linkDue p d) refl) (not-owing (linkOwing b D p d) refl) in
       subst (Settled (picture s) x d) (sym (place-link v here d h ∙ is)) (place-settled v here d)
     where
       b : ℕ
@@ -218,7 +161,7 @@ module _ {s : State} (v : Sound s) where
       D : ℕ
       D = s .settings .dimensions
 
-      not-owing : (t : Bool) → owing b D p d ≡ t → t ≡ false
+      not-owing : (t : Bool) → linkOwing b D p d ≡ t → t ≡ false
       not-owing true e =
           let (owes, inside) = both (p .entry .owes) (between (low p) (high b D p) d) e in
           let (l, k) = between-facts (low p) (high b D p) d inside in
@@ -235,7 +178,7 @@ module _ {s : State} (v : Sound s) where
           due-to (q .entry .cell) (owing-standing there o d (omega (arith, l, next .beforeDimension)) (omega arith))
           (o .owed ∙ ap (λ y. y .cell) is ∙ placed-cell here)
 
-      not-due : (t : Bool) → due b D p d ≡ t → t ≡ false
+      not-due : (t : Bool) → linkDue p d ≡ t → t ≡ false
       not-due true e =
           let (owes, inside) = both (p .before .owes) (between (p .beforeDimension) (p .dimension) d) e in
           let (l, k) = between-facts (p .beforeDimension) (p .dimension) d inside in
@@ -381,7 +324,7 @@ module _ {s : State} (v : Sound s) where
     where
       at : (t : Bool) → p .entry .owes ≡ t → (lowAt (picture s) x ≡ 0) × (highAt (picture s) x ≡ 0)
       at true o = let (q, owes) = place-owes here o in absurd (omega (arith, e, owes .owed, owes .positive))
-      at false o = let (z, low, high) = place-owes-nothing here o in (low, high)
+      at false o = let (z, low, high) = place-unowing v here o in (low, high)
 
 -- Every sentence
 

@@ -1,28 +1,32 @@
 -- Which cells of a picture stand, which are free, and the words of each. A standing cell has one place, whose words it has; every other
--- cell is met once by the free chain, because the head, the cells of the row and those of the chain are all the numbers below C.
+-- cell is met once by the free chain, because the head, the cells of the row and those of the chain are all the numbers below C. So a
+-- buffer that has the words of each place and of each free cell is the picture.
 use mathlib.Core.Path.{_≡_, refl, sym, ap, _∙_, subst}
-use mathlib.Core.Bool.{Bool, true, false}
+use mathlib.Core.Bool.{Bool, true, false, cond}
 use mathlib.Core.List.{List, [], _∷_, map}
 use mathlib.Core.Logic.{_⊎_, inl, inr}
 use mathlib.Core.Option.{Option, none, some}
-use Prim.Native.Nat.{ℕ, zero, suc, _+_, _*_, _<_}
+use Prim.Native.Nat.{ℕ, zero, suc, _+_, _<_}
 use native.Mathlib.Decide.{ℕ-discrete}
 use native.Mathlib.Omega.{arith}
-use lib.ListN.{length, getD, getD-replicate}
-use Rattle.settings.specs.Numbers.{cellWords}
+use lib.ListN.{length, getD}
+use Rattle.settings.specs.Numbers.{cellWords, headerWords, fieldsBeforeCoordinates, lengthOf}
 use Rattle.meaning.specs.Keys.{coordinate, shared}
-use Rattle.meaning.specs.Row.{Entry, headEntry, Place, headPlace, placesAfter, places, owed, low, high, link, placeOf}
+use Rattle.meaning.specs.Row.{Entry, headEntry, Place, headPlace, placesAfter, places, owed, low, high, link, placeOf, firstOf}
 use Rattle.meaning.specs.State.{State, keyOf, occurrences}
-use Rattle.meaning.specs.Picture.{mark, standingWords, nextFree, freeWords, wordsOf, picture}
+use Rattle.meaning.specs.Picture.{mark, standingWords, nextFree, freeWords, wordsOf, picture, firstNumber, pathWord}
 use Rattle.meaning.specs.Words.{wordAt, keyAt, valueAt, markAt, owedAt, lowAt, highAt, coordinateAt, linkAt}
 use Rattle.meaning.specs.Sentences.{Free, Standing}
-use Rattle.meaning.proofs.Order.{All, all-map, all-right}
+use Rattle.meaning.specs.Leaves.{OwesNothing}
+use Rattle.meaning.specs.Reading.{settingsAt}
+use Rattle.meaning.proofs.Order.{All, all-map, all-right, all-append}
 use Rattle.meaning.proofs.State.{Sound, cellsIn}
-use Rattle.meaning.proofs.Cells.{all-each, occurrences-past, cells-distinct, row-range, free-range}
-use Rattle.meaning.proofs.Picture.{picture-word, place-here, place-past, Told, told, places-cells, free-found}
-use Rattle.meaning.proofs.Places.{occurrences-append, occurrences-more, keyOf-same, keyOf-other}
-use Rattle.meaning.proofs.SentencesNumbers.{distinct-covers, occurs-has}
-use Rattle.meaning.proofs.WalkRead.{Held, all-places, places-held}
+use Rattle.meaning.proofs.Cells.{all-each, occurrences-past, row-range, free-range, all-zip}
+use Rattle.meaning.proofs.Picture.{picture-word, place-here, place-past, Told, told, places-cells, free-found, freeWords-rest, shownWords, picture-path, place-found}
+use Rattle.meaning.proofs.Places.{occurrences-append, occurrences-more, keyOf-same, keyOf-other, all-mapped}
+use Rattle.meaning.proofs.SentencesNumbers.{occurs-has, cells-cover}
+use Rattle.meaning.proofs.WalkRead.{Held, all-places, places-held, standing-word, standing-coordinate, standing-link}
+use Rattle.meaning.proofs.Stores.{picture-exact, field-cases, words-equal}
 
 -- Cells and places
 
@@ -126,10 +130,7 @@ module _ {s : State} (v : Sound s) {x : ℕ} {p : Place} (here : Placed s x p) w
 
   pub place-word : (j : ℕ) → j < cellWords (s .settings .dimensions) →
       wordAt (picture s) x j ≡ getD (standingWords (s .settings .base) (s .settings .dimensions) p) j 0
-  unfolding wordsOf
-  place-word j h =
-      picture-word s x j placed-below h
-      ∙ ap (λ o. getD (wordsOf (s .settings .base) (s .settings .dimensions) (s .free) x o) j 0) (here .found)
+  place-word = standing-word s x p placed-below (here .found)
 
   pub place-key : keyAt (picture s) x ≡ p .entry .key
   unfolding standingWords
@@ -154,6 +155,14 @@ module _ {s : State} (v : Sound s) {x : ℕ} {p : Place} (here : Placed s x p) w
   pub place-high : highAt (picture s) x ≡ high (s .settings .base) (s .settings .dimensions) p
   unfolding standingWords
   place-high = place-word 5 (omega arith)
+
+  -- "A cell that owes nothing has owed, low and high 0."
+  pub place-unowing : p .entry .owes ≡ false → OwesNothing (picture s) x
+  place-unowing e = (
+    place-owed ∙ ap (λ t. cond t (firstOf (p .later) .cell) 0) e,
+    place-low ∙ ap (λ t. cond t (p .dimension) 0) e,
+    place-high ∙ ap (λ t. cond t (shared (s .settings .base) (s .settings .dimensions) (p .entry .key) (firstOf (p .later) .key)) 0) e,
+  )
 
   held : Held (picture s) (s .settings .base) (s .settings .dimensions) p
   held = placed-has here (Held (picture s) (s .settings .base) (s .settings .dimensions)) (places-held s v)
@@ -188,9 +197,7 @@ module _ (s : State) (x : ℕ) (below : x < s .settings .cells) (unfound : place
   free-cell-first = free-cell-word 0 (omega arith)
 
   pub free-cell-rest : (j : ℕ) → 0 < j → j < cellWords (s .settings .dimensions) → wordAt (picture s) x j ≡ 0
-  unfolding freeWords
-  free-cell-rest zero h k = absurd (omega arith)
-  free-cell-rest (suc j) h k = free-cell-word (suc j) k ∙ getD-replicate {A = ℕ} (5 + 2 * s .settings .dimensions) j 0 0 (omega arith)
+  free-cell-rest j h k = free-cell-word j k ∙ freeWords-rest (s .settings .dimensions) (nextFree x (s .free)) j h k
 
   pub free-cell-free : Free (picture s) x
   unfolding picture
@@ -229,10 +236,7 @@ module _ {s : State} (v : Sound s) where
   unfolding picture
   cell-free x free =
       let row = map (λ y. y .cell) (s .row) in
-      let least = v .cells-least in
-      let below : All (λ c. c < s .settings .cells) (0 ∷ cellsIn s) = (omega arith, all-map (λ c r. r .1) (cellsIn s) (v .range)) in
-      let all : length (0 ∷ cellsIn s) ≡ s .settings .cells = (let n = v .count in omega arith) in
-      let occurs = distinct-covers (s .settings .cells) (0 ∷ cellsIn s) (cells-distinct s v) below all x (free .cell) in
+      let occurs = cells-cover s v x (free .cell) in
       let elsewhere = unfound-none x (placesIn s) (cell-unfound v x free) in
       let moved = ap (occurrences x) (places-cells (s .settings .base) (s .settings .dimensions) (s .row)) in
       let sum = occurrences-append x (0 ∷ row) (s .free) in
@@ -249,3 +253,79 @@ module _ {s : State} (v : Sound s) where
 
   pub position-placed : (p : Place) × Placed s (s .position) p
   position-placed = occurs-placed s (s .position) (v .position)
+
+-- Words that are a picture
+
+-- where a standing cell's words are those of its place, each is that of the picture
+held-word : (ws : List ℕ) (b : ℕ) (p : Place) → Held ws b (getD ws 0 0) p → (j : ℕ) → j < cellWords (getD ws 0 0) →
+    wordAt ws (p .entry .cell) j ≡ getD (standingWords b (getD ws 0 0) p) j 0
+unfolding standingWords
+held-word ws b p t =
+    field-cases (λ j. wordAt ws (p .entry .cell) j ≡ getD (standingWords b (getD ws 0 0) p) j 0) (getD ws 0 0) first
+    (λ d h. t .coordinate d h ∙ sym (standing-coordinate b (getD ws 0 0) p d h)) (λ d h. t .link d h ∙ sym (standing-link b (getD ws 0 0) p d h))
+  where
+    first : (j : ℕ) → j < fieldsBeforeCoordinates → wordAt ws (p .entry .cell) j ≡ getD (standingWords b (getD ws 0 0) p) j 0
+    first zero h = t .key
+    first (suc zero) h = t .value
+    first (suc (suc zero)) h = t .mark
+    first (suc (suc (suc zero))) h = t .owed
+    first (suc (suc (suc (suc zero)))) h = t .low
+    first (suc (suc (suc (suc (suc zero))))) h = t .high
+    first (suc (suc (suc (suc (suc (suc j)))))) h = absurd (omega arith)
+
+-- The words of a free cell: the first is the next of the chain, the others are 0.
+pub record FreeHeld (ws free : List ℕ) (c : ℕ) : Type 0 where
+  pub next : wordAt ws c 0 ≡ nextFree c free
+  pub rest : (j : ℕ) → 0 < j → j < cellWords (getD ws 0 0) → wordAt ws c j ≡ 0
+
+free-held-word : (ws free : List ℕ) (c : ℕ) → FreeHeld ws free c → (j : ℕ) → j < cellWords (getD ws 0 0) → wordAt ws c j ≡ getD (freeWords (getD ws 0 0) (nextFree c free)) j 0
+unfolding freeWords
+free-held-word ws free c t zero h = t .next
+free-held-word ws free c t (suc j) h = t .rest (suc j) (omega arith) h ∙ sym (freeWords-rest (getD ws 0 0) (nextFree c free) (suc j) (omega arith) h)
+
+-- a state with a buffer's settings
+abbrev stateWith : List ℕ → List Entry → List ℕ → ℕ → State
+stateWith ws row free position = record { settings = settingsAt ws; row = row; free = free; position = position }
+
+-- A buffer of the exact length is the picture of such a state in order, if it has the first free cell, the path and the words of each
+-- cell.
+pub held-picture : (ws : List ℕ) (row : List Entry) (free : List ℕ) (position : ℕ) → Sound (stateWith ws row free position) →
+    length ws ≡ lengthOf (getD ws 0 0) (getD ws 2 0) → firstNumber free ≡ getD ws 4 0 →
+    ((d : ℕ) → d < getD ws 0 0 → pathWord (stateWith ws row free position) d ≡ getD ws (headerWords + d) 0) →
+    All (Held ws (getD ws 3 0) (getD ws 0 0)) (places (getD ws 3 0) (getD ws 0 0) row) → All (FreeHeld ws free) free →
+    picture (stateWith ws row free position) ≡ ws
+unfolding picture wordsOf
+held-picture ws row free position v long first path standing chained =
+    words-equal (picture-exact s) (record { size = long }) header (λ d h. picture-path s d h ∙ path d h)
+    (λ c j hc hj.
+    picture-word s c j hc hj
+    ∙ occurs-has (Word j) c (0 ∷ cellsIn s) (cells-cover s v c hc)
+    (all-append (Word j) (0 ∷ map (λ x. x .cell) row) free (standing-words j hj)
+    (all-zip (λ x found t. ap (λ o. getD (wordsOf b D free x o) j 0) found ∙ sym (free-held-word ws free x t j hj)) free (free-found s v) chained)))
+  where
+    s : State
+    s = stateWith ws row free position
+
+    b : ℕ
+    b = getD ws 3 0
+
+    D : ℕ
+    D = getD ws 0 0
+
+    Word : ℕ → ℕ → Type 0
+    Word j c = getD (shownWords s c) j 0 ≡ wordAt ws c j
+
+    standing-words : (j : ℕ) → j < cellWords D → All (Word j) (0 ∷ map (λ x. x .cell) row)
+    standing-words j h =
+        subst (All (Word j)) (places-cells b D row)
+        (all-mapped (Word j) (λ p. p .entry .cell) (places b D row)
+        (all-zip (λ p found t. ap (λ o. getD (wordsOf b D free (p .entry .cell) o) j 0) found ∙ sym (held-word ws b p t j h))
+        (places b D row) (place-found s v) standing))
+
+    header : (i : ℕ) → i < headerWords → getD (picture s) i 0 ≡ getD ws i 0
+    header zero h = refl
+    header (suc zero) h = refl
+    header (suc (suc zero)) h = refl
+    header (suc (suc (suc zero))) h = refl
+    header (suc (suc (suc (suc zero)))) h = first
+    header (suc (suc (suc (suc (suc i))))) h = absurd (omega arith)

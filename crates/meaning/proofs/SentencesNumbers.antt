@@ -1,4 +1,5 @@
--- Distinct numbers below n, if they are n, are all the numbers below n: take out n-1, and the others are distinct numbers below n-1.
+-- Distinct numbers below n, if they are n, are all the numbers below n: take out n-1, and the others are distinct numbers below n-1. So
+-- the cells of a state are all the numbers below C.
 use mathlib.Core.Path.{_≡_, refl, subst}
 use mathlib.Core.Bool.{Bool, true, false, cond}
 use mathlib.Core.List.{List, [], _∷_}
@@ -8,9 +9,10 @@ use native.Mathlib.Omega.{arith}
 use lib.Dec.{eqb}
 use lib.ListN.{length}
 use borrow.Author.Tests.{eq-eqb, ne-eqb}
-use Rattle.meaning.specs.State.{occurrences}
-use Rattle.meaning.proofs.Order.{All}
-use Rattle.meaning.proofs.Cells.{Distinct, all-zip, occurrences-past, occurrences-none}
+use Rattle.meaning.specs.State.{occurrences, State}
+use Rattle.meaning.proofs.Order.{All, all-map}
+use Rattle.meaning.proofs.State.{Sound, cellsIn}
+use Rattle.meaning.proofs.Cells.{Distinct, all-zip, occurrences-past, occurrences-none, cells-distinct}
 
 -- a list without the first occurrence of a number
 without : ℕ → List ℕ → List ℕ
@@ -78,3 +80,10 @@ occurs-has P c (x ∷ xs) h a = at (ℕ-discrete x c) (λ more. occurs-has P c x
     at : Dec (x ≡ c) → (0 < occurrences c xs → P c) → P c
     at (yes e) more = subst P e (a .0)
     at (no ne) more = more (omega (arith, h, occurrences-past c x xs ne))
+
+-- the head, the cells of the row and those of the chain
+pub cells-cover : (s : State) → Sound s → (x : ℕ) → x < s .settings .cells → 0 < occurrences x (0 ∷ cellsIn s)
+cells-cover s v x h =
+    let least = v .cells-least in
+    let count = v .count in
+    distinct-covers (s .settings .cells) (0 ∷ cellsIn s) (cells-distinct s v) (omega arith, all-map (λ c r. r .1) (cellsIn s) (v .range)) (omega arith) x h

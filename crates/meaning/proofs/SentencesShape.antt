@@ -9,17 +9,18 @@ use native.Mathlib.Omega.{arith}
 use lib.ListN.{length}
 use borrow.Author.Tests.{le-leb, lt-leb}
 use Rattle.meaning.specs.Keys.{coordinate, coordinates, shared}
-use Rattle.meaning.specs.Row.{Entry, headEntry, firstOf, Place, placesAfter, places, settledLink}
+use Rattle.meaning.specs.Row.{Entry, headEntry, firstOf, Place, placesAfter, places, settledLink, firstSharing}
 use Rattle.meaning.specs.State.{State}
 use Rattle.meaning.specs.Picture.{picture}
 use Rattle.meaning.specs.Words.{keyAt}
-use Rattle.meaning.specs.Sentences.{agreed, sharedAt, digitAt, NextSmaller, NextLarger, Dimension, Settled}
+use Rattle.meaning.specs.Sentences.{agreed, sharedAt, digitAt, NextSmaller, NextLarger, Dimension, Settled, LargerAt}
 use Rattle.meaning.specs.Sentences.Dimension.{of-head, of-other}
 use Rattle.meaning.specs.Sentences.Settled.{leads, leads-nowhere, below-dimension}
 use Rattle.meaning.proofs.Order.{All, Asc, all-map, asc-above}
-use Rattle.meaning.proofs.Keys.{shared-agreed, shared-sym, coordinate-less}
+use Rattle.meaning.proofs.Keys.{shared-agreed, coordinate-less, coordinate-larger}
 use Rattle.meaning.proofs.State.{Sound, base-positive, base-above}
-use Rattle.meaning.proofs.Picture.{place-found, later-has}
+use Rattle.meaning.proofs.Cells.{all-zip}
+use Rattle.meaning.proofs.Picture.{place-found, places-later}
 use Rattle.meaning.proofs.SentencesRow.{all-in, Next, Followed, Led, places-followed, places-led, Later, Compared, places-compared, places-ascend, Least, SharesExactly, first-sharing}
 use Rattle.meaning.proofs.SentencesRow.Followed.{last, followed}
 use Rattle.meaning.proofs.SentencesRow.Led.{head, led}
@@ -42,6 +43,32 @@ pub record HasPlace (s : State) (y : Entry) : Type 0 where
   pub place : Place
   pub placed : Placed s (y .cell) place
   pub entry : place .entry ≡ y
+
+-- Settled links, in any words
+
+-- The first of the later entries that shares just d with a key is what link d leads to, if the later ones that do are just the larger
+-- ones at d.
+pub settled-first : (ws : List ℕ) (b D x key d : ℕ) (row : List Entry) {e : ℕ} → Dimension ws x e → e ≤ d → Asc key row →
+    All (λ y. keyAt ws (y .cell) ≡ y .key) row → All (λ y. SharesExactly b D key d y → LargerAt ws x d (y .cell)) row →
+    ((P : ℕ → Type 0) → All (λ y. SharesExactly b D key d y → P (y .cell)) row → (z : ℕ) → LargerAt ws x d z → P z) →
+    Settled ws x d (firstSharing b D key d row)
+settled-first ws b D x key d row dimension h asc keys larger has = at (first-sharing b D key d key row asc)
+  where
+    at : {c : ℕ} → Least (SharesExactly b D key d) row c → Settled ws x d c
+    at (least y m q all) =
+        leads dimension h (all-in (λ z. SharesExactly b D key d z → LargerAt ws x d (z .cell)) m larger q)
+        (has (λ z. keyAt ws (y .cell) ≤ keyAt ws z)
+        (all-zip (λ z k f r. let l = f r in omega (arith, k, all-in (λ z. keyAt ws (z .cell) ≡ z .key) m keys)) row keys all))
+    at (nowhere all) = leads-nowhere dimension h (has (λ z. ⊥) all)
+
+-- below the dimension the settled link is 0
+pub settled-link : (ws : List ℕ) (b D x : ℕ) (p : Place) (d : ℕ) → Dimension ws x (p .dimension) →
+    (p .dimension ≤ d → Settled ws x d (firstSharing b D (p .entry .key) d (p .later))) → Settled ws x d (settledLink b D p d)
+settled-link ws b D x p d dimension first = at (decLe (p .dimension) d)
+  where
+    at : Dec (p .dimension ≤ d) → Settled ws x d (settledLink b D p d)
+    at (yes h) = rw (le-leb (p .dimension) d h) (first h)
+    at (no h) = rw (lt-leb (p .dimension) d (omega arith)) (below-dimension dimension (omega arith))
 
 module _ {s : State} (v : Sound s) where
   pub places-placed : All (λ p. Placed s (p .entry .cell) p) (placesIn s)
@@ -175,10 +202,9 @@ module _ {s : State} (v : Sound s) where
   row-placed = placed-after (s .settings .base) (s .settings .dimensions) headEntry 0 (s .row) (places-placed .1)
 
   pub later-placed : {x : ℕ} {p : Place} → Placed s x p → All (HasPlace s) (p .later)
-  unfolding places
   later-placed here =
       placed-has here (λ p. All (HasPlace s) (p .later))
-      (row-placed, later-has (HasPlace s) (s .settings .base) (s .settings .dimensions) headEntry 0 (s .row) row-placed)
+      (places-later (HasPlace s) (s .settings .base) (s .settings .dimensions) (s .row) row-placed)
 
   -- what shares exactly d coordinates with a standing cell and is larger at d is a later one
   larger-later : {x : ℕ} {p : Place} → Placed s x p → (d z : ℕ) (r : Place) → Placed s z r →
@@ -202,74 +228,47 @@ module _ {s : State} (v : Sound s) where
       at (same e) = absurd (omega (arith, above, ap (λ q. coordinate b D (q .entry .key) d) e))
       at (later l) = l
       at (earlier l) =
-          let less = coordinate-less b D (r .entry .key) (p .entry .key) (base-positive s v) (key-below found) (key-below here) (l .larger) in
-          let there : shared b D (r .entry .key) (p .entry .key) ≡ d = shared-sym b D (r .entry .key) (p .entry .key) ∙ exactly in
-          absurd (omega (arith, above, subst (λ e. coordinate b D (r .entry .key) e < coordinate b D (p .entry .key) e) there less))
+          absurd (omega (
+            arith,
+            l .larger,
+            coordinate-larger b D (p .entry .key) (r .entry .key) d (base-positive s v) (key-below here) (key-below found) (omega (arith, exactly)) above,
+          ))
 
-  -- the least-key later entry that shares exactly d coordinates is what link d leads to
-  settled-least : {x : ℕ} {p : Place} → Placed s x p → (d : ℕ) → p .dimension ≤ d → {c : ℕ} →
-      Least (SharesExactly (s .settings .base) (s .settings .dimensions) (p .entry .key) d) (p .later) c → Settled (picture s) x d c
-  settled-least {x} {p} here d low (least y m h a) =
-      leads (place-dimension here) low
-      (record {
+  -- a later one that does is larger at d
+  later-larger : {x : ℕ} {p : Place} → Placed s x p → (d : ℕ) (y : Entry) → HasPlace s y → p .entry .key < y .key →
+      SharesExactly (s .settings .base) (s .settings .dimensions) (p .entry .key) d y → LargerAt (picture s) x d (y .cell)
+  later-larger {x} {p} here d y stands above exactly =
+      let b = s .settings .base in
+      let D = s .settings .dimensions in
+      let there = stands .placed in
+      let key = ap (λ e. e .key) (stands .entry) in
+      let shares : shared b D (p .entry .key) (stands .place .entry .key) ≡ d = ap (shared b D (p .entry .key)) key ∙ exactly in
+      let less = coordinate-less b D (p .entry .key) (stands .place .entry .key) (base-positive s v) (key-below here) (key-below there) (omega arith) in
+      record {
         standing = place-standing v there;
         shares = placed-shared here there ∙ shares;
         larger =
             subst₂ (λ i j. i < j) (sym (placed-digit here d)) (sym (placed-digit there d))
-            (subst (λ e. coordinate b D (p .entry .key) e < coordinate b D (q .entry .key) e) shares
-            (coordinate-less b D (p .entry .key) (q .entry .key) (base-positive s v) (key-below here) (key-below there) larger));
-      })
-      (λ z l. let (r, found) = cell-standing s z (l .standing) in at z r found (larger-later here d z r found (l .shares) (l .larger)))
-    where
-      b : ℕ
-      b = s .settings .base
-
-      D : ℕ
-      D = s .settings .dimensions
-
-      stands : HasPlace s y
-      stands = all-in (HasPlace s) m (later-placed here)
-
-      q : Place
-      q = stands .place
-
-      there : Placed s (y .cell) q
-      there = stands .placed
-
-      shares : shared b D (p .entry .key) (q .entry .key) ≡ d
-      shares = ap (λ e. shared b D (p .entry .key) (e .key)) (stands .entry) ∙ h
-
-      larger : p .entry .key < q .entry .key
-      larger =
-          subst (λ e. p .entry .key < e .key) (sym (stands .entry))
-          (all-in (λ e. p .entry .key < e .key) m (asc-above (p .entry .key) (p .later) (placed-ascends here)))
-
-      at : (z : ℕ) (r : Place) → Placed s z r → SharesExactly b D (p .entry .key) d (r .entry) × Later (p .entry .key) (p .later) r →
-          keyAt (picture s) (y .cell) ≤ keyAt (picture s) z
-      at z r found (e, l) =
-          let le = all-in (λ z. SharesExactly b D (p .entry .key) d z → y .key ≤ z .key) (l .member) a e in
-          omega (arith, place-key v there, place-key v found, ap (λ e. e .key) (stands .entry))
-  settled-least {x} {p} here d low (nowhere a) =
-      leads-nowhere (place-dimension here) low
-      (λ z l.
-      let (r, found) = cell-standing s z (l .standing) in
-      let (e, m) = larger-later here d z r found (l .shares) (l .larger) in
-      all-in (λ z. SharesExactly (s .settings .base) (s .settings .dimensions) (p .entry .key) d z → ⊥) (m .member) a e)
+            (subst (λ e. coordinate b D (p .entry .key) e < coordinate b D (stands .place .entry .key) e) shares less);
+      }
 
   -- "For x of dimension e and d at least e, link d of x leads to the least-key standing cell that shares exactly the first d coordinates
   -- with x and is larger at d. Every other link is 0."
   pub place-settled : {x : ℕ} {p : Place} → Placed s x p → (d : ℕ) →
       Settled (picture s) x d (settledLink (s .settings .base) (s .settings .dimensions) p d)
-  place-settled {x} {p} here d = at (decLe (p .dimension) d)
+  place-settled {x} {p} here d =
+      settled-link (picture s) b D x p d (place-dimension here) (λ h.
+      settled-first (picture s) b D x (p .entry .key) d (p .later) (place-dimension here) h (placed-ascends here)
+      (all-map (λ y stands. place-key v (stands .placed) ∙ ap (λ e. e .key) (stands .entry)) (p .later) (later-placed here))
+      (all-zip (λ y stands above exactly. later-larger here d y stands above exactly) (p .later) (later-placed here)
+      (asc-above (p .entry .key) (p .later) (placed-ascends here)))
+      (λ P all z l.
+      let (r, found) = cell-standing s z (l .standing) in
+      let (exactly, after) = larger-later here d z r found (l .shares) (l .larger) in
+      subst P (placed-cell found) (all-in (λ y. SharesExactly b D (p .entry .key) d y → P (y .cell)) (after .member) all exactly)))
     where
       b : ℕ
       b = s .settings .base
 
       D : ℕ
       D = s .settings .dimensions
-
-      at : Dec (p .dimension ≤ d) → Settled (picture s) x d (settledLink b D p d)
-      at (yes h) =
-          let first = first-sharing b D (p .entry .key) d (p .entry .key) (p .later) (placed-ascends here) in
-          rw (le-leb (p .dimension) d h) (settled-least here d h first)
-      at (no h) = rw (lt-leb (p .dimension) d (omega arith)) (below-dimension (place-dimension here) (omega arith))

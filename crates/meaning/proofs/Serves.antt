@@ -1,9 +1,8 @@
 -- A cell freed by a sweep serves again: cells are counted, a sweep puts the freed ones first, and an insert uses the first.
 use mathlib.Core.Path.{_≡_, refl, _∙_, sym, ap, subst}
-use mathlib.Core.Logic.{_⊎_, inl, inr}
-use mathlib.Core.List.{List, _∷_, map, reverseAux}
+use mathlib.Core.List.{map, reverseAux}
 use mathlib.Core.Option.{none, some}
-use Prim.Native.Nat.{ℕ, zero, suc, _+_, _≤_, _<_}
+use Prim.Native.Nat.{ℕ, suc, _+_, _≤_, _<_}
 use native.Mathlib.Omega.{arith}
 use lib.ListN.{length, drop}
 use Rattle.meaning.specs.Row.{Entry, entryAt}
@@ -15,27 +14,21 @@ use Rattle.meaning.specs.Operations.{sweepOut, insertOut, swept, freedBy
 use Rattle.meaning.specs.Calls.{outcome}
 use Rattle.meaning.specs.Sentences.{countAt}
 use Rattle.meaning.specs.Promises.{EachCellOnce, SweptCellsFirst, UsesFirst, InsertUsesFirst}
-use Rattle.meaning.proofs.Order.{All, all-map}
+use Rattle.meaning.proofs.Order.{All}
 use Rattle.meaning.proofs.State.{Sound, cellsIn}
-use Rattle.meaning.proofs.Cells.{cells-distinct}
 use Rattle.meaning.proofs.Places.{occurrences-append, all-at}
-use Rattle.meaning.proofs.SentencesNumbers.{distinct-covers, occurs-has}
+use Rattle.meaning.proofs.SentencesNumbers.{occurs-has, cells-cover}
 use Rattle.meaning.proofs.Reading.{read-of-picture}
+use Rattle.meaning.proofs.WalkStop.{entry-found}
 use Rattle.meaning.proofs.Ascending.{member-past}
 use Rattle.meaning.proofs.Slot.{gap, slot-is}
 use Rattle.meaning.proofs.KeepsSweep.{swept-sound}
 use Rattle.meaning.proofs.KeepsInsert.{added-sound, added-row}
-use Rattle.meaning.proofs.BookRow.{entry-found}
-use Rattle.meaning.proofs.Outcomes.{on-read-lists, in-range-or-not, sweep-outcome, insert-outcome-bad-key, insert-outcome-full, insert-outcome-new}
+use Rattle.meaning.proofs.Outcomes.{on-read-lists, sweep-outcome, insert-outcome-bad-key, insert-outcome-full, insert-outcome-new, key-cases, free-cases}
 
 cell-once : (s : State) → Sound s → (x : ℕ) → 0 < x → x < s .settings .cells → occurrences x (map (λ e. e .cell) (s .row)) + occurrences x (s .free) ≡ 1
 cell-once s v x h l =
-    let least = v .cells-least in
-    let count = v .count in
-    let cells : List ℕ = 0 ∷ cellsIn s in
-    let range : All (λ c. c < s .settings .cells) cells = (omega arith, all-map (λ c r. r .1) (cellsIn s) (v .range)) in
-    let long : length cells ≡ s .settings .cells = omega arith in
-    let there = member-past x 0 (cellsIn s) (λ e. omega arith) (distinct-covers (s .settings .cells) cells (cells-distinct s v) range long x l) in
+    let there = member-past x 0 (cellsIn s) (λ e. omega arith) (cells-cover s v x l) in
     sym (occurrences-append x (map (λ e. e .cell) (s .row)) (s .free)) ∙ occurs-has (λ c. occurrences c (cellsIn s) ≡ 1) x (cellsIn s) there (v .once)
 
 pub each-cell-once : EachCellOnce
@@ -68,6 +61,18 @@ new-uses-first s v key value h l a f =
 pub refused-not : (o p : Outcome) (n : ℕ) → o ≡ p → p .answered .refusal ≡ suc n → o .answered .refusal ≡ 0 → ⊥
 refused-not o p n e q z = let t = ap (λ (w : Outcome). w .answered .refusal) e in omega arith
 
+-- an accepted insert of a key that does not stand has a key in range and a free cell
+pub new-accepted : (s : State) → Sound s → (key value : ℕ) → entryAt key (s .row) ≡ none → insertOut (picture s) key value .answered .refusal ≡ 0 →
+    (1 ≤ key) × (key ≤ s .settings .largest) × (0 < length (s .free))
+new-accepted s v key value a z =
+    key-cases s key
+    (λ n. absurd (refused-not (insertOut (picture s) key value) (refused badKey (picture s)) 3 (insert-outcome-bad-key s v key value n) refl z))
+    (λ h l b.
+    free-cases s
+    (λ f. absurd (refused-not (insertOut (picture s) key value) (refused (noFreeCell key (looked s key)) (picture s)) 5 (insert-outcome-full s v key value h l b f) refl z))
+    (λ f. (h, l, f)))
+    (λ h l x b. absurd (let q : _≡_ {A = ℕ} 0 1 = cc in omega arith))
+
 made-uses-first : (s : State) → Sound s → (key value : ℕ) → 1 ≤ key → key ≤ s .settings .largest → entryAt key (s .row) ≡ none → 0 < length (s .free) → UsesFirst (picture s) (insertOut (picture s) key value .words) key
 unfolding added
 made-uses-first s v key value h l a f =
@@ -83,15 +88,7 @@ made-uses-first s v key value h l a f =
     }
 
 uses-first : (s : State) → Sound s → (key value : ℕ) → entryAt key (s .row) ≡ none → insertOut (picture s) key value .answered .refusal ≡ 0 → UsesFirst (picture s) (insertOut (picture s) key value .words) key
-uses-first s v key value a z = go (in-range-or-not key (s .settings .largest))
-  where
-    room : 1 ≤ key → key ≤ s .settings .largest → (n : ℕ) → length (s .free) ≡ n → UsesFirst (picture s) (insertOut (picture s) key value .words) key
-    room h l zero f = absurd (refused-not (insertOut (picture s) key value) (refused (noFreeCell key (looked s key)) (picture s)) 5 (insert-outcome-full s v key value h l a f) refl z)
-    room h l (suc n) f = made-uses-first s v key value h l a (omega (arith, f))
-
-    go : ((1 ≤ key) × (key ≤ s .settings .largest)) ⊎ (1 ≤ key → s .settings .largest < key) → UsesFirst (picture s) (insertOut (picture s) key value .words) key
-    go (inl k) = room (k .0) (k .1) (length (s .free)) refl
-    go (inr n) = absurd (refused-not (insertOut (picture s) key value) (refused badKey (picture s)) 3 (insert-outcome-bad-key s v key value n) refl z)
+uses-first s v key value a z = let (h, l, f) = new-accepted s v key value a z in made-uses-first s v key value h l a f
 
 pub insert-uses-first : InsertUsesFirst
 unfolding outcome

@@ -22,7 +22,7 @@ use Rattle.meaning.proofs.State.{Sound, base-positive}
 use Rattle.meaning.proofs.Cells.{Distinct, all-of-map, distinct-left, distinct-apart, cells-distinct}
 use Rattle.meaning.proofs.Places.{all-mapped, none-occurs, keyOf-first, asc-left, lastFrom, Keeping}
 use Rattle.meaning.proofs.Put.{put-front, put-past}
-use Rattle.meaning.proofs.Parent.{dimensionAfter, parentAfter, Without, Apart, ParentPlace, all-last, asc-last, last-least, apart-left, apart-before, place-at, sharing-skips, sharing-hits, sharing-none, near, first-place, parent-is}
+use Rattle.meaning.proofs.Parent.{dimensionAfter, parentAfter, Without, Apart, ParentPlace, all-last, asc-last, last-least, apart-left, apart-before, place-at, sharing-skips, sharing-hits, sharing-none, near, first-place, parent-is, sharing-above}
 
 -- The entries below a key and those above it, of a row in which the key does not stand
 
@@ -44,6 +44,10 @@ gap key low (y ∷ row) a e = at (decLt key (y .key)) (ℕ-discrete (y .key) key
     at (no h) (no ne) q ih =
         let g = ih (rw (ne-eqb (y .key) key ne) at q) in
         record { pre = y ∷ g .pre; post = g .post; splits = ap {B = List Entry} (λ r. y ∷ r) (g .splits); below = (omega arith, g .below); above = g .above }
+
+-- the entry before the key, or the head, is below it
+pub gap-last : {key : ℕ} {row : List Entry} → 0 < key → (g : Gap key row) → lastFrom headEntry (g .pre) .key < key
+gap-last {key} h g = all-last (λ z. z .key < key) headEntry (g .pre) h (g .below)
 
 pub gap-above : (key low : ℕ) (post : List Entry) → Asc low post → All (λ z. key < z .key) post → Asc key post
 gap-above key low [] a g = tt
@@ -103,6 +107,9 @@ pub first-free-all : (P : ℕ → Type 0) (free : List ℕ) → 0 < length free 
 first-free-all P [] h a = absurd (omega arith)
 first-free-all P (c ∷ free) h a = a .0
 
+pub first-free-apart : (s : State) → Sound s → 0 < length (s .free) → Without (firstNumber (s .free)) (headEntry ∷ s .row)
+first-free-apart s v h = first-free-all (λ c. Without c (headEntry ∷ s .row)) (s .free) h (free-apart s v)
+
 pub dimensions-positive : (s : State) → Sound s → 0 < s .settings .dimensions
 dimensions-positive s v = let h = v .dimensions-least in omega arith
 
@@ -133,8 +140,7 @@ module _ (b D : ℕ) (pos : 0 < b) (deep : 0 < D) where
           let u = ultra b D a key (x .key) pos (omega arith) (omega arith) in
           let w = ultra b D y a (x .key) pos k (omega arith) in
           let r : shared b D key (x .key) < p = omega arith in
-          let far : All (λ z. shared b D y (z .key) ≡ p → ⊥) later = all-map (λ z m n. omega (arith, ultra b D y (x .key) (z .key) pos (omega arith) (omega arith))) later (asc-above (x .key) later (c .1)) in
-          rw (lt-leb p (shared b D key (x .key)) r) (sharing-none b D y p (x ∷ later) (λ n. omega arith, far))
+          rw (lt-leb p (shared b D key (x .key)) r) (sharing-above b D pos y p x later (omega arith) (c .1) (omega arith))
 
   slot-held :
       (y : Entry) (between post : List Entry) (key : ℕ) → Asc (y .key) between → lastFrom y between .key < key → Asc key post →
@@ -214,7 +220,7 @@ slot-is s v key h g f =
     o = subst (λ r. Apart (headEntry ∷ r)) (g .splits) (sound-apart s v)
 
     new : Without (x .cell) (headEntry ∷ (g .pre ++ g .post))
-    new = subst (λ r. Without (x .cell) (headEntry ∷ r)) (g .splits) (first-free-all (λ c. Without c (headEntry ∷ s .row)) (s .free) f (free-apart s v))
+    new = subst (λ r. Without (x .cell) (headEntry ∷ r)) (g .splits) (first-free-apart s v f)
 
     p-is : dimensionAt (placeOf (x .cell) (places b D (put x (s .row)))) ≡ p
     p-is =

@@ -12,7 +12,7 @@ use Rattle.settings.specs.Numbers.{leastDimensions, mostDimensions, leastLarges
 use Rattle.settings.specs.Base.{IsBase}
 use Rattle.settings.proofs.Laws.{Ranges, ranges, in-range, base-is, base-at-least-two}
 use Rattle.meaning.specs.Keys.{shared}
-use Rattle.meaning.specs.Row.{firstOf, Place, places, every}
+use Rattle.meaning.specs.Row.{firstOf, Place, places, every, Entry}
 use Rattle.meaning.specs.State.{State, positionKey, ascending, occurrences, debtHolds, settingsHold, keysHold, cellsHold, valuesHold, debtsHold, positionHolds, tests, valid}
 use Rattle.meaning.proofs.Order.{All, Asc, both, and-both, every-all, all-every, all-map, ascending-asc, asc-ascending}
 
@@ -113,91 +113,103 @@ range-test C c h = and-both (ltb 0 c) (ltb c C) (lt-ltb 0 c (h .0)) (lt-ltb c C 
 
 -- All tests
 
-pub valid-sound : (s : State) → valid s ≡ true → Sound s
-unfolding tests valid
-valid-sound s e =
-    let b = s .settings .base in
-    let D = s .settings .dimensions in
-    let K = s .settings .largest in
-    let C = s .settings .cells in
-    let row = s .row in
-    let inside : ℕ → Bool = λ c. ltb 0 c && ltb c C in
-    let single : ℕ → Bool = λ c. eqb (occurrences c (cellsIn s)) 1 in
-    let stands = occurrences (s .position) (0 ∷ map (λ x. x .cell) row) in
-    let holds = every-all (λ t. t) (tests s) e in
-    let settings = both (inRange D K C) (eqb b (baseOf D K)) (holds .0) in
-    let r = ranges D K C (settings .0) in
-    let keys = both (ascending 0 row) (every (λ x. leb (x .key) K) row) (holds .1 .0) in
-    let cells = both (eqb (length (cellsIn s)) (C - 1) && every inside (cellsIn s)) (every single (cellsIn s)) (holds .1 .1 .0) in
-    let counted = both (eqb (length (cellsIn s)) (C - 1)) (every inside (cellsIn s)) (cells .0) in
-    let position = both (ltb 0 stands) (every (λ x. not (x .live) || ltb (positionKey s) (x .key)) row) (holds .1 .1 .1 .1 .1 .0) in
-    record {
-      dimensions-least = r .least-dimensions;
-      dimensions-most = r .most-dimensions;
-      largest-least = r .least-largest;
-      largest-most = r .most-largest;
-      cells-least = r .least-cells;
-      cells-most = r .most-cells;
-      base = eqb-true b (baseOf D K) (settings .1);
-      ascends = ascending-asc 0 row (keys .0);
-      keys = facts {P = λ x. x .key ≤ K} (λ x. leb (x .key) K) (λ x. leb-true (x .key) K) row (keys .1);
-      count = eqb-true (length (cellsIn s)) (C - 1) (counted .0);
-      range = facts {P = λ c. (0 < c) × (c < C)} inside (range-fact C) (cellsIn s) (counted .1);
-      once = facts single (λ c. eqb-true (occurrences c (cellsIn s)) 1) (cellsIn s) (cells .1);
-      values =
-          facts (λ x. x .live || eqb (x .value) 0) (λ x h f. eqb-true (x .value) 0 (or-else (x .live) (eqb (x .value) 0) h f))
-          row (holds .1 .1 .1 .0);
-      debts = facts (debtHolds b D) (debt-fact b D) (places b D row) (holds .1 .1 .1 .1 .0);
-      position = ltb-true 0 stands (position .0);
-      dead =
-          facts {P = λ x. x .key ≤ positionKey s → x .live ≡ false} (λ x. not (x .live) || ltb (positionKey s) (x .key))
-          (λ x. dead-fact (positionKey s) (x .key) (x .live)) row (position .1);
-    }
+module _ (s : State) where
+  abbrev b : ℕ
+  b = s .settings .base
 
-pub sound-ranges : (s : State) → Sound s → Ranges (s .settings .dimensions) (s .settings .largest) (s .settings .cells)
-sound-ranges s v =
-    record {
-      least-dimensions = v .dimensions-least;
-      most-dimensions = v .dimensions-most;
-      least-largest = v .largest-least;
-      most-largest = v .largest-most;
-      least-cells = v .cells-least;
-      most-cells = v .cells-most;
-    }
+  abbrev D : ℕ
+  D = s .settings .dimensions
 
-pub sound-valid : (s : State) → Sound s → valid s ≡ true
-unfolding tests valid
-sound-valid s v =
-    let b = s .settings .base in
-    let D = s .settings .dimensions in
-    let K = s .settings .largest in
-    let C = s .settings .cells in
-    let row = s .row in
-    let inside : ℕ → Bool = λ c. ltb 0 c && ltb c C in
-    let single : ℕ → Bool = λ c. eqb (occurrences c (cellsIn s)) 1 in
-    let stands = occurrences (s .position) (0 ∷ map (λ x. x .cell) row) in
-    let settings : settingsHold s ≡ true =
-    and-both (inRange D K C) (eqb b (baseOf D K)) (in-range D K C (sound-ranges s v)) (eq-eqb b (baseOf D K) (v .base)) in
-    let keys : keysHold s ≡ true =
-    and-both (ascending 0 row) (every (λ x. leb (x .key) K) row)
-    (asc-ascending 0 row (v .ascends))
-    (passed (λ x. leb (x .key) K) (λ x. le-leb (x .key) K) row (v .keys)) in
-    let cells : cellsHold s ≡ true =
-    and-both (eqb (length (cellsIn s)) (C - 1) && every inside (cellsIn s)) (every single (cellsIn s))
-    (and-both (eqb (length (cellsIn s)) (C - 1)) (every inside (cellsIn s))
-    (eq-eqb (length (cellsIn s)) (C - 1) (v .count))
-    (passed inside (range-test C) (cellsIn s) (v .range)))
-    (passed single (λ c. eq-eqb (occurrences c (cellsIn s)) 1) (cellsIn s) (v .once)) in
-    let values : valuesHold s ≡ true =
-    passed (λ x. x .live || eqb (x .value) 0) (λ x f. or-from (x .live) (eqb (x .value) 0) (λ h. eq-eqb (x .value) 0 (f h)))
-    row (v .values) in
-    let debts : debtsHold s ≡ true = passed (debtHolds b D) (debt-test b D) (places b D row) (v .debts) in
-    let position : positionHolds s ≡ true =
-    and-both (ltb 0 stands) (every (λ x. not (x .live) || ltb (positionKey s) (x .key)) row)
-    (lt-ltb 0 stands (v .position))
-    (passed {P = λ x. x .key ≤ positionKey s → x .live ≡ false} (λ x. not (x .live) || ltb (positionKey s) (x .key))
-    (λ x. dead-test (positionKey s) (x .key) (x .live)) row (v .dead)) in
-    all-every (λ t. t) (tests s) (settings, (keys, (cells, (values, (debts, (position, tt))))))
+  abbrev K : ℕ
+  K = s .settings .largest
+
+  abbrev C : ℕ
+  C = s .settings .cells
+
+  abbrev row : List Entry
+  row = s .row
+
+  -- a cell's number is another than the head's, and below C
+  abbrev inside : ℕ → Bool
+  inside c = ltb 0 c && ltb c C
+
+  -- a number is that of one cell
+  abbrev single : ℕ → Bool
+  single c = eqb (occurrences c (cellsIn s)) 1
+
+  -- how often the position stands
+  abbrev stands : ℕ
+  stands = occurrences (s .position) (0 ∷ map (λ x. x .cell) row)
+
+  pub valid-sound : valid s ≡ true → Sound s
+  unfolding tests valid
+  valid-sound e =
+      let holds = every-all (λ t. t) (tests s) e in
+      let settings = both (inRange D K C) (eqb b (baseOf D K)) (holds .0) in
+      let r = ranges D K C (settings .0) in
+      let keys = both (ascending 0 row) (every (λ x. leb (x .key) K) row) (holds .1 .0) in
+      let cells = both (eqb (length (cellsIn s)) (C - 1) && every inside (cellsIn s)) (every single (cellsIn s)) (holds .1 .1 .0) in
+      let counted = both (eqb (length (cellsIn s)) (C - 1)) (every inside (cellsIn s)) (cells .0) in
+      let position = both (ltb 0 stands) (every (λ x. not (x .live) || ltb (positionKey s) (x .key)) row) (holds .1 .1 .1 .1 .1 .0) in
+      record {
+        dimensions-least = r .least-dimensions;
+        dimensions-most = r .most-dimensions;
+        largest-least = r .least-largest;
+        largest-most = r .most-largest;
+        cells-least = r .least-cells;
+        cells-most = r .most-cells;
+        base = eqb-true b (baseOf D K) (settings .1);
+        ascends = ascending-asc 0 row (keys .0);
+        keys = facts {P = λ x. x .key ≤ K} (λ x. leb (x .key) K) (λ x. leb-true (x .key) K) row (keys .1);
+        count = eqb-true (length (cellsIn s)) (C - 1) (counted .0);
+        range = facts {P = λ c. (0 < c) × (c < C)} inside (range-fact C) (cellsIn s) (counted .1);
+        once = facts single (λ c. eqb-true (occurrences c (cellsIn s)) 1) (cellsIn s) (cells .1);
+        values =
+            facts (λ x. x .live || eqb (x .value) 0) (λ x h f. eqb-true (x .value) 0 (or-else (x .live) (eqb (x .value) 0) h f))
+            row (holds .1 .1 .1 .0);
+        debts = facts (debtHolds b D) (debt-fact b D) (places b D row) (holds .1 .1 .1 .1 .0);
+        position = ltb-true 0 stands (position .0);
+        dead =
+            facts {P = λ x. x .key ≤ positionKey s → x .live ≡ false} (λ x. not (x .live) || ltb (positionKey s) (x .key))
+            (λ x. dead-fact (positionKey s) (x .key) (x .live)) row (position .1);
+      }
+
+  pub sound-ranges : Sound s → Ranges D K C
+  sound-ranges v =
+      record {
+        least-dimensions = v .dimensions-least;
+        most-dimensions = v .dimensions-most;
+        least-largest = v .largest-least;
+        most-largest = v .largest-most;
+        least-cells = v .cells-least;
+        most-cells = v .cells-most;
+      }
+
+  pub sound-valid : Sound s → valid s ≡ true
+  unfolding tests valid
+  sound-valid v =
+      let settings : settingsHold s ≡ true =
+      and-both (inRange D K C) (eqb b (baseOf D K)) (in-range D K C (sound-ranges v)) (eq-eqb b (baseOf D K) (v .base)) in
+      let keys : keysHold s ≡ true =
+      and-both (ascending 0 row) (every (λ x. leb (x .key) K) row)
+      (asc-ascending 0 row (v .ascends))
+      (passed (λ x. leb (x .key) K) (λ x. le-leb (x .key) K) row (v .keys)) in
+      let cells : cellsHold s ≡ true =
+      and-both (eqb (length (cellsIn s)) (C - 1) && every inside (cellsIn s)) (every single (cellsIn s))
+      (and-both (eqb (length (cellsIn s)) (C - 1)) (every inside (cellsIn s))
+      (eq-eqb (length (cellsIn s)) (C - 1) (v .count))
+      (passed inside (range-test C) (cellsIn s) (v .range)))
+      (passed single (λ c. eq-eqb (occurrences c (cellsIn s)) 1) (cellsIn s) (v .once)) in
+      let values : valuesHold s ≡ true =
+      passed (λ x. x .live || eqb (x .value) 0) (λ x f. or-from (x .live) (eqb (x .value) 0) (λ h. eq-eqb (x .value) 0 (f h)))
+      row (v .values) in
+      let debts : debtsHold s ≡ true = passed (debtHolds b D) (debt-test b D) (places b D row) (v .debts) in
+      let position : positionHolds s ≡ true =
+      and-both (ltb 0 stands) (every (λ x. not (x .live) || ltb (positionKey s) (x .key)) row)
+      (lt-ltb 0 stands (v .position))
+      (passed {P = λ x. x .key ≤ positionKey s → x .live ≡ false} (λ x. not (x .live) || ltb (positionKey s) (x .key))
+      (λ x. dead-test (positionKey s) (x .key) (x .live)) row (v .dead)) in
+      all-every (λ t. t) (tests s) (settings, (keys, (cells, (values, (debts, (position, tt))))))
 
 -- The base
 

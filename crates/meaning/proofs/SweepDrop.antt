@@ -27,7 +27,7 @@ use Rattle.meaning.proofs.Picture.{picture-free, picture-path, place-he
 use Rattle.meaning.proofs.Places.{all-mapped, all-at, occurrences-reverseAux, lastFrom, dimensionFrom, keyOf-same, keyOf-other}
 use Rattle.meaning.proofs.Keeps.{cell-alone}
 use Rattle.meaning.proofs.Parent.{dimensionAfter, Without, asc-last, apart-before, place-at, first-skips, first-hits}
-use Rattle.meaning.proofs.Slot.{sound-apart}
+use Rattle.meaning.proofs.Slot.{sound-apart, dimensions-positive}
 use Rattle.meaning.proofs.SentencesNumbers.{occurs-has}
 use Rattle.meaning.proofs.SentencesCells.{placesIn, Placed, placed-has, placed-below, head-placed}
 use Rattle.meaning.proofs.WalkRead.{settled-above}
@@ -181,7 +181,7 @@ module _ (s : State) (front : List Entry) (x : Entry) (later : List Entry) (v : 
   pos = base-positive (fronted s front x later) v
 
   deep : 0 < s .settings .dimensions
-  deep = let h = v .dimensions-least in omega arith
+  deep = dimensions-positive (fronted s front x later) v
 
   key-positive : 0 < x .key
   key-positive = let less = asc-last headEntry front (x ∷ later) (v .ascends) .0 in omega arith

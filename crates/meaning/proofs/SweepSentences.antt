@@ -2,13 +2,12 @@
 -- chain, the one of greatest key first, and live entries stay as they are.
 use mathlib.Core.Path.{_≡_, refl, sym, ap, _∙_, subst}
 use mathlib.Core.Bool.{Bool, true, false, cond}
-use mathlib.Core.List.{List, [], _∷_, _++_, map, reverse, reverseAux, map-append}
+use mathlib.Core.List.{List, [], _∷_, _++_, map, reverse, reverseAux}
 use mathlib.Core.Option.{Option, none, some}
 use Prim.Native.Nat.{ℕ, _≤_, _<_}
 use native.Mathlib.Omega.{arith}
 use lib.ListN.{getD}
-use Rattle.meaning.specs.Keys.{shared}
-use Rattle.meaning.specs.Row.{Entry, Place, firstOf, placeOf, those}
+use Rattle.meaning.specs.Row.{Entry, Place, placeOf, those}
 use Rattle.meaning.specs.State.{State, occurrences}
 use Rattle.meaning.specs.Picture.{mark, firstNumber, picture}
 use Rattle.meaning.specs.Words.{keyAt, valueAt, markAt}
@@ -19,10 +18,10 @@ use Rattle.meaning.proofs.Order.{All, Asc, all-map, all-append, all-lef
 use Rattle.meaning.proofs.State.{Sound}
 use Rattle.meaning.proofs.Cells.{all-of-map}
 use Rattle.meaning.proofs.Picture.{picture-free}
-use Rattle.meaning.proofs.Places.{all-splits, occurrences-reverseAux, occurrences-between, asc-left}
+use Rattle.meaning.proofs.Places.{occurrences-reverseAux, asc-left, all-occur}
 use Rattle.meaning.proofs.Keeps.{deadFront-dead, last-split}
 use Rattle.meaning.proofs.KeepsSweep.{keptBy, swept-split, swept-sound}
-use Rattle.meaning.proofs.SentencesCells.{placesIn, Placed, placed-entry, place-key, place-value, place-mark, place-owed, place-low, place-high, free-cell-rest, free-cell}
+use Rattle.meaning.proofs.SentencesCells.{placesIn, Placed, placed-entry, place-key, place-value, place-mark, free-cell-rest, free-cell, place-unowing}
 use Rattle.meaning.proofs.SentencesShape.{HasPlace, row-placed}
 use Rattle.meaning.proofs.SweepFinish.{paid-owes-nothing}
 
@@ -45,12 +44,7 @@ swept-owes-nothing s v x h = at (placeOf x (placesIn (swept s))) refl
     )
     at (some p) e =
         let here : Placed (swept s) x p = record { found = e } in
-        let w = swept-sound s v in
-        let unowing = placed-entry here (λ y. y .owes ≡ false) refl (swept-unowing s) in (
-          place-owed w here ∙ ap (λ t. cond t (firstOf (p .later) .cell) 0) unowing,
-          place-low w here ∙ ap (λ t. cond t (p .dimension) 0) unowing,
-          place-high w here ∙ ap (λ t. cond t (shared (s .settings .base) (s .settings .dimensions) (p .entry .key) (firstOf (p .later) .key)) 0) unowing,
-        )
+        place-unowing (swept-sound s v) here (placed-entry here (λ y. y .owes ≡ false) refl (swept-unowing s))
 
 -- "frees every cell strictly between head and position in key order, each put at the front of the free chain"
 
@@ -82,13 +76,10 @@ swept-first s = picture-free (swept s) ∙ ap firstNumber (swept-chain s)
 
 pub freed-free : (s : State) → Sound s → All (λ x. Free (picture (swept s)) (x .cell)) (freedBy (s .row))
 unfolding swept
-freed-free s v = all-splits (λ x. Free (picture (swept s)) (x .cell)) (freedBy (s .row)) (λ front x later e. free-cell (swept-sound s v) (x .cell) (met front x later e))
-  where
-    met : (front : List Entry) (x : Entry) (later : List Entry) → freedBy (s .row) ≡ front ++ (x ∷ later) → 0 < occurrences (x .cell) (swept s .free)
-    met front x later e =
-        let cells = ap (λ row. occurrences (x .cell) (map (λ y. y .cell) row)) e ∙ ap (occurrences (x .cell)) (map-append (λ y. y .cell) front (x ∷ later)) in
-        let once = occurrences-between (x .cell) (map (λ y. y .cell) front) (map (λ y. y .cell) later) in
-        omega (arith, occurrences-reverseAux (x .cell) (map (λ y. y .cell) (freedBy (s .row))) (s .free))
+freed-free s v =
+    let cells = map (λ x. x .cell) (freedBy (s .row)) in
+    all-map (λ x met. free-cell (swept-sound s v) (x .cell) (omega (arith, met, occurrences-reverseAux (x .cell) cells (s .free)))) (freedBy (s .row))
+    (all-of-map (λ c. 0 < occurrences c cells) (λ x. x .cell) (freedBy (s .row)) (all-occur cells))
 
 -- Live entries keep their cells, keys, values and marks
 

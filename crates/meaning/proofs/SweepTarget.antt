@@ -18,18 +18,16 @@ use Rattle.meaning.specs.Words.{keyAt, markAt}
 use Rattle.meaning.specs.Operations.{paid, withRow, deadFront, fromLive, lastOf, freedBy, swept}
 use Rattle.meaning.specs.Paths.{pathFor, onward, nextFrom}
 use Rattle.meaning.specs.SweepStores.{finishAll, dropFront, Target, headTarget, targetFrom, cellsBefore, sweepWords}
-use Rattle.meaning.proofs.Order.{All, all-map}
+use Rattle.meaning.proofs.Order.{All}
 use Rattle.meaning.proofs.State.{Sound}
 use Rattle.meaning.proofs.Cells.{free-length}
 use Rattle.meaning.proofs.Picture.{picture-dimensions, picture-cells, picture-base}
 use Rattle.meaning.proofs.Places.{all-at, lastFrom, dimensionFrom}
+use Rattle.meaning.proofs.WalkRead.{row-key-read}
 use Rattle.meaning.proofs.Keeps.{cell-alone, row-split, deadFront-dead, fromLive-live}
 use Rattle.meaning.proofs.KeepsSweep.{keptBy, swept-split}
 use Rattle.meaning.proofs.Parent.{Apart, Without, apart-before}
 use Rattle.meaning.proofs.Slot.{sound-apart}
-use Rattle.meaning.proofs.SentencesCells.{place-key}
-use Rattle.meaning.proofs.SentencesShape.{row-placed}
-use Rattle.meaning.proofs.WalkRead.{dimensions-read}
 use Rattle.meaning.proofs.Path.{path-head}
 use Rattle.meaning.proofs.PathNext.{wayTo, PathOf, last-snoc, way-next, way-end, way-on}
 use Rattle.meaning.proofs.PathTake.{mark-read}
@@ -100,7 +98,7 @@ module _ (s : State) (v : Sound s) where
       let b = s .settings .base in
       let D = s .settings .dimensions in
       let here : PathOf s (wayTo s front) front (y ∷ later) = record { split = split; is = refl } in
-      target-dead (picture s) D (dimensions-read s) fuel (targetAt s front) (y .cell) (shared b D (lastFrom headEntry front .key) (y .key)) (way-next v here)
+      target-dead (picture s) D (picture-dimensions s) fuel (targetAt s front) (y .cell) (shared b D (lastFrom headEntry front .key) (y .key)) (way-next v here)
       (cell-alone s v front y later split .standing) (λ one. omega (arith, mark-read s v front y later split, ap mark dead))
       ∙ ap (targetFrom fuel (picture s)) (target-on front y later split)
 
@@ -120,10 +118,10 @@ module _ (s : State) (v : Sound s) where
   pub target-stops : (fuel : ℕ) (front later : List Entry) → s .row ≡ front ++ later → ((y : Entry) (rest : List Entry) → later ≡ y ∷ rest → y .live ≡ true) →
       targetFrom (suc fuel) (picture s) (targetAt s front) ≡ targetAt s front
   target-stops fuel front [] split live =
-      target-end (picture s) (s .settings .dimensions) (dimensions-read s) fuel (targetAt s front) 0 (way-end v (record { split = split; is = refl }))
+      target-end (picture s) (s .settings .dimensions) (picture-dimensions s) fuel (targetAt s front) 0 (way-end v (record { split = split; is = refl }))
   target-stops fuel front (y ∷ later) split live =
       let here : PathOf s (wayTo s front) front (y ∷ later) = record { split = split; is = refl } in
-      target-live (picture s) (s .settings .dimensions) (dimensions-read s) fuel (targetAt s front) (y .cell)
+      target-live (picture s) (s .settings .dimensions) (picture-dimensions s) fuel (targetAt s front) (y .cell)
       (shared (s .settings .base) (s .settings .dimensions) (lastFrom headEntry front .key) (y .key)) (way-next v here)
       (cell-alone s v front y later split .standing) (mark-read s v front y later split ∙ ap mark (live y later refl))
 
@@ -154,13 +152,13 @@ module _ (s : State) (v : Sound s) where
       cellsBefore fuel (picture s) (x .cell) (wayTo s front) ≡ map (λ y. y .cell) between
   before-is zero front between x later split apart h = absurd (omega arith)
   before-is (suc fuel) front [] x later split apart h =
-      before-here (picture s) (s .settings .dimensions) (dimensions-read s) fuel (x .cell) (wayTo s front)
+      before-here (picture s) (s .settings .dimensions) (picture-dimensions s) fuel (x .cell) (wayTo s front)
       (shared (s .settings .base) (s .settings .dimensions) (lastFrom headEntry front .key) (x .key)) (way-next v (record { split = split; is = refl }))
   before-is (suc fuel) front (y ∷ between) x later split apart h =
       let b = s .settings .base in
       let D = s .settings .dimensions in
       let here : PathOf s (wayTo s front) front (y ∷ (between ++ x ∷ later)) = record { split = split; is = refl } in
-      before-past (picture s) D (dimensions-read s) fuel (x .cell) (wayTo s front) (y .cell) (shared b D (lastFrom headEntry front .key) (y .key)) (way-next v here) (apart .0)
+      before-past (picture s) D (picture-dimensions s) fuel (x .cell) (wayTo s front) (y .cell) (shared b D (lastFrom headEntry front .key) (y .key)) (way-next v here) (apart .0)
       ∙ ap {B = List ℕ} (λ path. y .cell ∷ cellsBefore fuel (picture s) (x .cell) path) (way-on v here .is)
       ∙ ap {B = List ℕ} (λ cells. y .cell ∷ cells) (before-is fuel (front ++ y ∷ []) between x later (split ∙ sym (append-snoc front y (between ++ x ∷ later))) (apart .1) (omega arith))
 
@@ -195,21 +193,21 @@ sweep-read s = λ i.
     fromPaid D C (picture-base s i) paid (targetFrom C paid (headTarget D))
 
 -- there is fuel for all entries
-front-below : (s : State) → Sound s → length (deadFront (s .row)) < s .settings .cells
+pub front-below : (s : State) → Sound s → length (deadFront (s .row)) < s .settings .cells
 front-below s v =
     let least = v .cells-least in
     omega (arith, free-length s v, ap length (row-split (s .row)), length-append (deadFront (s .row)) (fromLive (s .row)))
 
-freed-below : (s : State) → Sound s → length (freedBy (s .row)) < s .settings .cells
+pub freed-below : (s : State) → Sound s → length (freedBy (s .row)) < s .settings .cells
 freed-below s v =
     let least = v .cells-least in
     omega (arith, free-length s v, ap length (swept-split (s .row)), length-append (freedBy (s .row)) (keptBy (s .row)))
 
 -- the key of the new position, as it stands in its cell
-key-read : (s : State) → Sound s → (lastOf (deadFront (s .row)) .cell ≡ 0 → ⊥) → keyAt (picture s) (lastOf (deadFront (s .row)) .cell) ≡ lastOf (deadFront (s .row)) .key
-key-read s v ne =
+pub target-key-read : (s : State) → Sound s → (lastOf (deadFront (s .row)) .cell ≡ 0 → ⊥) → keyAt (picture s) (lastOf (deadFront (s .row)) .cell) ≡ lastOf (deadFront (s .row)) .key
+target-key-read s v ne =
     all-at (λ y. keyAt (picture s) (y .cell) ≡ y .key) (freedBy (s .row)) (lastOf (deadFront (s .row))) (fromLive (s .row))
-    (subst (All (λ y. keyAt (picture s) (y .cell) ≡ y .key)) (swept-front (s .row) ne) (all-map (λ y h. place-key v (h .placed) ∙ ap (λ z. z .key) (h .entry)) (s .row) (row-placed v)))
+    (subst (All (λ y. keyAt (picture s) (y .cell) ≡ y .key)) (swept-front (s .row) ne) (row-key-read s v))
 
 -- in a state where nothing is owed
 unowing-sweep : (s : State) → Sound s → All (λ x. x .owes ≡ false) (s .row) → picture (swept s) ≡ afterPaid s (picture s)
@@ -236,7 +234,7 @@ unowing-sweep s v unowing = at (ℕ-discrete (x .cell) 0) ∙ ap (fromPaid D C b
     at (no ne) =
         rw (ne-eqb (x .cell) 0 ne)
         (unowing-swept s v unowing ne
-        ∙ ap₂ (λ key cells. dropFront D (picture s) (x .cell) (sweptNumber s) (sweptPath s) (shared b D 0 key) cells) (sym (key-read s v ne)) (sym (freed-is s v C (freed-below s v) ne)))
+        ∙ ap₂ (λ key cells. dropFront D (picture s) (x .cell) (sweptNumber s) (sweptPath s) (shared b D 0 key) cells) (sym (target-key-read s v ne)) (sym (freed-is s v C (freed-below s v) ne)))
 
 -- "Sweep finishes all that is owed, moves the position .., frees .., and leaves the settled shape of the rest."
 pub sweep-words : (s : State) → Sound s → picture (swept s) ≡ sweepWords (picture s)

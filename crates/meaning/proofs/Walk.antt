@@ -25,10 +25,11 @@ use Rattle.meaning.specs.declared.Step.the-variants.{Go, Up, End}
 use Rattle.meaning.proofs.Order.{All, Asc, all-map}
 use Rattle.meaning.proofs.Keys.{shared-same, shared-sym, shared-less, ultra, coordinate-below, coordinate-same, coordinate-less}
 use Rattle.meaning.proofs.State.{Sound, base-positive, base-above}
-use Rattle.meaning.proofs.Cells.{Distinct, all-zip, all-of-map, occurrences-here, distinct-left, cells-distinct}
-use Rattle.meaning.proofs.Places.{all-mapped, occurrences-more, places-entries}
+use Rattle.meaning.proofs.Cells.{Distinct, all-zip, all-of-map, distinct-left, cells-distinct, row-range}
+use Rattle.meaning.proofs.Picture.{picture-dimensions, picture-base}
+use Rattle.meaning.proofs.Places.{all-mapped, places-entries, all-occur}
 use Rattle.meaning.proofs.RowWalk.{rowWalk, row-walk-all, row-walk-distinct, Next, Stop, next, row-walk-is-rule, row-walk-bounded}
-use Rattle.meaning.proofs.WalkRead.{Read, settled-above, dimensions-read, base-read, row-cells, places-read, row-key-read}
+use Rattle.meaning.proofs.WalkRead.{Read, settled-above, places-read, row-key-read}
 
 -- Enough steps.
 
@@ -235,16 +236,11 @@ others-standing s v =
     let D = s .settings .dimensions in
     all-zip (λ p r o. record { read = r; other = o .0; fits = o .1 }) (placesAfter b D headEntry 0 (s .row)) (places-read s v .1)
     (places-entries (λ x. (0 < x .cell) × (x .key < b ^ D)) b D headEntry 0 (s .row)
-    (all-zip (λ x c f. (c .0, f)) (s .row) (row-cells s v) (keys-fit s v)))
+    (all-zip (λ x c f. (c .0, f)) (s .row) (row-range s v) (keys-fit s v)))
 
 keys-of-cells : (ws : List ℕ) (row : List Entry) → All (λ x. keyAt ws (x .cell) ≡ x .key) row → map (keyAt ws) (map (λ x. x .cell) row) ≡ map (λ x. x .key) row
 keys-of-cells ws [] a = refl
 keys-of-cells ws (x ∷ row) a = ap₂ _∷_ (a .0) (keys-of-cells ws row (a .1))
-
-all-occur : (xs : List ℕ) → All (λ c. 0 < occurrences c xs) xs
-all-occur [] = tt
-all-occur (x ∷ xs) =
-    ((let e = occurrences-here x x xs refl in omega arith), all-map (λ c h. let m = occurrences-more c x xs in omega arith) xs (all-occur xs))
 
 module _ (s : State) (v : Sound s) (k : ℕ) (least : 1 ≤ k) (most : k ≤ s .settings .largest) where
   list-walks :
@@ -255,7 +251,7 @@ module _ (s : State) (v : Sound s) (k : ℕ) (least : 1 ≤ k) (most : k ≤ s .
       let D = s .settings .dimensions in
       let h = v .dimensions-least in
       let above = base-above s v in
-      walks-below (picture s) b D k (dimensions-read s) (base-read s) (base-positive s v) (omega arith) (omega arith) (D * b) (headPlace (s .row))
+      walks-below (picture s) b D k (picture-dimensions s) (picture-base s) (base-positive s v) (omega arith) (omega arith) (D * b) (headPlace (s .row))
       (head-read s v) (others-standing s v) (omega arith) (v .ascends) 0 (omega arith) (omega arith) (omega arith)
 
   pub walk-is-row-walk : walk (picture s) k ≡ map (λ x. x .cell) (rowWalk (s .settings .base) (s .settings .dimensions) k 0 (s .row))

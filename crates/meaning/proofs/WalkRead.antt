@@ -1,51 +1,69 @@
 -- What the words of a picture say of each standing cell: each word is that of its place, and a link read through what is owed is the
 -- settled one. A cell that owes reads the links in question from the next standing cell, which holds them for it.
-use mathlib.Core.Path.{_≡_, refl, _∙_, sym, ap}
-use mathlib.Core.Bool.{Bool, true, false, cond, _&&_, not}
-use mathlib.Core.List.{List, [], _∷_, map}
+use mathlib.Core.Path.{_≡_, refl, _∙_, sym, ap, ap₂}
+use mathlib.Core.Bool.{Bool, true, false, cond, _&&_, not, and-false}
+use mathlib.Core.List.{List, [], _∷_, _++_, map}
 use mathlib.Core.Option.{some}
-use Prim.Native.Nat.{ℕ, suc, _+_, _≤_, _<_}
+use Prim.Native.Nat.{ℕ, _+_, _≤_, _<_}
+use native.Mathlib.Nat.{zero-add}
 use native.Mathlib.Decide.{decLe}
 use native.Mathlib.Omega.{arith}
-use lib.Dec.{eqb, leb}
+use lib.Dec.{eqb, leb, ltb}
 use lib.ListN.{length, getD, List·getD-append}
 use lib.Seq.{getD-append-add}
-use borrow.Author.Tests.{lt-ltb, le-ltb, le-leb, eq-eqb, ne-eqb}
+use borrow.Author.Tests.{lt-ltb, le-leb, eq-eqb, leb-true, ltb-true}
 use Rattle.settings.specs.Numbers.{fieldsBeforeCoordinates, cellWords}
 use Rattle.meaning.specs.Keys.{coordinates, coordinate, shared}
 use Rattle.meaning.specs.Row.{Entry, headEntry, firstOf, firstSharing, Place, headPlace, placesAfter, places, settledLink, owed, low, high, between, link, placeOf}
 use Rattle.meaning.specs.State.{State}
-use Rattle.meaning.specs.Picture.{numbersFrom, standingWords, wordsOf, picture}
-use Rattle.meaning.specs.Words.{wordAt, keyAt, owedAt, lowAt, highAt, coordinateAt, linkAt}
+use Rattle.meaning.specs.Picture.{numbersFrom, standingWords, wordsOf, picture, mark}
+use Rattle.meaning.specs.Words.{wordAt, keyAt, owedAt, lowAt, highAt, coordinateAt, linkAt, valueAt, markAt}
 use Rattle.meaning.specs.Walk.{linkRead}
-use Rattle.meaning.proofs.Order.{All, all-map, all-left}
+use Rattle.meaning.proofs.AgainstSlips.{owed-link-is-read-there}
+use Rattle.meaning.proofs.Order.{All, all-map, both, and-both}
 use Rattle.meaning.proofs.Keys.{coordinates-length}
 use Rattle.meaning.proofs.State.{Debt, Sound}
 use Rattle.meaning.proofs.Blocks.{made-at}
-use Rattle.meaning.proofs.Cells.{all-zip, all-of-map}
-use Rattle.meaning.proofs.Picture.{picture-word, place-found}
-use Rattle.meaning.proofs.Places.{places-entries}
+use Rattle.meaning.proofs.Cells.{all-zip, row-range}
+use Rattle.meaning.proofs.Picture.{picture-word, place-found, picture-dimensions}
+use Rattle.meaning.proofs.Places.{places-entries, row-of-places}
 
 -- Words by place.
 
-standing-coordinate : (b D : ℕ) (p : Place) (d : ℕ) → d < D → getD (standingWords b D p) (fieldsBeforeCoordinates + d) 0 ≡ coordinate b D (p .entry .key) d
-unfolding standingWords
-standing-coordinate b D p d h =
-    ap (λ i. getD (standingWords b D p) i 0) (let i : 6 + d ≡ suc (suc (suc (suc (suc (suc d))))) = omega arith in i)
-    ∙ List·getD-append (coordinates b D (p .entry .key)) (map (link b D p) (numbersFrom 0 D)) 0 d (let n = coordinates-length b D (p .entry .key) in omega arith)
+-- A standing cell's words are six, then the coordinates of its key, then D links.
+module _ (six : List ℕ) (are : length six ≡ fieldsBeforeCoordinates) (b D key : ℕ) (to : ℕ → ℕ) (d : ℕ) (h : d < D) where
+  pub words-coordinate : getD (six ++ (coordinates b D key ++ map to (numbersFrom 0 D))) (fieldsBeforeCoordinates + d) 0 ≡ coordinate b D key d
+  words-coordinate =
+      ap (λ n. getD (six ++ (coordinates b D key ++ map to (numbersFrom 0 D))) (n + d) 0) (sym are)
+      ∙ getD-append-add six (coordinates b D key ++ map to (numbersFrom 0 D)) d 0
+      ∙ List·getD-append (coordinates b D key) (map to (numbersFrom 0 D)) 0 d (omega (arith, coordinates-length b D key))
 
-standing-link : (b D : ℕ) (p : Place) (d : ℕ) → d < D → getD (standingWords b D p) (fieldsBeforeCoordinates + D + d) 0 ≡ link b D p d
-unfolding standingWords
-standing-link b D p d h =
-    ap (λ i. getD (standingWords b D p) i 0)
-    (let n = coordinates-length b D (p .entry .key) in
-    let i : 6 + D + d ≡ suc (suc (suc (suc (suc (suc (length (coordinates b D (p .entry .key)) + d)))))) = omega arith in i)
-    ∙ getD-append-add (coordinates b D (p .entry .key)) (map (link b D p) (numbersFrom 0 D)) d 0
-    ∙ made-at (link b D p) 0 D d 0 h ∙ ap (link b D p) (omega arith)
+  pub words-link : getD (six ++ (coordinates b D key ++ map to (numbersFrom 0 D))) (fieldsBeforeCoordinates + D + d) 0 ≡ to d
+  words-link =
+      let size = coordinates-length b D key in
+      let there : fieldsBeforeCoordinates + D + d ≡ length six + (length (coordinates b D key) + d) = omega arith in
+      ap (λ n. getD (six ++ (coordinates b D key ++ map to (numbersFrom 0 D))) n 0) there
+      ∙ getD-append-add six (coordinates b D key ++ map to (numbersFrom 0 D)) (length (coordinates b D key) + d) 0
+      ∙ getD-append-add (coordinates b D key) (map to (numbersFrom 0 D)) d 0
+      ∙ made-at to 0 D d 0 h
+      ∙ ap to (zero-add d)
 
--- the words of a standing cell that the walk reads
+abbrev sixWords : ℕ → ℕ → Place → List ℕ
+sixWords b D p = p .entry .key ∷ p .entry .value ∷ mark (p .entry .live) ∷ owed p ∷ low p ∷ high b D p ∷ []
+
+pub standing-coordinate : (b D : ℕ) (p : Place) (d : ℕ) → d < D → getD (standingWords b D p) (fieldsBeforeCoordinates + d) 0 ≡ coordinate b D (p .entry .key) d
+unfolding standingWords
+standing-coordinate b D p d h = words-coordinate (sixWords b D p) refl b D (p .entry .key) (link b D p) d h
+
+pub standing-link : (b D : ℕ) (p : Place) (d : ℕ) → d < D → getD (standingWords b D p) (fieldsBeforeCoordinates + D + d) 0 ≡ link b D p d
+unfolding standingWords
+standing-link b D p d h = words-link (sixWords b D p) refl b D (p .entry .key) (link b D p) d h
+
+-- The words of a standing cell are those of its place.
 pub record Held (ws : List ℕ) (b D : ℕ) (p : Place) : Type 0 where
   pub key : keyAt ws (p .entry .cell) ≡ p .entry .key
+  pub value : valueAt ws (p .entry .cell) ≡ p .entry .value
+  pub mark : markAt ws (p .entry .cell) ≡ mark (p .entry .live)
   pub owed : owedAt ws (p .entry .cell) ≡ owed p
   pub low : lowAt ws (p .entry .cell) ≡ low p
   pub high : highAt ws (p .entry .cell) ≡ high b D p
@@ -57,27 +75,13 @@ pub all-places : (P : Entry → Type 0) (b D : ℕ) (row : List Entry) → P hea
 unfolding places
 all-places P b D row h r = (h, places-entries P b D headEntry 0 row r)
 
-entries-of-places : (P : Entry → Type 0) (b D : ℕ) (a : Entry) (e : ℕ) (row : List Entry) → All (λ p. P (p .entry)) (placesAfter b D a e row) → All P row
-unfolding placesAfter
-entries-of-places P b D a e [] h = tt
-entries-of-places P b D a e (x ∷ row) h = (h .0, entries-of-places P b D x (shared b D (a .key) (x .key)) row (h .1))
-
 module _ (s : State) where
-  -- word j of a standing cell
-  standing-word : (p : Place) → p .entry .cell < s .settings .cells →
-      placeOf (p .entry .cell) (places (s .settings .base) (s .settings .dimensions) (s .row)) ≡ some p → (j : ℕ) → j < cellWords (s .settings .dimensions) →
-      wordAt (picture s) (p .entry .cell) j ≡ getD (standingWords (s .settings .base) (s .settings .dimensions) p) j 0
+  -- word j of the cell of a place
+  pub standing-word : (x : ℕ) (p : Place) → x < s .settings .cells → placeOf x (places (s .settings .base) (s .settings .dimensions) (s .row)) ≡ some p →
+      (j : ℕ) → j < cellWords (s .settings .dimensions) → wordAt (picture s) x j ≡ getD (standingWords (s .settings .base) (s .settings .dimensions) p) j 0
   unfolding wordsOf
-  standing-word p h found j l =
-      picture-word s (p .entry .cell) j h l ∙ ap (λ o. getD (wordsOf (s .settings .base) (s .settings .dimensions) (s .free) (p .entry .cell) o) j 0) found
-
-  pub dimensions-read : getD (picture s) 0 0 ≡ s .settings .dimensions
-  unfolding picture
-  dimensions-read = refl
-
-  pub base-read : getD (picture s) 3 0 ≡ s .settings .base
-  unfolding picture
-  base-read = refl
+  standing-word x p h found j l =
+      picture-word s x j h l ∙ ap (λ o. getD (wordsOf (s .settings .base) (s .settings .dimensions) (s .free) x o) j 0) found
 
   held : (p : Place) → p .entry .cell < s .settings .cells →
       placeOf (p .entry .cell) (places (s .settings .base) (s .settings .dimensions) (s .row)) ≡ some p → Held (picture s) (s .settings .base) (s .settings .dimensions) p
@@ -85,59 +89,77 @@ module _ (s : State) where
   held p h found =
       let b = s .settings .base in
       let D = s .settings .dimensions in
-      let word = standing-word p h found in
+      let word = standing-word (p .entry .cell) p h found in
       record {
         key = word 0 (omega arith);
+        value = word 1 (omega arith);
+        mark = word 2 (omega arith);
         owed = word 3 (omega arith);
         low = word 4 (omega arith);
         high = word 5 (omega arith);
         coordinate = λ d l. word (fieldsBeforeCoordinates + d) (omega arith) ∙ standing-coordinate b D p d l;
         link = λ d l.
-            ap (λ n. wordAt (picture s) (p .entry .cell) (fieldsBeforeCoordinates + n + d)) dimensions-read
+            ap (λ n. wordAt (picture s) (p .entry .cell) (fieldsBeforeCoordinates + n + d)) (picture-dimensions s)
             ∙ word (fieldsBeforeCoordinates + D + d) (omega arith) ∙ standing-link b D p d l;
       }
-
-  -- the cells of the row: none is the head, each is below C
-  pub row-cells : Sound s → All (λ x. (0 < x .cell) × (x .cell < s .settings .cells)) (s .row)
-  row-cells v =
-      all-of-map (λ c. (0 < c) × (c < s .settings .cells)) (λ x. x .cell) (s .row)
-      (all-left (λ c. (0 < c) × (c < s .settings .cells)) (map (λ x. x .cell) (s .row)) (s .free) (v .range))
 
   pub places-held : Sound s → All (Held (picture s) (s .settings .base) (s .settings .dimensions)) (places (s .settings .base) (s .settings .dimensions) (s .row))
   places-held v =
       let C = s .settings .cells in
       let standing = places (s .settings .base) (s .settings .dimensions) (s .row) in
       all-zip held standing
-      (all-places (λ x. x .cell < C) (s .settings .base) (s .settings .dimensions) (s .row) (let h = v .cells-least in omega arith) (all-map (λ x h. h .1) (s .row) (row-cells v)))
+      (all-places (λ x. x .cell < C) (s .settings .base) (s .settings .dimensions) (s .row) (let h = v .cells-least in omega arith) (all-map (λ x h. h .1) (s .row) (row-range s v)))
       (place-found s v)
 
 -- Links as they stand.
 
-and-false : (t : Bool) → (t && false) ≡ false
-and-false true = refl
-and-false false = refl
-
-pub between-not : (least above d : ℕ) → above ≤ d → between least above d ≡ false
-between-not least above d h = rw (le-ltb d above h) (and-false (leb least d))
-
 pub between-is : (least above d : ℕ) → least ≤ d → d < above → between least above d ≡ true
 between-is least above d h l = rw (le-leb least d h, lt-ltb d above l) refl
 
--- link d from the dimension up is settled, if it is not one that the cell owes
-link-settled : (b D : ℕ) (p : Place) (d : ℕ) → p .dimension ≤ d → (p .entry .owes && between (low p) (high b D p) d) ≡ false → link b D p d ≡ settledLink b D p d
+pub between-facts : (least above d : ℕ) → between least above d ≡ true → (least ≤ d) × (d < above)
+between-facts least above d e = let (h, l) = both (leb least d) (ltb d above) e in (leb-true least d h, ltb-true d above l)
+
+pub between-out : (least above d : ℕ) → (least ≤ d → d < above → ⊥) → between least above d ≡ false
+between-out least above d out = at (between least above d) refl
+  where
+    at : (t : Bool) → between least above d ≡ t → t ≡ false
+    at true e = let (h, l) = between-facts least above d e in absurd (out h l)
+    at false e = refl
+
+pub between-not : (least above d : ℕ) → above ≤ d → between least above d ≡ false
+between-not least above d h = between-out least above d (λ k l. omega arith)
+
+pub between-below : (least above d : ℕ) → d < least → between least above d ≡ false
+between-below least above d h = between-out least above d (λ k l. omega arith)
+
+-- link d of a place is one that the cell before is due, ..
+abbrev pub linkDue : Place → ℕ → Bool
+linkDue p d = p .before .owes && between (p .beforeDimension) (p .dimension) d
+
+-- .. which then is this; ..
+abbrev pub dueLink : ℕ → ℕ → Place → ℕ → ℕ
+dueLink b D p d = firstSharing b D (p .before .key) d (p .entry ∷ p .later)
+
+-- .. or one that the cell itself owes
+abbrev pub linkOwing : ℕ → ℕ → Place → ℕ → Bool
+linkOwing b D p d = p .entry .owes && between (low p) (high b D p) d
+
+-- the link, where it is known whether it is the one or the other
+pub link-tested : (b D : ℕ) (p : Place) (d : ℕ) {t u : Bool} → linkDue p d ≡ t → linkOwing b D p d ≡ u → link b D p d ≡ cond t (dueLink b D p d) (cond u 0 (settledLink b D p d))
 unfolding link
-link-settled b D p d h e =
-    ap (λ t. cond t (firstSharing b D (p .before .key) d (p .entry ∷ p .later)) (cond (p .entry .owes && between (low p) (high b D p) d) 0 (settledLink b D p d)))
-    (ap (λ t. p .before .owes && t) (between-not (p .beforeDimension) (p .dimension) d h) ∙ and-false (p .before .owes))
-    ∙ ap (λ t. cond t 0 (settledLink b D p d)) e
+link-tested b D p d e f = ap₂ (λ t u. cond t (dueLink b D p d) (cond u 0 (settledLink b D p d))) e f
+
+-- from the dimension up the cell before is due nothing
+pub undue-above : (p : Place) (d : ℕ) → p .dimension ≤ d → linkDue p d ≡ false
+undue-above p d h = ap (λ t. p .before .owes && t) (between-not (p .beforeDimension) (p .dimension) d h) ∙ and-false (p .before .owes)
+
+-- link d from the dimension up is settled, if it is not one that the cell owes
+pub link-settled : (b D : ℕ) (p : Place) (d : ℕ) → p .dimension ≤ d → linkOwing b D p d ≡ false → link b D p d ≡ settledLink b D p d
+link-settled b D p d h e = link-tested b D p d (undue-above p d h) e
 
 -- below the dimension, where the cell before owes, link d is what that one is due
-link-due : (b D : ℕ) (p : Place) (d : ℕ) → p .before .owes ≡ true → p .beforeDimension ≤ d → d < p .dimension →
-    link b D p d ≡ firstSharing b D (p .before .key) d (p .entry ∷ p .later)
-unfolding link
-link-due b D p d e h l =
-    ap (λ t. cond t (firstSharing b D (p .before .key) d (p .entry ∷ p .later)) (cond (p .entry .owes && between (low p) (high b D p) d) 0 (settledLink b D p d)))
-    (ap (λ t. t && between (p .beforeDimension) (p .dimension) d) e ∙ between-is (p .beforeDimension) (p .dimension) d h l)
+link-due : (b D : ℕ) (p : Place) (d : ℕ) → p .before .owes ≡ true → p .beforeDimension ≤ d → d < p .dimension → link b D p d ≡ dueLink b D p d
+link-due b D p d e h l = link-tested b D p d (and-both (p .before .owes) (between (p .beforeDimension) (p .dimension) d) e (between-is (p .beforeDimension) (p .dimension) d h l)) refl
 
 -- from the dimension up, the settled link is not cut off
 pub settled-above : (b D : ℕ) (p : Place) (d : ℕ) → p .dimension ≤ d → settledLink b D p d ≡ firstSharing b D (p .entry .key) d (p .later)
@@ -145,27 +167,38 @@ settled-above b D p d h = rw (le-leb (p .dimension) d h) refl
 
 -- Links as they are read.
 
-read-own : (ws : List ℕ) (x d : ℕ) → owedAt ws x ≡ 0 → linkRead ws x d ≡ linkAt ws x d
-unfolding linkRead
-read-own ws x d e = rw (eq-eqb (owedAt ws x) 0 e) refl
+module _ (ws : List ℕ) (x d : ℕ) where
+  -- link d of x is one that x owes, by its words
+  abbrev owedThere : Bool
+  owedThere = not (eqb (owedAt ws x) 0) && between (lowAt ws x) (highAt ws x) d
 
-read-outside : (ws : List ℕ) (x d : ℕ) → highAt ws x ≤ d → linkRead ws x d ≡ linkAt ws x d
-unfolding linkRead
-read-outside ws x d h =
-    ap (λ t. linkAt ws (cond t (owedAt ws x) x) d)
-    (ap (λ t. not (eqb (owedAt ws x) 0) && t) (between-not (lowAt ws x) (highAt ws x) d h) ∙ and-false (not (eqb (owedAt ws x) 0)))
+  pub read-own : owedThere ≡ false → linkRead ws x d ≡ linkAt ws x d
+  unfolding linkRead
+  read-own e = ap (λ t. linkAt ws (cond t (owedAt ws x) x) d) e
 
-read-through : (ws : List ℕ) (x d : ℕ) → 0 < owedAt ws x → lowAt ws x ≤ d → d < highAt ws x → linkRead ws x d ≡ linkAt ws (owedAt ws x) d
-unfolding linkRead
-read-through ws x d o h l =
-    ap (λ t. linkAt ws (cond (not t && between (lowAt ws x) (highAt ws x) d) (owedAt ws x) x) d) (ne-eqb (owedAt ws x) 0 (λ e. omega arith))
-    ∙ ap (λ t. linkAt ws (cond t (owedAt ws x) x) d) (between-is (lowAt ws x) (highAt ws x) d h l)
+  pub read-owed : owedThere ≡ true → linkRead ws x d ≡ linkAt ws (owedAt ws x) d
+  unfolding linkRead
+  read-owed e = ap (λ t. linkAt ws (cond t (owedAt ws x) x) d) e
+
+  pub read-unowing : owedAt ws x ≡ 0 → linkRead ws x d ≡ linkAt ws x d
+  read-unowing e = read-own (ap (λ t. not t && between (lowAt ws x) (highAt ws x) d) (eq-eqb (owedAt ws x) 0 e))
+
+  pub read-below : d < lowAt ws x → linkRead ws x d ≡ linkAt ws x d
+  read-below h =
+      read-own
+      (ap (λ t. not (eqb (owedAt ws x) 0) && t) (between-out (lowAt ws x) (highAt ws x) d (λ k l. omega arith)) ∙ and-false (not (eqb (owedAt ws x) 0)))
+
+  pub read-above : highAt ws x ≤ d → linkRead ws x d ≡ linkAt ws x d
+  read-above h = read-own (ap (λ t. not (eqb (owedAt ws x) 0) && t) (between-not (lowAt ws x) (highAt ws x) d h) ∙ and-false (not (eqb (owedAt ws x) 0)))
+
+  pub read-through : 0 < owedAt ws x → lowAt ws x ≤ d → d < highAt ws x → linkRead ws x d ≡ linkAt ws (owedAt ws x) d
+  read-through o h l = owed-link-is-read-there ws x d (λ e. omega arith) h l
 
 -- a cell that owes nothing
 link-read-free : (ws : List ℕ) (b D : ℕ) (p : Place) → Held ws b D p → p .entry .owes ≡ false → (d : ℕ) → p .dimension ≤ d → d < D →
     linkRead ws (p .entry .cell) d ≡ settledLink b D p d
 link-read-free ws b D p held e d h l =
-    read-own ws (p .entry .cell) d (held .owed ∙ ap (λ t. cond t (firstOf (p .later) .cell) 0) e)
+    read-unowing ws (p .entry .cell) d (held .owed ∙ ap (λ t. cond t (firstOf (p .later) .cell) 0) e)
     ∙ held .link d l
     ∙ link-settled b D p d h (ap (λ t. t && between (low p) (high b D p) d) e)
 
@@ -183,7 +216,7 @@ link-read-owing ws b D p c later is held next o pos d h l =
         high b D p ≡ shared b D (p .entry .key) (c .key) → linkRead ws (p .entry .cell) d ≡ settledLink b D p d
     go (yes m) is-owed is-low is-high =
         let is-read = held .high in
-        read-outside ws (p .entry .cell) d (omega arith)
+        read-above ws (p .entry .cell) d (omega arith)
         ∙ held .link d l
         ∙ link-settled b D p d h (ap (λ t. p .entry .owes && t) (between-not (low p) (high b D p) d (omega arith)) ∙ and-false (p .entry .owes))
     go (no m) is-owed is-low is-high =
@@ -234,7 +267,7 @@ module _ (ws : List ℕ) (b D : ℕ) where
 
 module _ (s : State) (v : Sound s) where
   pub places-read : All (Read (picture s) (s .settings .base) (s .settings .dimensions)) (places (s .settings .base) (s .settings .dimensions) (s .row))
-  places-read = reads (picture s) (s .settings .base) (s .settings .dimensions) (s .row) (places-held s v) (v .debts) (all-map (λ x h. h .0) (s .row) (row-cells s v))
+  places-read = reads (picture s) (s .settings .base) (s .settings .dimensions) (s .row) (places-held s v) (v .debts) (all-map (λ x h. h .0) (s .row) (row-range s v))
 
   pub key-read : All (λ p. keyAt (picture s) (p .entry .cell) ≡ p .entry .key) (places (s .settings .base) (s .settings .dimensions) (s .row))
   key-read = all-map (λ p h. h .key) (places (s .settings .base) (s .settings .dimensions) (s .row)) (places-held s v)
@@ -252,4 +285,10 @@ module _ (s : State) (v : Sound s) where
 
   pub row-key-read : All (λ x. keyAt (picture s) (x .cell) ≡ x .key) (s .row)
   unfolding places
-  row-key-read = entries-of-places (λ x. keyAt (picture s) (x .cell) ≡ x .key) (s .settings .base) (s .settings .dimensions) headEntry 0 (s .row) (key-read .1)
+  row-key-read = row-of-places (λ x. keyAt (picture s) (x .cell) ≡ x .key) (s .settings .base) (s .settings .dimensions) headEntry 0 (s .row) (key-read .1)
+
+  pub row-mark-read : All (λ x. markAt (picture s) (x .cell) ≡ mark (x .live)) (s .row)
+  unfolding places
+  row-mark-read =
+      row-of-places (λ x. markAt (picture s) (x .cell) ≡ mark (x .live)) (s .settings .base) (s .settings .dimensions) headEntry 0 (s .row)
+      (all-map (λ p h. h .mark) (placesAfter (s .settings .base) (s .settings .dimensions) headEntry 0 (s .row)) (places-held s v .1))

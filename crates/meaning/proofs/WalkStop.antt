@@ -23,10 +23,10 @@ use Rattle.meaning.proofs.Order.{All, Asc, all-map, asc-above}
 use Rattle.meaning.proofs.Keys.{shared-less}
 use Rattle.meaning.proofs.State.{Sound, base-positive, base-above}
 use Rattle.meaning.proofs.Cells.{all-zip}
-use Rattle.meaning.proofs.Picture.{place-found}
+use Rattle.meaning.proofs.Picture.{place-found, picture-dimensions, picture-base}
 use Rattle.meaning.proofs.Places.{places-entries}
 use Rattle.meaning.proofs.RowWalk.{Next, Stop, next}
-use Rattle.meaning.proofs.WalkRead.{Read, dimensions-read, base-read}
+use Rattle.meaning.proofs.WalkRead.{Read}
 use Rattle.meaning.proofs.Walk.{Room, room-none, room-up, move-room, move-shares, along-go, StandingPlace, place-up, place-top, place-over, place-along, head-read, others-standing}
 
 pub rest-looked-from : (fuel : ℕ) (ws : List ℕ) (k from number x d n : ℕ) → restFrom fuel ws k from number x d n .looked ≡ n + length (walkFrom fuel ws k x d)
@@ -165,11 +165,11 @@ entry-between b D k x later a =
     entry-none k later (all-map (λ y f q. let more = f (omega arith) in let same = ap (λ z. shared b D x z) q in omega arith) later a)
 
 -- each entry of an ascending row is found by its key
-entries-found : (key : ℕ) (row : List Entry) → Asc key row → All (λ x. entryAt (x .key) row ≡ some x) row
-entries-found key [] asc = tt
-entries-found key (x ∷ row) asc = (
+pub entry-found : (key : ℕ) (row : List Entry) → Asc key row → All (λ x. entryAt (x .key) row ≡ some x) row
+entry-found key [] asc = tt
+entry-found key (x ∷ row) asc = (
   entry-here x row,
-  all-zip (λ y l e. entry-past (y .key) x row (λ q. omega arith) ∙ e) row (asc-above (x .key) row (asc .1)) (entries-found (x .key) row (asc .1)),
+  all-zip (λ y l e. entry-past (y .key) x row (λ q. omega arith) ∙ e) row (asc-above (x .key) row (asc .1)) (entry-found (x .key) row (asc .1)),
 )
 
 -- what stands at k stands after each place below k
@@ -332,7 +332,7 @@ module _ (s : State) (v : Sound s) (k : ℕ) (least : 1 ≤ k) (most : k ≤ s .
       in
       let keyed : All (λ p. (entryAt (p .entry .key) (s .row) ≡ some (p .entry)) × (p .entry .key < k → entryAt k (s .row) ≡ entryAt k (p .later))) others =
       all-zip (λ p f g. (f, g)) others
-      (places-entries (λ x. entryAt (x .key) (s .row) ≡ some x) b D headEntry 0 (s .row) (entries-found 0 (s .row) (v .ascends)))
+      (places-entries (λ x. entryAt (x .key) (s .row) ≡ some x) b D headEntry 0 (s .row) (entry-found 0 (s .row) (v .ascends)))
       (entries-passed b D k (s .row) headEntry 0 (s .row) (λ h. refl) (v .ascends))
       in
       all-zip (λ p f g. record { standing = f .0; found = f .1; entry = g .0; passed = g .1 }) others held keyed
@@ -347,5 +347,5 @@ module _ (s : State) (v : Sound s) (k : ℕ) (least : 1 ≤ k) (most : k ≤ s .
       let D = s .settings .dimensions in
       let h = v .dimensions-least in
       let above = base-above s v in
-      rest-below (picture s) b D k (dimensions-read s) (base-read s) (base-positive s v) (omega arith) (omega arith) (s .row) (D * b) (headPlace (s .row))
+      rest-below (picture s) b D k (picture-dimensions s) (picture-base s) (base-positive s v) (omega arith) (omega arith) (s .row) (D * b) (headPlace (s .row))
       (head-read s v) (place-found s v .0) refl others-stand (omega arith) (v .ascends) 0 (omega arith) (omega arith) (omega arith) 0 0 0

@@ -18,9 +18,8 @@ use Rattle.meaning.specs.Paths.{pathFor, pathAlong}
 use Rattle.meaning.specs.Stores.{writePath}
 use Rattle.meaning.proofs.Order.{all-map, asc-above}
 use Rattle.meaning.proofs.State.{Sound, valid-sound, sound-valid, base-positive}
-use Rattle.meaning.proofs.Picture.{path-length}
+use Rattle.meaning.proofs.Picture.{path-length, picture-dimensions}
 use Rattle.meaning.proofs.Walk.{walk-ends}
-use Rattle.meaning.proofs.WalkRead.{dimensions-read}
 use Rattle.meaning.proofs.Stores.{path-sets-header}
 use Rattle.meaning.proofs.Changed.{path-rewritten}
 use Rattle.meaning.proofs.SentencesCells.{Placed, placed-entry, placed-cell, placed-keyOf, placed-below, place-key, occurs-placed}
@@ -57,7 +56,7 @@ module _ {ws : List ℕ} {s : Settings} {x : ℕ} {t : State} (h : StandsIn ws s
   stands-alike : Alike ws (picture t)
   stands-alike =
       let first : getD ws 0 0 ≡ t .settings .dimensions =
-      sym (path-sets-header ws (path t) 0 (omega arith)) ∙ ap (λ l. getD l 0 0) (sym (h .words)) ∙ dimensions-read t
+      sym (path-sets-header ws (path t) 0 (omega arith)) ∙ ap (λ l. getD l 0 0) (sym (h .words)) ∙ picture-dimensions t
       in
       subst (Alike ws) (sym (h .words)) (path-alike ws (path t) (path-length t ∙ sym first))
 

@@ -5,7 +5,7 @@ use mathlib.Core.Bool.{false}
 use mathlib.Core.List.{List, [], _∷_, _++_, map}
 use Prim.Native.Nat.{ℕ, zero, suc, _-_, _<_}
 use native.Mathlib.Omega.{arith}
-use lib.ListN.{length, getD, replicate, length-append, length-map}
+use lib.ListN.{length, getD, replicate, length-map}
 use lib.Seq.{append-snoc}
 use Rattle.settings.specs.declared.Settings.{Settings}
 use Rattle.meaning.specs.Keys.{coordinate, shared}
@@ -13,7 +13,6 @@ use Rattle.meaning.specs.Row.{Entry, headEntry}
 use Rattle.meaning.specs.State.{State}
 use Rattle.meaning.specs.Picture.{picture}
 use Rattle.meaning.specs.Reading.{read, Listed}
-use Rattle.meaning.specs.Words.{keyAt}
 use Rattle.meaning.specs.Operations.{paid, finished, withRow, deadFront, fromLive, lastOf, freedBy, swept}
 use Rattle.meaning.specs.Stores.{finishWords}
 use Rattle.meaning.specs.SweepStores.{Target, finishAll, cellsBefore, dropFront}
@@ -21,18 +20,17 @@ use Rattle.meaning.proofs.Order.{All, all-map}
 use Rattle.meaning.proofs.State.{Sound, base-positive}
 use Rattle.meaning.proofs.Cells.{Distinct, free-length}
 use Rattle.meaning.proofs.Places.{all-at, all-mapped, lastFrom}
-use Rattle.meaning.proofs.Keeps.{cell-alone, cells-positive, row-split}
+use Rattle.meaning.proofs.Keeps.{cell-alone, cells-positive}
 use Rattle.meaning.proofs.KeepsFinish.{finished-sound}
-use Rattle.meaning.proofs.KeepsSweep.{keptBy, swept-split}
 use Rattle.meaning.proofs.Reading.{read-of-picture, picture-is-list}
-use Rattle.meaning.proofs.WalkRead.{dimensions-read}
 use Rattle.meaning.proofs.SentencesCells.{place-key, place-coordinate, placed-below}
 use Rattle.meaning.proofs.SentencesShape.{HasPlace, row-placed, key-below}
 use Rattle.meaning.proofs.PathNext.{wayTo, PathOf, head-on-way, way-next, way-end, way-on}
 use Rattle.meaning.proofs.SweepStores.{Dropping}
 use Rattle.meaning.proofs.SweepFinish.{finish-cell, paid-unowing, finish-all, paid-sound, paid-owes-nothing}
 use Rattle.meaning.proofs.SweepWords.{swept-front, sweptNumber, sweptZeros, sweptPath, swept-dropping, unowing-swept}
-use Rattle.meaning.proofs.SweepTarget.{before-here, before-past, target-is, freed-is}
+use Rattle.meaning.proofs.Picture.{picture-dimensions}
+use Rattle.meaning.proofs.SweepTarget.{before-here, before-past, target-is, freed-is, front-below, freed-below, target-key-read}
 use Rattle.paths.specs.Paths.{PathIn}
 use Rattle.paths.proofs.Listed.{listed-walkable}
 use Rattle.words.proofs.Listed.{picture-shaped, on-listed}
@@ -106,13 +104,13 @@ module _ (t : State) (v : Sound t) where
       cellsBefore fuel (picture t) 0 (wayTo t front) ≡ map (λ y. y .cell) later
   before-all zero front later split h = absurd (omega arith)
   before-all (suc fuel) front [] split h =
-      before-here (picture t) (t .settings .dimensions) (dimensions-read t) fuel 0 (wayTo t front) 0 (way-end v (record { split = split; is = refl }))
+      before-here (picture t) (t .settings .dimensions) (picture-dimensions t) fuel 0 (wayTo t front) 0 (way-end v (record { split = split; is = refl }))
   before-all (suc fuel) front (y ∷ later) split h =
       let b = t .settings .base in
       let D = t .settings .dimensions in
       let here : PathOf t (wayTo t front) front (y ∷ later) = record { split = split; is = refl } in
       let other = cell-alone t v front y later split .standing in
-      before-past (picture t) D (dimensions-read t) fuel 0 (wayTo t front) (y .cell) (shared b D (lastFrom headEntry front .key) (y .key))
+      before-past (picture t) D (picture-dimensions t) fuel 0 (wayTo t front) (y .cell) (shared b D (lastFrom headEntry front .key) (y .key))
       (way-next v here) (λ e. omega arith)
       ∙ ap {B = List ℕ} (λ path. y .cell ∷ cellsBefore fuel (picture t) 0 path) (way-on v here .is)
       ∙ ap {B = List ℕ} (λ cells. y .cell ∷ cells)
@@ -135,30 +133,19 @@ listed-reaches = on-listed (λ t ws s. Reaches ws s 0 (replicate (s .dimensions)
 module _ (t : State) (v : Sound t) where
   pub target-read :
       sweptTo (picture t) (t .settings) ≡ record { cell = lastOf (deadFront (t .row)) .cell; number = sweptNumber t; path = sweptPath t }
-  target-read =
-      let least = v .cells-least in
-      target-is t v (t .settings .cells)
-      (omega (arith, free-length t v, ap length (row-split (t .row)), length-append (deadFront (t .row)) (fromLive (t .row))))
+  target-read = target-is t v (t .settings .cells) (front-below t v)
 
   module _ (ne : lastOf (deadFront (t .row)) .cell ≡ 0 → ⊥) where
-    freed-below : length (freedBy (t .row)) < t .settings .cells
-    freed-below =
-        let least = v .cells-least in
-        omega (arith, free-length t v, ap length (swept-split (t .row)), length-append (freedBy (t .row)) (keptBy (t .row)))
-
     freed-read : cellsUpTo (picture t) (t .settings) (lastOf (deadFront (t .row)) .cell) ≡ map (λ y. y .cell) (freedBy (t .row))
-    freed-read = freed-is t v (t .settings .cells) freed-below ne
+    freed-read = freed-is t v (t .settings .cells) (freed-below t v) ne
 
     standing-place : HasPlace t (lastOf (deadFront (t .row)))
     standing-place =
         all-at (HasPlace t) (freedBy (t .row)) (lastOf (deadFront (t .row))) (fromLive (t .row))
         (subst (All (HasPlace t)) (swept-front (t .row) ne) (row-placed v))
 
-    key-read : keyAt (picture t) (lastOf (deadFront (t .row)) .cell) ≡ lastOf (deadFront (t .row)) .key
-    key-read = place-key v (standing-place .placed) ∙ ap (λ y. y .key) (standing-place .entry)
-
     zeros-read : zerosOf (picture t) (t .settings) (lastOf (deadFront (t .row)) .cell) ≡ sweptZeros t
-    zeros-read = ap (shared (t .settings .base) (t .settings .dimensions) 0) key-read
+    zeros-read = ap (shared (t .settings .base) (t .settings .dimensions) 0) (target-key-read t v ne)
 
     keyed-read : Keyed (picture t) (t .settings) (lastOf (deadFront (t .row)) .cell)
     keyed-read =
@@ -207,7 +194,7 @@ moves-reaches : {ws : List ℕ} {s : Settings} {t : code.Target} → Moves ws s 
 moves-reaches =
     on-moves (λ u ws s k. Reaches ws s (k .cell) (replicate (s .dimensions) 0))
     (λ u v unowing ne.
-    reaches-over (freed-read u v ne) (omega (arith, freed-below u v ne, length-map (freedBy (u .row)) (λ y. y .cell)))
+    reaches-over (freed-read u v ne) (omega (arith, freed-below u v, length-map (freedBy (u .row)) (λ y. y .cell)))
     (all-map (λ c r. r .0) (map (λ y. y .cell) (freedBy (u .row))) (swept-dropping u v unowing ne .range)))
 
 -- so the front may be dropped

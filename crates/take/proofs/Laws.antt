@@ -22,12 +22,11 @@ use Rattle.meaning.specs.declared.Answer.{Answer}
 use Rattle.meaning.proofs.Order.{All}
 use Rattle.meaning.proofs.State.{Sound}
 use Rattle.meaning.proofs.Cells.{free-length}
-use Rattle.meaning.proofs.Picture.{path-length}
+use Rattle.meaning.proofs.Picture.{path-length, picture-dimensions}
 use Rattle.meaning.proofs.Places.{all-at}
 use Rattle.meaning.proofs.Keeps.{cell-alone, live-split}
 use Rattle.meaning.proofs.SentencesCells.{place-key, place-value}
 use Rattle.meaning.proofs.SentencesShape.{HasPlace, row-placed}
-use Rattle.meaning.proofs.WalkRead.{dimensions-read}
 use Rattle.meaning.proofs.PathNext.{PathOf, position-on-way, way-within}
 use Rattle.meaning.proofs.PathTake.{ahead-end, ahead-here, ahead-past, take-ahead, take-none, taken-path}
 use Rattle.meaning.proofs.TakeWords.{taken-words}
@@ -88,7 +87,7 @@ module _ (t : State) (v : Sound t) where
         record {
           is =
               g .rest ∙ ap (λ f. aheadFrom f ws (pathOf p) passed) fuel
-              ∙ ahead-end ws (s .dimensions) (dimensions-read t) (s .cells - suc passed) (pathOf p) passed (r .number) nowhere;
+              ∙ ahead-end ws (s .dimensions) (picture-dimensions t) (s .cells - suc passed) (pathOf p) passed (r .number) nowhere;
           below = omega (arith, v .cells-least);
           formed = g .path-in .formed;
         }
@@ -100,7 +99,7 @@ module _ (t : State) (v : Sound t) where
           (record {
             is =
                 g .rest ∙ ap (λ f. aheadFrom f ws (pathOf p) passed) fuel
-                ∙ ahead-here ws (s .dimensions) (dimensions-read t) (s .cells - suc passed) (pathOf p) passed (r .cell) (r .number) (n .is) (omega arith) live
+                ∙ ahead-here ws (s .dimensions) (picture-dimensions t) (s .cells - suc passed) (pathOf p) passed (r .cell) (r .number) (n .is) (omega arith) live
                 ∙ ap {B = ahead.Ahead} (λ q. record { cell = r .cell; passed = suc passed; path = q }) (sym (n .way some));
             below = n .below;
             formed = n .path-in .formed;
@@ -112,7 +111,7 @@ module _ (t : State) (v : Sound t) where
           further : aheadFrom (s .cells) ws (pathWords ws (s .dimensions)) 0 ≡ aheadFrom (s .cells - suc passed) ws (pathOf (r .path)) (suc passed)
           further =
               g .rest ∙ ap (λ f. aheadFrom f ws (pathOf p) passed) fuel
-              ∙ ahead-past ws (s .dimensions) (dimensions-read t) (s .cells - suc passed) (pathOf p) passed (r .cell) (r .number) (n .is) (omega arith) dead
+              ∙ ahead-past ws (s .dimensions) (picture-dimensions t) (s .cells - suc passed) (pathOf p) passed (r .cell) (r .number) (n .is) (omega arith) dead
               ∙ ap (λ q. aheadFrom (s .cells - suc passed) ws q (suc passed)) (sym (n .way some))
 
           at : (later : List Entry) → g .later ≡ later → Passing t ws s (r .path) (suc passed)

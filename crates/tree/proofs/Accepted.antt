@@ -4,34 +4,31 @@ use mathlib.Core.Path.{_≡_, refl, sym, _∙_, ap, subst}
 use mathlib.Core.Bool.{Bool, true, false, _&&_, false≢true}
 use mathlib.Core.Logic.{_⊎_, inl, inr}
 use mathlib.Core.List.{List, _∷_, map}
-use Prim.Native.Nat.{ℕ, zero, suc, _+_, _*_, _-_, _/_, _%_, _≤_, _<_}
-use native.Mathlib.Nat.{mod-lt, div-add-mod', div-lt-iff-lt-mul}
-use native.Mathlib.Decide.{decLt}
+use Prim.Native.Nat.{ℕ, suc, _+_, _-_, _≤_, _<_}
 use native.Mathlib.Omega.{arith}
 use lib.ListN.{length, getD, length-append, length-map}
-use lib.Seq.{ext-getD}
 use borrow.Author.Tests.{eqb-true}
-use Rattle.settings.specs.Numbers.{headerWords, cellWords, lengthOf}
+use Rattle.settings.specs.Numbers.{headerWords}
 use Rattle.settings.proofs.Laws.{base-is, base-unique}
 use Rattle.meaning.specs.Row.{headEntry, places}
 use Rattle.meaning.specs.State.{State, positionKey, occurrences}
-use Rattle.meaning.specs.Picture.{wordsOf, firstWith, picture}
+use Rattle.meaning.specs.Picture.{firstWith, picture, pathWord}
 use Rattle.meaning.specs.Reading.{settingsAt, isList}
-use Rattle.meaning.specs.Words.{wordAt, keyAt, markAt}
+use Rattle.meaning.specs.Words.{keyAt, markAt}
 use Rattle.meaning.proofs.Order.{All, Asc, both, all-map, all-append}
 use Rattle.meaning.proofs.State.{Sound, cellsIn}
-use Rattle.meaning.proofs.Cells.{Distinct, all-zip, occurrences-here}
-use Rattle.meaning.proofs.Places.{all-mapped, occurrences-more}
-use Rattle.meaning.proofs.Picture.{shownWords, picture-length, picture-path, picture-word, places-cells, place-found, free-found}
+use Rattle.meaning.proofs.Cells.{Distinct, occurrences-here}
+use Rattle.meaning.proofs.Places.{occurrences-more}
 use Rattle.meaning.proofs.Reading.{picture-is-list}
+use Rattle.meaning.proofs.SentencesCells.{held-picture}
 use Rattle.tree.specs.Tree.{positionWord, headRight, headerRight, atHead, chainRight, seenAll, accepts}
 use Rattle.tree.proofs.AcceptedTests.{Header, header-right, Head, head-right}
 use Rattle.tree.proofs.AcceptedRun.{Run, head-run}
 use Rattle.tree.proofs.AcceptedKeys.{head-keyed, rowIn, Rising, rising, row-asc}
-use Rattle.tree.proofs.AcceptedWords.{Standing, standing-places, standing-word}
+use Rattle.tree.proofs.AcceptedWords.{Standing, standing-places}
 use Rattle.tree.proofs.AcceptedPath.{Occurs, position-met, path-right, position-key, dead-met, values-met, keys-met}
-use Rattle.tree.proofs.AcceptedChain.{chainCells, chain-length, chain-free, chain-first, free-mark, free-positive, chain-distinct, free-words}
-use Rattle.tree.proofs.AcceptedCells.{distinct-append, distinct-once, all-occurs, covered, left-met, distinct-met, range-met, marked-met}
+use Rattle.tree.proofs.AcceptedChain.{chainCells, chain-length, chain-free, chain-first, free-mark, free-positive, chain-distinct, free-held}
+use Rattle.tree.proofs.AcceptedCells.{distinct-append, distinct-once, left-met, distinct-met, range-met, marked-met}
 
 -- What the check has found of a buffer that it accepts.
 record Checked (ws : List ℕ) : Type 0 where
@@ -155,79 +152,17 @@ module _ (ws : List ℕ) (k : Checked ws) where
 
   -- The buffer is its picture
 
-  -- the words of cell c are those that the picture shows
-  Worded : ℕ → Type 0
-  Worded c = (j : ℕ) → j < cellWords (getD ws 0 0) → getD (shownWords (stateOf ws k) c) j 0 ≡ wordAt ws c j
-
-  standing-worded : All Worded (0 ∷ map (λ x. x .cell) (stateOf ws k .row))
-  unfolding Worded wordsOf
-  standing-worded =
-      let b = getD ws 3 0 in
-      let D = getD ws 0 0 in
-      let ps = places b D (stateOf ws k .row) in
-      subst (All Worded) (places-cells b D (stateOf ws k .row))
-      (all-mapped Worded (λ p. p .entry .cell) ps
-      (all-zip (λ p found t j l.
-      ap (λ o. getD (wordsOf b D (stateOf ws k .free) (p .entry .cell) o) j 0) found ∙ sym (standing-word ws b D p refl t j l))
-      ps (place-found (stateOf ws k) sound) standing))
-
-  free-worded : All Worded (stateOf ws k .free)
-  unfolding Worded wordsOf
-  free-worded =
-      let b = getD ws 3 0 in
-      let D = getD ws 0 0 in
-      let free = stateOf ws k .free in
-      all-zip (λ c found words j l. ap (λ o. getD (wordsOf b D free c o) j 0) found ∙ sym (words j l))
-      free (free-found (stateOf ws k) sound) (free-words ws (k .head) (seenAll ws .left) (getD ws 4 0) (k .chain))
-
-  -- each cell below C
-  cell-worded : (c : ℕ) → c < getD ws 2 0 → Worded c
-  cell-worded c h =
-      let cells : List ℕ = 0 ∷ cellsIn (stateOf ws k) in
-      let least = k .header .in-range .least-cells in
-      all-occurs Worded c cells (all-append Worded (0 ∷ map (λ x. x .cell) (stateOf ws k .row)) (stateOf ws k .free) standing-worded free-worded)
-      (covered cells (getD ws 2 0) (all-map (λ x r q. let p = r .0 in omega arith) (cellsIn (stateOf ws k)) range, distinct) (omega (arith, count))
-      (omega arith, all-map (λ x r. r .1) (cellsIn (stateOf ws k)) range) c h)
-
-  -- and so the path words
-  path-worded : (d : ℕ) → d < getD ws 0 0 → getD (picture (stateOf ws k)) (headerWords + d) 0 ≡ getD ws (headerWords + d) 0
-  path-worded d l =
-      picture-path (stateOf ws k) d l
-      ∙ ap (λ key. firstWith (getD ws 3 0) (getD ws 0 0) key (suc d) (headEntry ∷ stateOf ws k .row)) key-is
+  path-word : (d : ℕ) → d < getD ws 0 0 → pathWord (stateOf ws k) d ≡ getD ws (headerWords + d) 0
+  path-word d l =
+      ap (λ key. firstWith (getD ws 3 0) (getD ws 0 0) key (suc d) (headEntry ∷ stateOf ws k .row)) key-is
       ∙ sym (path-right ws (k .header .positive) (k .head) (k .run .met) (k .run .trace) rises (k .begins) position-is d l)
-
-  -- and so every word
-  word : (i : ℕ) → i < lengthOf (getD ws 0 0) (getD ws 2 0) → getD (picture (stateOf ws k)) i 0 ≡ getD ws i 0
-  unfolding picture Worded
-  word zero h = refl
-  word (suc zero) h = refl
-  word (suc (suc zero)) h = refl
-  word (suc (suc (suc zero))) h = refl
-  word (suc (suc (suc (suc zero)))) h = sym (chain-first ws (seenAll ws .left) (getD ws 4 0) (k .chain))
-  word (suc (suc (suc (suc (suc i))))) h = at (decLt i (getD ws 0 0))
-    where
-      D : ℕ
-      D = getD ws 0 0
-
-      w : ℕ
-      w = cellWords D
-
-      at : Dec (i < D) → getD (picture (stateOf ws k)) (suc (suc (suc (suc (suc i))))) 0 ≡ getD ws (suc (suc (suc (suc (suc i))))) 0
-      at (yes l) =
-          let there : suc (suc (suc (suc (suc i)))) ≡ headerWords + i = omega arith in
-          rw there (path-worded i l)
-      at (no l) =
-          let c = (i - D) / w in
-          let j = (i - D) % w in
-          let pos : 0 < w = omega arith in
-          let there : suc (suc (suc (suc (suc i)))) ≡ headerWords + D + c * w + j = omega (arith, div-add-mod' (i - D) w) in
-          let hc : c < getD ws 2 0 = div-lt-iff-lt-mul pos .1 (omega arith) in
-          let hj : j < w = mod-lt (i - D) pos in
-          rw there (picture-word (stateOf ws k) c j hc hj ∙ cell-worded c hc j hj)
 
   picture-is : picture (stateOf ws k) ≡ ws
   picture-is =
-      ext-getD 0 (picture (stateOf ws k)) ws (picture-length (stateOf ws k) ∙ sym (k .header .size)) (λ i h. word i (omega (arith, picture-length (stateOf ws k))))
+      held-picture ws (stateOf ws k .row) (stateOf ws k .free) (positionWord ws) sound (k .header .size)
+      (sym (chain-first ws (seenAll ws .left) (getD ws 4 0) (k .chain))) path-word
+      (all-map (λ p t. t .held) (places (getD ws 3 0) (getD ws 0 0) (stateOf ws k .row)) standing)
+      (free-held ws (k .head) (seenAll ws .left) (getD ws 4 0) (k .chain))
 
 pub accepts-list : (ws : List ℕ) → accepts ws ≡ true → isList ws ≡ true
 accepts-list ws e =

@@ -3,17 +3,17 @@
 use mathlib.Core.Path.{_≡_, refl, sym, _∙_, ap, subst}
 use mathlib.Core.Bool.{Bool, true, false, cond, false≢true}
 use mathlib.Core.List.{List, [], _∷_}
-use Prim.Native.Nat.{ℕ, zero, suc, _+_, _*_, _≤_, _<_}
+use Prim.Native.Nat.{ℕ, zero, suc, _≤_, _<_}
 use native.Mathlib.Decide.{ℕ-discrete}
 use native.Mathlib.Omega.{arith}
-use lib.ListN.{length, getD, getD-replicate}
+use lib.ListN.{length}
 use borrow.Author.Tests.{eqb-true}
-use Rattle.settings.specs.Numbers.{cellWords}
-use Rattle.meaning.specs.Picture.{firstNumber, nextFree, freeWords}
+use Rattle.meaning.specs.Picture.{firstNumber, nextFree}
 use Rattle.meaning.specs.Words.{wordAt, markAt}
 use Rattle.meaning.proofs.Order.{All, all-map}
 use Rattle.meaning.proofs.Cells.{Distinct, all-zip}
 use Rattle.meaning.proofs.Reading.{Follow, distinct-follow}
+use Rattle.meaning.proofs.SentencesCells.{FreeHeld}
 use Rattle.tree.specs.Tree.{freeRight, chainRight}
 use Rattle.tree.proofs.AcceptedTests.{Head, Free, free-right}
 
@@ -105,15 +105,8 @@ leads-next : (ws free cs : List ℕ) → Follow free cs → Leads ws cs → All 
 leads-next ws free [] f l = tt
 leads-next ws free (c ∷ cs) f l = (l .0 ∙ sym (f .0), leads-next ws free cs (f .1) (l .1))
 
-pub free-words : (ws : List ℕ) → Head ws → (n c : ℕ) → chainRight ws n c ≡ true →
-    All (λ x. (j : ℕ) → j < cellWords (getD ws 0 0) → wordAt ws x j ≡ getD (freeWords (getD ws 0 0) (nextFree x (chainCells ws n c))) j 0) (chainCells ws n c)
-unfolding freeWords
-free-words ws head n c e =
+pub free-held : (ws : List ℕ) → Head ws → (n c : ℕ) → chainRight ws n c ≡ true → All (FreeHeld ws (chainCells ws n c)) (chainCells ws n c)
+free-held ws head n c e =
     let free = chainCells ws n c in
-    all-zip (λ x f q j l. at x f q j l) free (chain-free ws n c e)
+    all-zip (λ x f next. record { next = next; rest = f .blank }) free (chain-free ws n c e)
     (leads-next ws free free (distinct-follow free (chain-distinct ws head n c e)) (chain-leads ws n c e))
-  where
-    at : (x : ℕ) → Free ws x → wordAt ws x 0 ≡ nextFree x (chainCells ws n c) → (j : ℕ) → j < cellWords (getD ws 0 0) →
-        wordAt ws x j ≡ getD (freeWords (getD ws 0 0) (nextFree x (chainCells ws n c))) j 0
-    at x f q zero l = q
-    at x f q (suc j) l = f .blank (suc j) (omega arith) l ∙ sym (getD-replicate {A = ℕ} (5 + 2 * getD ws 0 0) j 0 0 (omega arith))

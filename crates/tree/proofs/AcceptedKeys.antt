@@ -2,38 +2,31 @@
 -- has the larger key, and shares with it as many coordinates as the number says by which it was met. In a row that rises so, the cell
 -- that link d leads to is the first that shares exactly d coordinates.
 use mathlib.Core.Path.{_≡_, refl, sym, _∙_, ap}
-use mathlib.Core.Bool.{true, not}
+use mathlib.Core.Bool.{true}
 use mathlib.Core.List.{List, [], _∷_, map}
 use Prim.Native.Nat.{ℕ, suc, _+_, _*_, _^_, _≤_, _<_, min}
 use native.Mathlib.Nat.{mul-le-mul-right}
 use native.Mathlib.Decide.{ℕ-discrete, decLt}
 use native.Mathlib.Omega.{arith}
-use lib.Dec.{eqb, ltb}
+use lib.Dec.{eqb}
 use lib.ListN.{length, getD, drop, length-take, length-drop}
 use lib.Seq.{getD-take, getD-drop}
-use borrow.Author.Tests.{ltb-true, eqb-true, eq-eqb, ne-eqb}
+use borrow.Author.Tests.{eqb-true}
 use Rattle.settings.specs.Numbers.{fieldsBeforeCoordinates, cellWords}
 use Rattle.meaning.specs.Keys.{coordinate, shared}
 use Rattle.meaning.specs.Row.{Entry, firstSharing}
-use Rattle.meaning.specs.Words.{place, keyAt, valueAt, markAt, owedAt, coordinateAt}
+use Rattle.meaning.specs.Words.{place, keyAt, coordinateAt}
 use Rattle.meaning.proofs.Order.{All, Asc, both}
-use Rattle.meaning.proofs.Keys.{shared-same, shared-sym, ultra, coordinate-head, coordinate-same, coordinate-less, coordinate-other, hornerFrom, horner, horner-coordinates}
+use Rattle.meaning.proofs.Keys.{shared-same, ultra, coordinate-head, coordinate-other, coordinate-larger, shared-stop}
+use Rattle.meaning.proofs.Parent.{sharing-skips, sharing-hits, sharing-above}
+use Rattle.meaning.proofs.ConverseRow.{entryIn}
 use Rattle.tree.specs.declared.Seen.{Seen}
 use Rattle.tree.specs.Tree.{written, coordinateWords, allBelow, writesKey}
+use Rattle.tree.proofs.Written.{allBelow-all, written-coordinates}
 use Rattle.tree.proofs.AcceptedTests.{Header, Head}
 use Rattle.tree.proofs.AcceptedRun.{Met, next, next-past, next-here, next-none, seen, Trace}
 
 -- Coordinate words
-
-written-horner : (b n : ℕ) (xs : List ℕ) → hornerFrom b n xs ≡ written b n xs
-unfolding written hornerFrom
-written-horner b n [] = refl
-written-horner b n (x ∷ xs) = written-horner b (n * b + x) xs
-
-below-all : (b : ℕ) (xs : List ℕ) → allBelow b xs ≡ true → All (λ x. x < b) xs
-unfolding allBelow
-below-all b [] e = tt
-below-all b (x ∷ xs) e = let t = both (ltb x b) (allBelow b xs) e in (ltb-true x b (t .0), below-all b xs (t .1))
 
 -- the words of a cell are words of the buffer
 pub cell-fits : (ws : List ℕ) → Header ws → (c j : ℕ) → c < getD ws 2 0 → j ≤ cellWords (getD ws 0 0) → place (getD ws 0 0) c j ≤ length ws
@@ -61,13 +54,13 @@ coordinate-words-length ws header c inside =
     length-take D (drop from ws) ∙ omega (arith, length-drop from ws)
 
 pub cell-keyed : (ws : List ℕ) → Header ws → (c : ℕ) → c < getD ws 2 0 → writesKey ws c ≡ true → Keyed ws c
-unfolding writesKey horner
+unfolding writesKey
 cell-keyed ws header c inside e =
     let b = getD ws 3 0 in
     let words = coordinateWords ws c in
     let t = both (allBelow b words) (eqb (written b 0 words) (keyAt ws c)) e in
-    let k = horner-coordinates b (getD ws 0 0) (keyAt ws c) words (coordinate-words-length ws header c inside) (below-all b words (t .0))
-    (written-horner b 0 words ∙ eqb-true (written b 0 words) (keyAt ws c) (t .1)) in
+    let k = written-coordinates b (getD ws 0 0) (keyAt ws c) words (coordinate-words-length ws header c inside) (allBelow-all b words (t .0))
+    (eqb-true (written b 0 words) (keyAt ws c) (t .1)) in
     record { below = k .1; coordinate = λ d l. coordinate-word ws c d l ∙ ap (λ xs. getD xs d 0) (sym (k .0)) }
 
 pub head-keyed : (ws : List ℕ) → Header ws → Head ws → Keyed ws 0
@@ -82,30 +75,19 @@ head-keyed ws header head =
 -- keys whose coordinates are equal below e, and at e the second's is larger
 first-other : (b D x y e : ℕ) → 0 < b → e < D → x < b ^ D → y < b ^ D → ((d : ℕ) → d < e → coordinate b D y d ≡ coordinate b D x d) →
     coordinate b D x e < coordinate b D y e → (x < y) × (shared b D x y ≡ e)
-first-other b D x y e pos inside hx hy same less = (at (decLt x y), is)
+first-other b D x y e pos inside hx hy same less = (coordinate-larger b D x y e pos hx hy (omega (arith, is)) less, is)
   where
     ne : x ≡ y → ⊥
     ne q = omega (arith, less, ap (λ k. coordinate b D k e) q)
 
     is : shared b D x y ≡ e
-    is = go (decLt (shared b D x y) e) (decLt e (shared b D x y))
+    is = go (decLt (shared b D x y) e)
       where
-        go : Dec (shared b D x y < e) → Dec (e < shared b D x y) → shared b D x y ≡ e
-        go (yes h) k = absurd (coordinate-other b D x y pos hx hy ne (sym (same (shared b D x y) h)))
-        go (no h) (yes k) = absurd (omega (arith, less, coordinate-same b D x y e k))
-        go (no h) (no k) = omega (arith, h, k)
-
-    at : Dec (x < y) → x < y
-    at (yes h) = h
-    at (no h) =
-        let other = coordinate-less b D y x pos hy hx (omega (arith, h, ne)) in
-        absurd (omega (arith, less, rw (shared-sym b D y x ∙ is) at other))
+        go : Dec (shared b D x y < e) → shared b D x y ≡ e
+        go (yes h) = absurd (coordinate-other b D x y pos hx hy ne (sym (same (shared b D x y) h)))
+        go (no h) = shared-stop b D x y e (omega (arith, h)) (λ q. omega (arith, less, q))
 
 -- The row
-
--- the entry that the words of cell c hold
-abbrev pub entryIn : List ℕ → ℕ → Entry
-entryIn ws c = record { cell = c; key = keyAt ws c; value = valueAt ws c; live = eqb (markAt ws c) 1; owes = not (eqb (owedAt ws c) 0) }
 
 abbrev pub rowIn : List ℕ → List Met → List Entry
 rowIn ws met = map (λ m. entryIn ws (m .cell)) met
@@ -137,28 +119,7 @@ rising ws header s (m ∷ met) keyed t levels =
 
 -- The first that shares d coordinates
 
-sharing-here : (b D key d : ℕ) (y : Entry) (later : List Entry) → shared b D key (y .key) ≡ d → firstSharing b D key d (y ∷ later) ≡ y .cell
-unfolding firstSharing
-sharing-here b D key d y later e = rw (eq-eqb (shared b D key (y .key)) d e) refl
-
-sharing-past : (b D key d : ℕ) (y : Entry) (later : List Entry) → (shared b D key (y .key) ≡ d → ⊥) → firstSharing b D key d (y ∷ later) ≡ firstSharing b D key d later
-unfolding firstSharing
-sharing-past b D key d y later ne = rw (ne-eqb (shared b D key (y .key)) d ne) refl
-
 module _ (ws : List ℕ) (pos : 0 < getD ws 3 0) where
-  -- none that comes after a cell which shares less than d with x
-  sharing-none : (x p d : ℕ) (met : List Met) → Rising ws p met → keyAt ws x ≤ keyAt ws p → shared (getD ws 3 0) (getD ws 0 0) (keyAt ws x) (keyAt ws p) < d →
-      firstSharing (getD ws 3 0) (getD ws 0 0) (keyAt ws x) d (rowIn ws met) ≡ 0
-  unfolding firstSharing
-  sharing-none x p d [] r h l = refl
-  sharing-none x p d (m ∷ met) r h l =
-      let b = getD ws 3 0 in
-      let D = getD ws 0 0 in
-      let k = r .0 .0 in
-      let u = ultra b D (keyAt ws x) (keyAt ws p) (keyAt ws (m .cell)) pos h (omega arith) in
-      sharing-past b D (keyAt ws x) d (entryIn ws (m .cell)) (rowIn ws met) (λ e. omega arith)
-      ∙ sharing-none x (m .cell) d met (r .1) (omega arith) (omega arith)
-
   -- after a cell p that shares more than d with x, the first that is met by a number of at most d
   sharing-next : (x p d : ℕ) (met : List Met) → Rising ws p met → keyAt ws x ≤ keyAt ws p → d < shared (getD ws 3 0) (getD ws 0 0) (keyAt ws x) (keyAt ws p) →
       firstSharing (getD ws 3 0) (getD ws 0 0) (keyAt ws x) d (rowIn ws met) ≡ next d met
@@ -179,12 +140,12 @@ module _ (ws : List ℕ) (pos : 0 < getD ws 3 0) where
           (d < shared b D (keyAt ws x) (keyAt ws (m .cell)) → firstSharing b D (keyAt ws x) d (rowIn ws met) ≡ next d met) →
           firstSharing b D (keyAt ws x) d (entryIn ws (m .cell) ∷ rowIn ws met) ≡ next d (m ∷ met)
       at (yes k) q is u more =
-          sharing-past b D (keyAt ws x) d (entryIn ws (m .cell)) (rowIn ws met) (λ e. omega arith) ∙ more (omega arith) ∙ sym (next-past d m met k)
+          sharing-skips b D (keyAt ws x) d (entryIn ws (m .cell) ∷ []) (rowIn ws met) ((λ e. omega arith), tt) ∙ more (omega arith) ∙ sym (next-past d m met k)
       at (no k) (yes q) is u more =
-          sharing-here b D (keyAt ws x) d (entryIn ws (m .cell)) (rowIn ws met) (omega arith) ∙ sym (next-here d m met q)
+          sharing-hits b D (keyAt ws x) d (entryIn ws (m .cell)) (rowIn ws met) (omega arith) ∙ sym (next-here d m met q)
       at (no k) (no q) is u more =
-          sharing-past b D (keyAt ws x) d (entryIn ws (m .cell)) (rowIn ws met) (λ e. omega arith)
-          ∙ sharing-none x (m .cell) d met (r .1) (let i = r .0 .0 in omega arith) (omega arith) ∙ sym (next-none d m met (omega arith))
+          sharing-above b D pos (keyAt ws x) d (entryIn ws (m .cell)) (rowIn ws met) (let i = r .0 .0 in omega arith) (row-asc ws (m .cell) met (r .1)) (omega arith)
+          ∙ sym (next-none d m met (omega arith))
 
   -- link d of x
   pub sharing-is-next : (x d : ℕ) (met : List Met) → Rising ws x met → d < getD ws 0 0 → firstSharing (getD ws 3 0) (getD ws 0 0) (keyAt ws x) d (rowIn ws met) ≡ next d met

@@ -17,14 +17,17 @@ use Rattle.meaning.specs.Row.{headEntry}
 use Rattle.meaning.specs.State.{keyOf, occurrences}
 use Rattle.meaning.specs.Picture.{firstWith}
 use Rattle.meaning.specs.Words.{keyAt, valueAt, markAt}
-use Rattle.meaning.proofs.Order.{All}
+use Rattle.meaning.proofs.Order.{All, asc-above}
 use Rattle.meaning.proofs.Keys.{shared-same, ultra}
-use Rattle.meaning.proofs.Cells.{occurrences-here, occurrences-past}
+use Rattle.meaning.proofs.Cells.{occurrences-here, occurrences-past, all-each, all-of-map}
+use Rattle.meaning.proofs.Places.{all-mapped, keyOf-has}
+use Rattle.meaning.proofs.SentencesNumbers.{occurs-has}
+use Rattle.meaning.proofs.ConverseRow.{entryIn}
 use Rattle.tree.specs.declared.Seen.{Seen}
 use Rattle.tree.specs.Tree.{pathRun, agreedAt, positionWord, atHead}
 use Rattle.tree.proofs.AcceptedTests.{either, Head}
 use Rattle.tree.proofs.AcceptedRun.{Met, seen, seenAfter, Trace}
-use Rattle.tree.proofs.AcceptedKeys.{rowIn, Rising}
+use Rattle.tree.proofs.AcceptedKeys.{rowIn, Rising, row-asc}
 
 -- Where the position is
 
@@ -58,13 +61,12 @@ passed-occurs ws s (m ∷ met) e n = at (eqb (m .cell) (positionWord ws)) refl (
 
 -- the key of a cell that is met is larger than that of the cell before
 occurs-above : (ws : List ℕ) (x c : ℕ) (met : List Met) → Rising ws x met → Occurs ws c met → keyAt ws x < keyAt ws c
-unfolding occurrences
-occurs-above ws x c [] r o = absurd (omega arith)
-occurs-above ws x c (m ∷ met) r o = at (occurs-cases ws c m met o) (occurs-above ws (m .cell) c met (r .1))
-  where
-    at : (m .cell ≡ c) ⊎ ((m .cell ≡ c → ⊥) × Occurs ws c met) → (Occurs ws c met → keyAt ws (m .cell) < keyAt ws c) → keyAt ws x < keyAt ws c
-    at (inl e) more = let k = r .0 .0 in omega (arith, ap (keyAt ws) e)
-    at (inr n) more = let k = r .0 .0 in omega (arith, more (n .1))
+occurs-above ws x c met r o =
+    let row = rowIn ws met in
+    occurs-has (λ y. keyAt ws x < keyAt ws y) c (map (λ y. y .cell) row) o
+    (all-mapped (λ y. keyAt ws x < keyAt ws y) (λ y. y .cell) row
+    (all-mapped (λ y. keyAt ws x < keyAt ws (y .cell)) (λ m. entryIn ws (m .cell)) met
+    (all-of-map (λ y. keyAt ws x < y .key) (λ m. entryIn ws (m .cell)) met (asc-above (keyAt ws x) row (row-asc ws x met r)))))
 
 -- Path words
 
@@ -198,13 +200,9 @@ path-right ws pos head met trace rises right (inr o) d l =
 
 -- the key of the position, looked up in the row
 key-met : (ws : List ℕ) (c : ℕ) (met : List Met) → Occurs ws c met → keyOf c (rowIn ws met) ≡ keyAt ws c
-unfolding keyOf occurrences
-key-met ws c [] o = absurd (omega arith)
-key-met ws c (m ∷ met) o = at (occurs-cases ws c m met o) (key-met ws c met)
-  where
-    at : (m .cell ≡ c) ⊎ ((m .cell ≡ c → ⊥) × Occurs ws c met) → (Occurs ws c met → keyOf c (rowIn ws met) ≡ keyAt ws c) → keyOf c (rowIn ws (m ∷ met)) ≡ keyAt ws c
-    at (inl e) more = rw (eq-eqb (m .cell) c e) (ap (keyAt ws) e)
-    at (inr n) more = rw (ne-eqb (m .cell) c (n .0)) (more (n .1))
+key-met ws c met o =
+    keyOf-has (λ key. key ≡ keyAt ws c) c (rowIn ws met) o
+    (all-mapped (λ x. x .cell ≡ c → x .key ≡ keyAt ws c) (λ m. entryIn ws (m .cell)) met (all-each (λ m e. ap (keyAt ws) e) met))
 
 pub position-key : (ws : List ℕ) → Head ws → (met : List Met) → Rising ws 0 met → (positionWord ws ≡ 0) ⊎ Occurs ws (positionWord ws) met →
     keyOf (positionWord ws) (headEntry ∷ rowIn ws met) ≡ keyAt ws (positionWord ws)

@@ -3,40 +3,30 @@
 use mathlib.Core.Path.{_≡_, refl, sym, _∙_, ap, ap₂, subst}
 use mathlib.Core.Bool.{Bool, true, false, cond, _&&_, not, false≢true}
 use mathlib.Core.Logic.{_⊎_, inl, inr}
-use mathlib.Core.List.{List, [], _∷_, _++_, map}
-use Prim.Native.Nat.{ℕ, zero, suc, _+_, _-_, _≤_, _<_}
-use native.Mathlib.Nat.{zero-add}
+use mathlib.Core.List.{List, [], _∷_}
+use Prim.Native.Nat.{ℕ, _-_, _≤_, _<_}
 use native.Mathlib.Decide.{ℕ-discrete, decLe, decLt}
 use native.Mathlib.Omega.{arith}
-use lib.Dec.{eqb, leb, ltb}
-use lib.ListN.{length, getD, List·getD-append}
-use lib.Seq.{getD-append-add}
-use borrow.Author.Tests.{ltb-true, leb-true, le-leb, lt-leb, eq-eqb, ne-eqb, eqb-false, not-true}
-use Rattle.settings.specs.Numbers.{fieldsBeforeCoordinates, cellWords}
-use Rattle.meaning.specs.Keys.{coordinates, coordinate, shared}
+use lib.Dec.{eqb}
+use lib.ListN.{getD}
+use borrow.Author.Tests.{le-leb, lt-leb, eq-eqb, ne-eqb, eqb-false, not-true}
+use Rattle.meaning.specs.Keys.{shared}
 use Rattle.meaning.specs.Row.{headEntry, firstSharing, Place, headPlace, placesAfter, places, settledLink, owed, low, high, between, link}
-use Rattle.meaning.specs.Picture.{numbersFrom, mark, standingWords}
-use Rattle.meaning.specs.Words.{wordAt, keyAt, valueAt, markAt, owedAt, lowAt, highAt, coordinateAt, linkAt}
+use Rattle.meaning.specs.Picture.{mark}
+use Rattle.meaning.specs.Words.{keyAt, valueAt, markAt, owedAt, lowAt, highAt, linkAt}
 use Rattle.meaning.specs.Walk.{linkRead}
 use Rattle.meaning.proofs.Order.{All, both}
-use Rattle.meaning.proofs.Keys.{coordinates-length, coordinate-head}
+use Rattle.meaning.proofs.Keys.{coordinate-head}
 use Rattle.meaning.proofs.State.{Debt}
-use Rattle.meaning.proofs.Blocks.{made-at}
+use Rattle.meaning.proofs.WalkRead.{Held, link-tested, read-own, read-owed, read-unowing, between-facts}
+use Rattle.meaning.proofs.ConverseRow.{entryIn}
 use Rattle.tree.specs.declared.Seen.{Seen}
 use Rattle.tree.specs.Tree.{dueTo, atHead}
 use Rattle.tree.proofs.AcceptedTests.{Owing, Right, Header, Head}
 use Rattle.tree.proofs.AcceptedRun.{Met, next, next-here, next-none, Linked, Links, seen, Trace}
-use Rattle.tree.proofs.AcceptedKeys.{cell-keyed, entryIn, rowIn, Rising, sharing-is-next}
+use Rattle.tree.proofs.AcceptedKeys.{cell-keyed, rowIn, Rising, sharing-is-next}
 
 -- Links read through what is owed
-
-read-own : (ws : List ℕ) (x d : ℕ) → dueTo ws x d ≡ false → linkRead ws x d ≡ linkAt ws x d
-unfolding linkRead
-read-own ws x d e = ap (λ t. linkAt ws (cond t (owedAt ws x) x) d) e
-
-read-due : (ws : List ℕ) (x d : ℕ) → dueTo ws x d ≡ true → linkRead ws x d ≡ linkAt ws (owedAt ws x) d
-unfolding linkRead
-read-due ws x d e = ap (λ t. linkAt ws (cond t (owedAt ws x) x) d) e
 
 -- x owes, and link d is one that it owes
 record Due (ws : List ℕ) (x d : ℕ) : Type 0 where
@@ -46,13 +36,9 @@ record Due (ws : List ℕ) (x d : ℕ) : Type 0 where
 
 due-fact : (ws : List ℕ) (x d : ℕ) → dueTo ws x d ≡ true → Due ws x d
 due-fact ws x d e =
-    let t = both (not (eqb (owedAt ws x) 0)) (between (lowAt ws x) (highAt ws x) d) e in
-    let u = both (leb (lowAt ws x) d) (ltb d (highAt ws x)) (t .1) in
-    record {
-      owes = eqb-false (owedAt ws x) 0 (not-true (eqb (owedAt ws x) 0) (t .0));
-      least = leb-true (lowAt ws x) d (u .0);
-      above = ltb-true d (highAt ws x) (u .1);
-    }
+    let (owes, inside) = both (not (eqb (owedAt ws x) 0)) (between (lowAt ws x) (highAt ws x) d) e in
+    let (least, above) = between-facts (lowAt ws x) (highAt ws x) d inside in
+    record { owes = eqb-false (owedAt ws x) 0 (not-true (eqb (owedAt ws x) 0) owes); least = least; above = above }
 
 due-not : (ws : List ℕ) (x d : ℕ) → highAt ws x ≤ d → dueTo ws x d ≡ false
 due-not ws x d h = at (dueTo ws x d) refl
@@ -130,14 +116,7 @@ placeIn ws a e y dim later = record { entry = entryIn ws y; dimension = dim; bef
 
 -- The words of a standing cell are those of its place, and its debt is one that document 01 allows.
 pub record Standing (ws : List ℕ) (b D : ℕ) (p : Place) : Type 0 where
-  pub key : keyAt ws (p .entry .cell) ≡ p .entry .key
-  pub value : valueAt ws (p .entry .cell) ≡ p .entry .value
-  pub mark : markAt ws (p .entry .cell) ≡ mark (p .entry .live)
-  pub owed : owedAt ws (p .entry .cell) ≡ owed p
-  pub low : lowAt ws (p .entry .cell) ≡ low p
-  pub high : highAt ws (p .entry .cell) ≡ high b D p
-  pub coordinate : (d : ℕ) → d < D → coordinateAt ws (p .entry .cell) d ≡ coordinate b D (p .entry .key) d
-  pub link : (d : ℕ) → d < D → linkAt ws (p .entry .cell) d ≡ link b D p d
+  pub held : Held ws b D p
   pub debt : p .entry .owes ≡ true → Debt b D p
 
 owes-not : (ws : List ℕ) (x : ℕ) → owedAt ws x ≡ 0 → entryIn ws x .owes ≡ false
@@ -209,7 +188,7 @@ module _ (ws : List ℕ) (pos : 0 < getD ws 3 0) (s : Seen) (ea : ℕ) (m : Met)
           linkAt ws (m .cell) d ≡ firstSharing (getD ws 3 0) (getD ws 0 0) (keyAt ws (s .last)) d (entryIn ws (m .cell) ∷ rowIn ws later)
       at (inl c) = absurd (due .owes (c .owed))
       at (inr o) =
-          ap (λ x. linkAt ws x d) (sym (o .owed)) ∙ sym (read-due ws (s .last) d t) ∙ before d (let h = due .least in let k = o .low in omega arith) inside
+          ap (λ x. linkAt ws x d) (sym (o .owed)) ∙ sym (read-owed ws (s .last) d t) ∙ before d (let h = due .least in let k = o .low in omega arith) inside
           ∙ sym (sharing-is-next ws pos (s .last) d (m ∷ later) rises inside)
 
   -- one that the cell itself owes
@@ -235,12 +214,10 @@ module _ (ws : List ℕ) (pos : 0 < getD ws 3 0) (s : Seen) (ea : ℕ) (m : Met)
       at (no h) = rw (lt-leb dim d (omega arith)) (lower (right .below d (omega arith)))
 
   link-word : (dim : ℕ) → dim ≡ m .level → linkAt ws (m .cell) d ≡ link (getD ws 3 0) (getD ws 0 0) (placeIn ws (s .last) ea (m .cell) dim later) d
-  unfolding link
   link-word dim same =
       at (dueTo ws (s .last) d) (dueTo ws (m .cell) d) refl refl
-      ∙ ap₂ (λ q r. cond q (firstSharing b D (keyAt ws (s .last)) d (entryIn ws (m .cell) ∷ rowIn ws later)) (cond r 0 (settledLink b D p d)))
-      (due-before ws (s .last) ea (m .cell) (m .level) dim same before-owes d)
-      (due-own ws (s .last) ea (m .cell) (m .level) dim same later (rises .1) owes d)
+      ∙ sym (link-tested b D p d (sym (due-before ws (s .last) ea (m .cell) (m .level) dim same before-owes d))
+      (sym (due-own ws (s .last) ea (m .cell) (m .level) dim same later (rises .1) owes d)))
     where
       b : ℕ
       b = getD ws 3 0
@@ -273,14 +250,16 @@ unfolding placesAfter
 standing-after ws header s ea [] trace links rises cells levels before before-owes = tt
 standing-after ws header s ea (m ∷ met) trace links rises cells levels before before-owes = (
   record {
-    key = refl;
-    value = refl;
-    mark = mark-word ws s (m .cell) (m .level) (trace .0);
-    owed = debt-owed ws (s .last) ea (m .cell) (m .level) dim (rises .0 .1) met owes;
-    low = debt-low ws (s .last) ea (m .cell) (m .level) dim (rises .0 .1) met owes;
-    high = debt-high ws (s .last) ea (m .cell) (m .level) dim (rises .0 .1) met (rises .1) owes;
-    coordinate = cell-keyed ws header (m .cell) (trace .0 .inside) (trace .0 .writes) .coordinate;
-    link = λ d l. link-word ws (header .positive) s ea m met (trace .0) before before-owes rises (links .0) owes d l dim (rises .0 .1);
+    held = record {
+      key = refl;
+      value = refl;
+      mark = mark-word ws s (m .cell) (m .level) (trace .0);
+      owed = debt-owed ws (s .last) ea (m .cell) (m .level) dim (rises .0 .1) met owes;
+      low = debt-low ws (s .last) ea (m .cell) (m .level) dim (rises .0 .1) met owes;
+      high = debt-high ws (s .last) ea (m .cell) (m .level) dim (rises .0 .1) met (rises .1) owes;
+      coordinate = cell-keyed ws header (m .cell) (trace .0 .inside) (trace .0 .writes) .coordinate;
+      link = λ d l. link-word ws (header .positive) s ea m met (trace .0) before before-owes rises (links .0) owes d l dim (rises .0 .1);
+    };
     debt = debt-allowed ws (s .last) ea (m .cell) (m .level) dim (rises .0 .1) (seen ws m s) met refl (trace .1) (rises .1) owes;
   },
   standing-after ws header (seen ws m s) dim met (trace .1) (links .1) (rises .1) (cells .1) (levels .1)
@@ -306,17 +285,19 @@ standing-head ws pos head met rises linked =
     let b = getD ws 3 0 in
     let D = getD ws 0 0 in
     record {
-      key = head .key;
-      value = head .value;
-      mark = head .mark;
-      owed = head .owed;
-      low = head .low;
-      high = head .high;
-      coordinate = λ d l. head .coordinate d l ∙ sym (coordinate-head b D d);
-      link = λ d l.
-          rw (le-leb 0 d (omega arith))
-          (sym (read-own ws 0 d (ap (λ t. t && between (lowAt ws 0) (highAt ws 0) d) (owes-not ws 0 (head .owed))))
-          ∙ linked d (omega arith) l ∙ sym (sharing-is-next ws pos 0 d met rises l) ∙ ap (λ k. firstSharing b D k d (rowIn ws met)) (head .key));
+      held = record {
+        key = head .key;
+        value = head .value;
+        mark = head .mark;
+        owed = head .owed;
+        low = head .low;
+        high = head .high;
+        coordinate = λ d l. head .coordinate d l ∙ sym (coordinate-head b D d);
+        link = λ d l.
+            rw (le-leb 0 d (omega arith))
+            (sym (read-unowing ws 0 d (head .owed))
+            ∙ linked d (omega arith) l ∙ sym (sharing-is-next ws pos 0 d met rises l) ∙ ap (λ k. firstSharing b D k d (rowIn ws met)) (head .key));
+      };
       debt = λ o. absurd (false≢true o);
     }
 
@@ -331,31 +312,3 @@ standing-places ws header head met trace links rises cells levels linked = (
       (standing-after ws header (atHead ws) 0 met trace links rises cells levels linked
       (clear-next ws 0 0 (record { owed = head .owed; low = head .low; high = head .high }) met)),
 )
-
--- word j of a standing cell
-pub standing-word : (ws : List ℕ) (b D : ℕ) (p : Place) → D ≡ getD ws 0 0 → Standing ws b D p → (j : ℕ) → j < cellWords D → wordAt ws (p .entry .cell) j ≡ getD (standingWords b D p) j 0
-unfolding standingWords
-standing-word ws b D p dims t zero h = t .key
-standing-word ws b D p dims t (suc zero) h = t .value
-standing-word ws b D p dims t (suc (suc zero)) h = t .mark
-standing-word ws b D p dims t (suc (suc (suc zero))) h = t .owed
-standing-word ws b D p dims t (suc (suc (suc (suc zero)))) h = t .low
-standing-word ws b D p dims t (suc (suc (suc (suc (suc zero))))) h = t .high
-standing-word ws b D p dims t (suc (suc (suc (suc (suc (suc j)))))) h = at (decLt j D)
-  where
-    own : List ℕ
-    own = coordinates b D (p .entry .key)
-
-    links : List ℕ
-    links = map (link b D p) (numbersFrom 0 D)
-
-    at : Dec (j < D) → wordAt ws (p .entry .cell) (suc (suc (suc (suc (suc (suc j)))))) ≡ getD (own ++ links) j 0
-    at (yes l) =
-        let there : suc (suc (suc (suc (suc (suc j))))) ≡ fieldsBeforeCoordinates + j = omega arith in
-        ap (wordAt ws (p .entry .cell)) there ∙ t .coordinate j l ∙ sym (List·getD-append own links 0 j (omega (arith, coordinates-length b D (p .entry .key))))
-    at (no l) =
-        let there : suc (suc (suc (suc (suc (suc j))))) ≡ fieldsBeforeCoordinates + getD ws 0 0 + (j - D) = omega arith in
-        let here : length own + (j - D) ≡ j = omega (arith, coordinates-length b D (p .entry .key)) in
-        let inside : j - D < D = omega arith in
-        ap (wordAt ws (p .entry .cell)) there ∙ t .link (j - D) inside ∙ ap (link b D p) (sym (zero-add (j - D))) ∙ sym (made-at (link b D p) 0 D (j - D) 0 inside)
-        ∙ sym (getD-append-add own links (j - D) 0) ∙ ap (λ i. getD (own ++ links) i 0) here

@@ -5,28 +5,28 @@ use mathlib.Core.Bool.{true, _||_, not}
 use mathlib.Core.List.{List, [], _∷_}
 use mathlib.Core.Logic.{_⊎_, inl, inr}
 use mathlib.Core.Option.{none}
-use Prim.Native.Nat.{ℕ, zero, suc, _+_, _*_, _-_, _^_, _≤_, _<_}
+use Prim.Native.Nat.{ℕ, suc, _+_, _-_, _^_, _≤_, _<_}
 use native.Mathlib.Decide.{decLt, ℕ-discrete}
 use native.Mathlib.Omega.{arith}
 use lib.Dec.{eqb, leb}
-use lib.ListN.{length, getD, getD-replicate}
+use lib.ListN.{length, getD}
 use borrow.Author.Tests.{lt-ltb, le-ltb, le-leb, lt-leb, eq-eqb, ne-eqb}
 use Rattle.settings.specs.Numbers.{cellWords, lengthOf}
-use Rattle.settings.specs.Base.{IsBase}
-use Rattle.settings.proofs.Laws.{in-range, base-is}
+use Rattle.settings.proofs.Laws.{in-range}
 use Rattle.meaning.specs.Keys.{shared}
 use Rattle.meaning.specs.Row.{Entry, headEntry, Place, headPlace, placeOf, placesAfter, places}
 use Rattle.meaning.specs.State.{State, positionKey}
-use Rattle.meaning.specs.Picture.{firstNumber, nextFree, freeWords, wordsOf, picture}
+use Rattle.meaning.specs.Picture.{firstNumber, picture}
 use Rattle.meaning.specs.Reading.{read, isList}
 use Rattle.meaning.specs.Words.{wordAt, keyAt, valueAt, markAt, owedAt, lowAt, highAt, coordinateAt}
 use Rattle.meaning.proofs.Order.{All, Asc, all-map, asc-weaken}
 use Rattle.meaning.proofs.Keys.{shared-same, coordinate-head}
-use Rattle.meaning.proofs.State.{Sound, sound-ranges, base-positive, base-above}
+use Rattle.meaning.proofs.State.{Sound, sound-ranges, base-positive, base-above, base-of}
 use Rattle.meaning.proofs.Cells.{free-distinct, free-range, free-length}
-use Rattle.meaning.proofs.Picture.{picture-length, picture-free, picture-word, free-found}
+use Rattle.meaning.proofs.Picture.{picture-length, picture-free, free-found}
 use Rattle.meaning.proofs.Reading.{Follow, distinct-follow, list-is-picture, list-sound}
 use Rattle.meaning.proofs.WalkRead.{places-read}
+use Rattle.meaning.proofs.SentencesCells.{free-cell-first, free-cell-rest}
 use Rattle.tree.specs.Tree.{positionWord, pathRun, children, headRight, atHead, freeRight, chainRight, headerRight, seenAll, accepts}
 use Rattle.tree.proofs.CompleteOrder.{lastBelow, seenAt, LinksRead, Entered, Ready, below-keeps, last-any, children-read}
 use Rattle.tree.proofs.CompletePath.{Stands, OnPath, run-agreed, position-here, position-apart}
@@ -149,8 +149,8 @@ unfolding headRight
 head-right ws key row shown =
     let held = shown .held in
     and-then (eq-eqb (keyAt ws 0) 0 (held .key))
-    (and-then (eq-eqb (valueAt ws 0) 0 (shown .value))
-    (and-then (eq-eqb (markAt ws 0) 2 (shown .marked))
+    (and-then (eq-eqb (valueAt ws 0) 0 (held .value))
+    (and-then (eq-eqb (markAt ws 0) 2 (held .mark))
     (and-then (eq-eqb (owedAt ws 0) 0 (held .owed))
     (and-then (eq-eqb (lowAt ws 0) 0 (held .low))
     (and-then (eq-eqb (highAt ws 0) 0 (held .high))
@@ -188,9 +188,6 @@ all-seen ws key free row pos some stands cells shown links =
 -- The picture of a state in order
 
 module _ (s : State) (v : Sound s) where
-  base-is-base : IsBase (s .settings .dimensions) (s .settings .largest) (s .settings .base)
-  base-is-base = rw (v .base) (base-is (s .settings .dimensions) (s .settings .largest) (let h = v .dimensions-least in omega arith))
-
   header-right : headerRight (picture s) ≡ true
   unfolding headerRight picture
   header-right =
@@ -207,40 +204,25 @@ module _ (s : State) (v : Sound s) where
     where
       at : Dec (s .settings .largest < (s .settings .base - 1) ^ s .settings .dimensions) →
           (s .settings .base - 1) ^ s .settings .dimensions ≤ s .settings .largest
-      at (yes h) = absurd (let pos = base-positive s v in let l = base-is-base .least (s .settings .base - 1) h in omega arith)
+      at (yes h) = absurd (let pos = base-positive s v in let l = base-of s v .least (s .settings .base - 1) h in omega arith)
       at (no h) = omega arith
-
-  -- word j of a free cell
-  free-shown : (c j : ℕ) → c < s .settings .cells → placeOf c (places (s .settings .base) (s .settings .dimensions) (s .row)) ≡ none →
-      j < cellWords (s .settings .dimensions) → wordAt (picture s) c j ≡ getD (freeWords (s .settings .dimensions) (nextFree c (s .free))) j 0
-  unfolding wordsOf
-  free-shown c j h found l =
-      picture-word s c j h l ∙ ap (λ o. getD (wordsOf (s .settings .base) (s .settings .dimensions) (s .free) c o) j 0) found
 
   free-right : (c : ℕ) → c < s .settings .cells → placeOf c (places (s .settings .base) (s .settings .dimensions) (s .row)) ≡ none →
       freeRight (picture s) c ≡ true
-  unfolding freeRight freeWords picture
+  unfolding freeRight picture
   free-right c h found =
       and-then (lt-ltb c (s .settings .cells) h)
-      (all-from (λ j. eqb (wordAt (picture s) c j) 0) 1 (cellWords (s .settings .dimensions) - 1) (λ j k l.
-      eq-eqb (wordAt (picture s) c j) 0 (free-shown c j h found (omega arith) ∙ behind j k (omega arith))))
-    where
-      behind : (j : ℕ) → 1 ≤ j → j < cellWords (s .settings .dimensions) →
-          getD (freeWords (s .settings .dimensions) (nextFree c (s .free))) j 0 ≡ 0
-      behind zero k l = absurd (omega arith)
-      behind (suc j) k l = getD-replicate (5 + 2 * s .settings .dimensions) j 0 0 (omega arith)
+      (all-from (λ j. eqb (wordAt (picture s) c j) 0) 1 (cellWords (s .settings .dimensions) - 1)
+      (λ j k l. eq-eqb (wordAt (picture s) c j) 0 (free-cell-rest s c h found j k (omega arith))))
 
   chain-right : (cs : List ℕ) → Follow (s .free) cs → All (λ c. (0 < c) × (c < s .settings .cells)) cs →
       All (λ c. placeOf c (places (s .settings .base) (s .settings .dimensions) (s .row)) ≡ none) cs →
       chainRight (picture s) (length cs) (firstNumber cs) ≡ true
-  unfolding chainRight freeWords
+  unfolding chainRight
   chain-right [] follow range found = refl
   chain-right (c ∷ cs) follow range found =
       rw (free-right c (range .0 .1) (found .0))
-      (ap (chainRight (picture s) (length cs)) (next ∙ follow .0) ∙ chain-right cs (follow .1) (range .1) (found .1))
-    where
-      next : wordAt (picture s) c 0 ≡ nextFree c (s .free)
-      next = free-shown c 0 (range .0 .1) (found .0) (omega arith)
+      (ap (chainRight (picture s) (length cs)) (free-cell-first s c (range .0 .1) (found .0) ∙ follow .0) ∙ chain-right cs (follow .1) (range .1) (found .1))
 
   -- all standing cells, read to the end of the row
   picture-seen : seenAll (picture s) ≡

@@ -4,23 +4,24 @@ use mathlib.Core.Path.{_≡_, refl, sym, _∙_, ap, ap₂, subst}
 use mathlib.Core.Bool.{Bool, true, false, cond, _&&_, _||_, not}
 use mathlib.Core.List.{List, [], _∷_}
 use mathlib.Core.Logic.{_⊎_, inl, inr}
-use Prim.Native.Nat.{ℕ, zero, suc, _+_, _*_, _-_, _/_, _%_, _^_, _≤_, _<_}
-use native.Mathlib.Nat.{mod-lt}
+use Prim.Native.Nat.{ℕ, zero, suc, _+_, _-_, _^_, _≤_, _<_}
 use native.Mathlib.Decide.{decLt, decLe, ℕ-discrete}
 use native.Mathlib.Omega.{arith}
 use lib.Dec.{eqb, leb, ltb}
 use lib.ListN.{length, getD}
 use borrow.Author.Tests.{lt-ltb, le-leb, lt-leb, eq-eqb, ne-eqb}
 use Rattle.meaning.specs.Keys.{coordinates, shared}
-use Rattle.meaning.specs.Row.{Entry, firstOf, firstSharing, Place, settledLink, owed, low, high, between, link}
+use Rattle.meaning.specs.Row.{Entry, firstOf, firstSharing, Place, settledLink, between, link}
 use Rattle.meaning.specs.Picture.{mark}
 use Rattle.meaning.specs.Words.{keyAt, valueAt, markAt, owedAt, lowAt, highAt, coordinateAt, linkAt}
-use Rattle.meaning.proofs.Order.{All, Asc, and-both, all-map, all-append}
-use Rattle.meaning.proofs.Keys.{shared-same, shared-le, shared-less, coordinate-same, coordinate-less, coordinate-inside, coordinates-value, hornerFrom, horner}
+use Rattle.meaning.proofs.Order.{All, Asc, and-both}
+use Rattle.meaning.proofs.Keys.{shared-same, shared-le, shared-less, coordinate-same, coordinate-less, coordinate-inside}
 use Rattle.meaning.proofs.State.{Debt}
-use Rattle.meaning.proofs.WalkRead.{Held, between-is, between-not}
+use Rattle.meaning.proofs.WalkRead.{Held, between-is, between-not, linkOwing, link-tested}
+use Rattle.meaning.proofs.Parent.{sharing-hits, sharing-above}
 use Rattle.tree.specs.Tree.{allFrom, written, coordinateWords, allBelow, writesKey, follows, entryRight, dueTo, linksBelow, debtRight, agreedAt, positionWord, cellRight, entered}
-use Rattle.tree.proofs.CompleteOrder.{placeAfter, seenAt, seenBefore, sharing-none, sharing-here, sharing-falls}
+use Rattle.tree.proofs.Written.{all-allBelow, coordinates-below, coordinates-write}
+use Rattle.tree.proofs.CompleteOrder.{placeAfter, seenAt, seenBefore}
 use Rattle.tree.proofs.CompletePath.{OnPath, agreed-is, position-here, position-apart}
 
 -- Tests that hold
@@ -40,31 +41,10 @@ pub or-right : (s t : Bool) → t ≡ true → (s || t) ≡ true
 or-right true t e = refl
 or-right false t e = e
 
--- Coordinates
-
-coordinates-below : (b D key : ℕ) → 0 < b → All (λ c. c < b) (coordinates b D key)
-unfolding coordinates
-coordinates-below b zero key pos = tt
-coordinates-below b (suc D) key pos =
-    all-append (λ c. c < b) (coordinates b D (key / b)) (key % b ∷ []) (coordinates-below b D (key / b) pos) (mod-lt key pos, tt)
-
-below-all : (b : ℕ) (xs : List ℕ) → All (λ x. x < b) xs → allBelow b xs ≡ true
-unfolding allBelow
-below-all b [] h = refl
-below-all b (x ∷ xs) h = and-then (lt-ltb x b (h .0)) (below-all b xs (h .1))
-
--- what coordinates write is Horner's sum
-pub written-horner : (b n : ℕ) (xs : List ℕ) → written b n xs ≡ hornerFrom b n xs
-unfolding written hornerFrom
-written-horner b n [] = refl
-written-horner b n (x ∷ xs) = written-horner b (n * b + x) xs
-
 -- What the words and the row say of a standing cell, with the position's key.
 pub record Shown (ws : List ℕ) (key : ℕ) (p : Place) : Type 0 where
   pub held : Held ws (getD ws 3 0) (getD ws 0 0) p
   pub coordinates : coordinateWords ws (p .entry .cell) ≡ coordinates (getD ws 3 0) (getD ws 0 0) (p .entry .key)
-  pub value : valueAt ws (p .entry .cell) ≡ p .entry .value
-  pub marked : markAt ws (p .entry .cell) ≡ mark (p .entry .live)
   pub cell : p .entry .cell < getD ws 2 0
   pub most : p .entry .key ≤ getD ws 1 0
   pub below : p .entry .key < getD ws 3 0 ^ getD ws 0 0
@@ -76,17 +56,16 @@ pub record Shown (ws : List ℕ) (key : ℕ) (p : Place) : Type 0 where
   pub path : OnPath ws (getD ws 3 0) key p
 
 writes-key : (ws : List ℕ) (key : ℕ) (p : Place) → 0 < getD ws 3 0 → Shown ws key p → writesKey ws (p .entry .cell) ≡ true
-unfolding writesKey horner
+unfolding writesKey
 writes-key ws key p pos shown =
     let b = getD ws 3 0 in
     let D = getD ws 0 0 in
     let c = p .entry .cell in
     and-then
-    (ap (allBelow b) (shown .coordinates) ∙ below-all b (coordinates b D (p .entry .key)) (coordinates-below b D (p .entry .key) pos))
+    (ap (allBelow b) (shown .coordinates) ∙ all-allBelow b (coordinates b D (p .entry .key)) (coordinates-below b D (p .entry .key) pos))
     (eq-eqb (written b 0 (coordinateWords ws c)) (keyAt ws c)
     (ap (written b 0) (shown .coordinates)
-    ∙ written-horner b 0 (coordinates b D (p .entry .key))
-    ∙ coordinates-value b D (p .entry .key) pos (shown .below)
+    ∙ coordinates-write b D (p .entry .key) pos (shown .below)
     ∙ sym (shown .held .key)))
 
 -- key at most K, and live only where the position is before
@@ -96,7 +75,7 @@ unfolding entryRight
 entry-right ws key p shown gap =
     and-then
     (le-leb (keyAt ws c) (getD ws 1 0) (let k = shown .held .key in let m = shown .most in omega arith))
-    (at (p .entry .live) (shown .marked) (shown .worthless) (shown .dead) gap)
+    (at (p .entry .live) (shown .held .mark) (shown .worthless) (shown .dead) gap)
   where
     c : ℕ
     c = p .entry .cell
@@ -106,7 +85,7 @@ entry-right ws key p shown gap =
         ((eqb (markAt ws c) 2 && eqb (valueAt ws c) 0) || (eqb (markAt ws c) 1 && leb key (p .before .key))) ≡ true
     at false m worthless dead any =
         or-left (eqb (markAt ws c) 2 && eqb (valueAt ws c) 0) (eqb (markAt ws c) 1 && leb key (p .before .key))
-        (and-then (eq-eqb (markAt ws c) 2 m) (eq-eqb (valueAt ws c) 0 (shown .value ∙ worthless refl)))
+        (and-then (eq-eqb (markAt ws c) 2 m) (eq-eqb (valueAt ws c) 0 (shown .held .value ∙ worthless refl)))
     at true m worthless dead (inl h) =
         or-right (eqb (markAt ws c) 2 && eqb (valueAt ws c) 0) (eqb (markAt ws c) 1 && leb key (p .before .key))
         (and-then (eq-eqb (markAt ws c) 1 m) (le-leb key (p .before .key) h))
@@ -143,16 +122,12 @@ module _ (ws : List ℕ) (key : ℕ) (x : Entry) (e : ℕ) (a : Entry) (f : ℕ)
   -- a link below the dimension is 0 if x does not owe it
   link-below : (d : ℕ) → d < second .dimension → (x .owes && between e (second .dimension) d) ≡ false →
       link (getD ws 3 0) (getD ws 0 0) second d ≡ 0
-  unfolding link
   link-below d h free =
       let b = getD ws 3 0 in
       let D = getD ws 0 0 in
-      let n = second .dimension in
-      ap (λ t.
-      cond t (firstSharing b D (x .key) d (y ∷ later))
-      (cond (y .owes && between (low second) (high b D second) d) 0 (settledLink b D second d))) free
-      ∙ ap (λ l. cond (y .owes && between (low second) (high b D second) d) 0 (cond l (firstSharing b D (y .key) d later) 0)) (lt-leb n d h)
-      ∙ same (y .owes && between (low second) (high b D second) d)
+      link-tested b D second d free refl
+      ∙ ap (λ l. cond (linkOwing b D second d) 0 (cond l (firstSharing b D (y .key) d later) 0)) (lt-leb (second .dimension) d h)
+      ∙ same (linkOwing b D second d)
     where
       same : (t : Bool) → _≡_ {A = ℕ} (cond t 0 0) 0
       same true = refl
@@ -221,11 +196,8 @@ module _ (ws : List ℕ) (key : ℕ) (x : Entry) (e : ℕ) (a : Entry) (f : ℕ)
   link-owing : 0 < getD ws 3 0 → Shown ws key second → x .owes ≡ false → y .owes ≡ true →
       (c : Entry) (rest : List Entry) → later ≡ c ∷ rest → (d : ℕ) →
       link (getD ws 3 0) (getD ws 0 0) second d ≡ cond (eqb d (shared (getD ws 3 0) (getD ws 0 0) (y .key) (c .key))) (c .cell) 0
-  unfolding link
   link-owing pos t unowing owing c rest is d =
-      ap (λ u.
-      cond (u && between e m d) (firstSharing b D (x .key) d (y ∷ later))
-      (cond (y .owes && between (low second) (high b D second) d) 0 (settledLink b D second d))) unowing
+      link-tested b D second d (ap (λ u. u && between e m d) unowing) refl
       ∙ ap (λ u. cond (u && between (cond u m 0) (cond u (shared b D (y .key) (firstOf later .key)) 0) d) 0 (settledLink b D second d)) owing
       ∙ ap (λ r. cond (between m (shared b D (y .key) (firstOf r .key)) d) 0 (cond (leb m d) (firstSharing b D (y .key) d r) 0)) is
       ∙ at (decLt d m) (decLt d n) (ℕ-discrete d n)
@@ -254,14 +226,10 @@ module _ (ws : List ℕ) (key : ℕ) (x : Entry) (e : ℕ) (a : Entry) (f : ℕ)
       at (no k) (yes l) other = rw (between-is m n d (omega (arith, k)) l, ne-eqb d n (λ z. omega (arith, l))) refl
       at (no k) (no l) (yes z) =
           rw (between-not m n d (omega (arith, l)), le-leb m d (omega (arith, k)), eq-eqb d n z)
-          (sharing-here b D (y .key) d c rest (sym z))
+          (sharing-hits b D (y .key) d c rest (sym z))
       at (no k) (no l) (no z) =
           rw (between-not m n d (omega (arith, l)), le-leb m d (omega (arith, k)), ne-eqb d n z)
-          (sharing-none b D (y .key) d (c ∷ rest) (
-            omega (arith, l, z),
-            all-map (λ w h. omega (arith, l, z)) rest
-                (sharing-falls b D pos (y .key) c rest (let h = asc .0 in omega arith) (asc .1)),
-          ))
+          (sharing-above b D pos (y .key) d c rest (let h = asc .0 in omega arith) (asc .1) (omega (arith, l, z)))
 
   -- y owes
   debt-some : 0 < getD ws 3 0 → 0 < getD ws 0 0 → Shown ws key first → Shown ws key second → y .owes ≡ true →

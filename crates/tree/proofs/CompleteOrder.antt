@@ -8,13 +8,14 @@ use native.Mathlib.Decide.{decLt}
 use native.Mathlib.Omega.{arith}
 use lib.Dec.{eqb, leb, ltb}
 use lib.ListN.{length, getD}
-use borrow.Author.Tests.{lt-ltb, le-ltb, eq-eqb, ne-eqb}
+use borrow.Author.Tests.{lt-ltb, le-ltb, ne-eqb}
 use Rattle.meaning.specs.Keys.{shared}
 use Rattle.meaning.specs.Row.{Entry, Place, placesAfter, firstSharing, settledLink}
 use Rattle.meaning.specs.Walk.{linkRead}
 use Rattle.meaning.proofs.Order.{All, Asc, all-map, asc-above}
 use Rattle.meaning.proofs.Keys.{shared-same, shared-less, ultra}
 use Rattle.meaning.proofs.WalkRead.{settled-above}
+use Rattle.meaning.proofs.Parent.{sharing-skips, sharing-hits, sharing-above}
 use Rattle.tree.specs.declared.Seen.{Seen}
 use Rattle.tree.specs.Tree.{entered, along, children}
 
@@ -95,24 +96,6 @@ module _ (b D : ℕ) where
   last-any key x e a f (y ∷ later) =
       ap (λ q. q .later) (last-goes key 0 x e a f y later (omega arith)) ∙ last-any key y (shared b D (x .key) (y .key)) x e later
 
--- The first entry that shares e coordinates with a key
-
-module _ (b D : ℕ) where
-  pub sharing-none : (key e : ℕ) (later : List Entry) → All (λ y. shared b D key (y .key) < e) later → firstSharing b D key e later ≡ 0
-  unfolding firstSharing
-  sharing-none key e [] h = refl
-  sharing-none key e (y ∷ later) h =
-      rw (ne-eqb (shared b D key (y .key)) e (λ q. let l = h .0 in omega arith)) (sharing-none key e later (h .1))
-
-  pub sharing-here : (key e : ℕ) (y : Entry) (later : List Entry) → shared b D key (y .key) ≡ e → firstSharing b D key e (y ∷ later) ≡ y .cell
-  unfolding firstSharing
-  sharing-here key e y later is = rw (eq-eqb (shared b D key (y .key)) e is) refl
-
-  sharing-past : (key e : ℕ) (y : Entry) (later : List Entry) → (shared b D key (y .key) ≡ e → ⊥) →
-      firstSharing b D key e (y ∷ later) ≡ firstSharing b D key e later
-  unfolding firstSharing
-  sharing-past key e y later ne = rw (ne-eqb (shared b D key (y .key)) e ne) refl
-
 -- The next sibling
 
 -- What follows q by link e of a cell whose children by higher links end at q: the sibling y, with all that is below it, up to `end`;
@@ -123,12 +106,6 @@ data Next (b D e : ℕ) (q : Place) (to : ℕ) (end : Place) : Type 0 where
   none : to ≡ 0 → end ≡ q → Next b D e q to end
 
 module _ (b D : ℕ) (pos : 0 < b) where
-  -- sharing falls along the row
-  pub sharing-falls : (key : ℕ) (y : Entry) (later : List Entry) → key ≤ y .key → Asc (y .key) later →
-      All (λ z. shared b D key (z .key) ≤ shared b D key (y .key)) later
-  sharing-falls key y later h asc =
-      all-map (λ z k. omega (arith, ultra b D key (y .key) (z .key) pos h (let l = k in omega arith))) later (asc-above (y .key) later asc)
-
   -- later than a y that shares e with a key, an entry shares e with both or with neither
   sharing-alike : (key e : ℕ) (y : Entry) (later : List Entry) → key ≤ y .key → shared b D key (y .key) ≡ e → Asc (y .key) later →
       All (λ z. ltb (shared b D key (z .key)) e ≡ ltb (shared b D (y .key) (z .key)) e) later
@@ -165,19 +142,19 @@ module _ (b D : ℕ) (pos : 0 < b) where
           (lastSharing b D key e x dim a f (y ∷ later))
       at (yes l) q on =
           rw (last-stops b D key (suc e) x dim a f y later (omega (arith, l)), last-stops b D key e x dim a f y later l)
-          (none (sharing-none b D key e (y ∷ later) (l, all-map (λ z k. omega (arith, l)) later (sharing-falls key y later rise (asc .1)))) refl)
+          (none (sharing-above b D pos key e y later rise (asc .1) l) refl)
       at (no l) (yes g) on =
           rw (
             last-goes b D key (suc e) x dim a f y later g,
             last-goes b D key e x dim a f y later (omega (arith, g)),
-            sharing-past b D key e y later (λ q. omega (arith, g)),
+            sharing-skips b D key e (y ∷ []) later ((λ q. omega (arith, g)), tt),
           ) (on g)
       at (no l) (no g) on =
           let is : shared b D key (y .key) ≡ e = omega (arith, l, g) in
           rw (
             last-stops b D key (suc e) x dim a f y later (omega arith),
             last-goes b D key e x dim a f y later (omega arith),
-            sharing-here b D key e y later is,
+            sharing-hits b D key e y later is,
           )
           (sibling y later refl (omega (arith, near)) refl
           (last-same b D key (y .key) e y (shared b D (x .key) (y .key)) x dim later (sharing-alike key e y later rise is (asc .1))))

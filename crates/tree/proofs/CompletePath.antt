@@ -17,7 +17,9 @@ use Rattle.meaning.specs.Row.{Entry, headEntry, Place, headPlace, placesAfter, 
 use Rattle.meaning.specs.Picture.{firstWith}
 use Rattle.meaning.proofs.Order.{All, Asc, all-map}
 use Rattle.meaning.proofs.Keys.{shared-same, shared-sym, shared-le, shared-less, ultra, triangle}
-use Rattle.meaning.proofs.Cells.{Distinct, all-of-map, all-zip}
+use Rattle.meaning.proofs.Cells.{Distinct, all-of-map, all-zip, all-each}
+use Rattle.meaning.proofs.Parent.{first-skips, first-hits}
+use Rattle.meaning.proofs.Path.{first-alike}
 use Rattle.tree.specs.Tree.{pathRun, agreedAt, positionWord}
 
 -- a key that an entry has
@@ -28,27 +30,11 @@ Stands key (x ∷ row) = (x .key ≡ key) ⊎ Stands key row
 -- The first entry that shares n coordinates with a key
 
 module _ (b D : ℕ) where
-  first-past : (key n : ℕ) (x : Entry) (row : List Entry) → shared b D (x .key) key < n → firstWith b D key n (x ∷ row) ≡ firstWith b D key n row
-  unfolding firstWith
-  first-past key n x row h = rw (lt-ltb (shared b D (x .key) key) n h) refl
-
-  first-here : (key n : ℕ) (x : Entry) (row : List Entry) → n ≤ shared b D (x .key) key → firstWith b D key n (x ∷ row) ≡ x .cell
-  unfolding firstWith
-  first-here key n x row h = rw (le-ltb (shared b D (x .key) key) n h) refl
-
   -- it is the same for keys that share n coordinates
   first-same : 0 < b → (key other n : ℕ) → n ≤ shared b D key other → (row : List Entry) → firstWith b D key n row ≡ firstWith b D other n row
-  unfolding firstWith
-  first-same pos key other n h [] = refl
-  first-same pos key other n h (x ∷ row) = rw (alike (decLt (shared b D (x .key) key) n), first-same pos key other n h row) refl
-    where
-      alike : Dec (shared b D (x .key) key < n) → ltb (shared b D (x .key) key) n ≡ ltb (shared b D (x .key) other) n
-      alike (yes l) =
-          lt-ltb (shared b D (x .key) key) n l
-          ∙ sym (lt-ltb (shared b D (x .key) other) n (omega (arith, l, h, triangle b D (x .key) other key pos, shared-sym b D key other)))
-      alike (no l) =
-          le-ltb (shared b D (x .key) key) n (omega (arith, l))
-          ∙ sym (le-ltb (shared b D (x .key) other) n (omega (arith, l, h, triangle b D (x .key) key other pos)))
+  first-same pos key other n h row =
+      first-alike b D key other n row
+      (all-each (λ x. omega (arith, h, triangle b D (x .key) other key pos, triangle b D (x .key) key other pos, shared-sym b D key other)) row)
 
   -- it is not a cell c if what has that cell shares less
   first-other : (key n c : ℕ) → n ≤ D → (row : List Entry) → Stands key row → All (λ x. x .cell ≡ c → shared b D (x .key) key < n) row →
@@ -59,8 +45,8 @@ module _ (b D : ℕ) where
       at : Dec (shared b D (x .key) key < n) → Stands key (x ∷ row) →
           (Stands key row → All (λ y. y .cell ≡ c → shared b D (y .key) key < n) row → firstWith b D key n row ≡ c → ⊥) → ⊥
       at (yes l) (inl e) more = omega (arith, l, h, ap (λ k. shared b D k key) e, shared-same b D key)
-      at (yes l) (inr later) more = more later (less .1) (sym (first-past key n x row l) ∙ is)
-      at (no l) any more = l (less .0 (sym (first-here key n x row (omega (arith, l))) ∙ is))
+      at (yes l) (inr later) more = more later (less .1) (sym (first-skips b D key n x row l) ∙ is)
+      at (no l) any more = l (less .0 (sym (first-hits b D key n x row (omega (arith, l))) ∙ is))
 
 -- Cells and their keys
 
@@ -116,13 +102,13 @@ module _ (ws : List ℕ) (b key : ℕ) (all : List Entry) (pos : 0 < b) (stands 
   past-next x y later h past k n le less =
       let D = getD ws 0 0 in
       let u = ultra b D (x .key) (y .key) k pos (omega arith) le in
-      past k n (omega arith) (omega arith) ∙ first-past b D k n y later less
+      past k n (omega arith) (omega arith) ∙ first-skips b D k n y later less
 
   way-next : (x y : Entry) (e : ℕ) (later : List Entry) → x .key < y .key → Past x (y ∷ later) →
       WayDown (record { entry = y; dimension = shared b (getD ws 0 0) (x .key) (y .key); before = x; beforeDimension = e; later = later })
   way-next x y e later h past d le less =
       let D = getD ws 0 0 in
-      past (y .key) (suc d) (omega arith) (omega arith) ∙ first-here b D (y .key) (suc d) y later (omega (arith, shared-same b D (y .key)))
+      past (y .key) (suc d) (omega arith) (omega arith) ∙ first-hits b D (y .key) (suc d) y later (omega (arith, shared-same b D (y .key)))
 
   after-on-path : (x : Entry) (e : ℕ) (later : List Entry) → Asc (x .key) later → Past x later → All Own later →
       All (OnPath ws b key) (placesAfter b (getD ws 0 0) x e later)
@@ -143,8 +129,8 @@ places-on-path ws b key row pos asc distinct stands words =
     let all : List Entry = headEntry ∷ row in
     let own = distinct-keys all distinct in (
       on-path ws b key all pos stands words (headPlace row)
-          (λ d h l. first-here b D 0 (suc d) headEntry row (omega (arith, shared-same b D 0))) (own .0),
-      after-on-path ws b key all pos stands words headEntry 0 row asc (λ k n le less. first-past b D k n headEntry row less) (own .1),
+          (λ d h l. first-hits b D 0 (suc d) headEntry row (omega (arith, shared-same b D 0))) (own .0),
+      after-on-path ws b key all pos stands words headEntry 0 row asc (λ k n le less. first-skips b D k n headEntry row less) (own .1),
     )
 
 -- How many path words agree

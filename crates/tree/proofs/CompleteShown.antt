@@ -3,7 +3,6 @@ use mathlib.Core.Path.{_≡_, refl, sym, _∙_, ap}
 use mathlib.Core.Bool.{true, false}
 use mathlib.Core.List.{List, [], _∷_, map}
 use mathlib.Core.Logic.{inl, inr}
-use mathlib.Core.Option.{some}
 use Prim.Native.Nat.{ℕ, suc, _+_, _*_, _≤_, _<_}
 use native.Mathlib.Nat.{mul-le-mul-right}
 use native.Mathlib.Decide.{ℕ-discrete}
@@ -11,18 +10,19 @@ use native.Mathlib.Omega.{arith}
 use lib.ListN.{length, getD, take, drop, length-drop}
 use lib.Seq.{length-take-le, getD-take, getD-drop, ext-getD}
 use Rattle.settings.specs.Numbers.{fieldsBeforeCoordinates, cellWords}
-use Rattle.meaning.specs.Keys.{coordinates, shared}
-use Rattle.meaning.specs.Row.{Entry, headEntry, Place, placeOf, placesAfter, places}
+use Rattle.meaning.specs.Keys.{coordinates}
+use Rattle.meaning.specs.Row.{Entry, headEntry, Place, places}
 use Rattle.meaning.specs.State.{State, positionKey, keyOf, occurrences}
-use Rattle.meaning.specs.Picture.{standingWords, wordsOf, picture}
-use Rattle.meaning.specs.Words.{place, wordAt}
+use Rattle.meaning.specs.Picture.{picture}
+use Rattle.meaning.specs.Words.{place}
 use Rattle.meaning.proofs.Order.{All, Asc}
 use Rattle.meaning.proofs.Keys.{coordinates-length}
 use Rattle.meaning.proofs.State.{Debt, Sound, base-positive, base-above}
 use Rattle.meaning.proofs.Cells.{occurrences-past, distinct-left, cells-distinct, row-range}
-use Rattle.meaning.proofs.Picture.{picture-length, picture-path, picture-word, place-found, later-has}
+use Rattle.meaning.proofs.Picture.{picture-length, picture-path, places-later}
 use Rattle.meaning.proofs.Places.{keyOf-same, keyOf-other}
 use Rattle.meaning.proofs.WalkRead.{Held, all-places, places-held}
+use Rattle.meaning.proofs.SentencesRow.{places-ascend}
 use Rattle.tree.specs.Tree.{coordinateWords}
 use Rattle.tree.proofs.CompletePath.{Stands, OnPath, places-on-path}
 use Rattle.tree.proofs.CompleteCell.{Shown}
@@ -66,33 +66,9 @@ places-kept s v =
     all-places (Kept s) (s .settings .base) (s .settings .dimensions) (s .row) (head-kept s v)
     (kept s (s .row) (row-range s v) (v .keys) (v .values) (v .dead))
 
--- what follows a place ascends
-after-ascends : (b D : ℕ) (x : Entry) (e : ℕ) (row : List Entry) → Asc (x .key) row →
-    All (λ p. Asc (p .entry .key) (p .later)) (placesAfter b D x e row)
-unfolding placesAfter
-after-ascends b D x e [] asc = tt
-after-ascends b D x e (y ∷ row) asc = (asc .1, after-ascends b D y (shared b D (x .key) (y .key)) row (asc .1))
-
-places-ascend : (b D : ℕ) (row : List Entry) → Asc 0 row → All (λ p. Asc (p .entry .key) (p .later)) (places b D row)
-unfolding places
-places-ascend b D row asc = (asc, after-ascends b D headEntry 0 row asc)
-
-places-range : (P : Entry → Type 0) (b D : ℕ) (row : List Entry) → All P row → All (λ p. All P (p .later)) (places b D row)
-unfolding places
-places-range P b D row h = (h, later-has P b D headEntry 0 row h)
-
 -- The words
 
 module _ (s : State) (v : Sound s) where
-  word-shown : (p : Place) → p .entry .cell < s .settings .cells →
-      placeOf (p .entry .cell) (places (s .settings .base) (s .settings .dimensions) (s .row)) ≡ some p →
-      (j : ℕ) → j < cellWords (s .settings .dimensions) →
-      wordAt (picture s) (p .entry .cell) j ≡ getD (standingWords (s .settings .base) (s .settings .dimensions) p) j 0
-  unfolding wordsOf
-  word-shown p h found j l =
-      picture-word s (p .entry .cell) j h l
-      ∙ ap (λ o. getD (wordsOf (s .settings .base) (s .settings .dimensions) (s .free) (p .entry .cell) o) j 0) found
-
   coordinates-shown : (p : Place) → p .entry .cell < s .settings .cells → Held (picture s) (s .settings .base) (s .settings .dimensions) p →
       coordinateWords (picture s) (p .entry .cell) ≡ coordinates (s .settings .base) (s .settings .dimensions) (p .entry .key)
   unfolding picture
@@ -115,20 +91,17 @@ module _ (s : State) (v : Sound s) where
       ∙ getD-drop start (picture s) i 0
       ∙ ap (λ n. getD (picture s) n 0) there ∙ held .coordinate i less)
 
-  shown : (p : Place) → placeOf (p .entry .cell) (places (s .settings .base) (s .settings .dimensions) (s .row)) ≡ some p →
-      Held (picture s) (s .settings .base) (s .settings .dimensions) p → Kept s (p .entry) →
+  shown : (p : Place) → Held (picture s) (s .settings .base) (s .settings .dimensions) p → Kept s (p .entry) →
       (p .entry .owes ≡ true → Debt (s .settings .base) (s .settings .dimensions) p) → Asc (p .entry .key) (p .later) →
       All (λ z. (0 < z .cell) × (z .cell < s .settings .cells)) (p .later) → OnPath (picture s) (s .settings .base) (positionKey s) p →
       Shown (picture s) (positionKey s) p
-  unfolding picture standingWords
-  shown p found held kept debt ascends later path =
+  unfolding picture
+  shown p held kept debt ascends later path =
       let most = kept .most in
       let above = base-above s v in
       record {
         held = held;
         coordinates = coordinates-shown p (kept .cell) held;
-        value = word-shown p (kept .cell) found 1 (omega arith);
-        marked = word-shown p (kept .cell) found 2 (omega arith);
         cell = kept .cell;
         most = most;
         below = omega arith;
@@ -148,8 +121,8 @@ module _ (s : State) (v : Sound s) where
 
   pub places-shown : All (Shown (picture s) (positionKey s)) (places (s .settings .base) (s .settings .dimensions) (s .row))
   places-shown =
-      each standing (place-found s v) (places-held s v) (places-kept s v) (v .debts) (places-ascend b D (s .row) (v .ascends))
-      (places-range (λ z. (0 < z .cell) × (z .cell < s .settings .cells)) b D (s .row) (row-range s v)) path-shown
+      each standing (places-held s v) (places-kept s v) (v .debts) (places-ascend b D (s .row) (v .ascends))
+      (places-later (λ z. (0 < z .cell) × (z .cell < s .settings .cells)) b D (s .row) (row-range s v)) path-shown
     where
       b : ℕ
       b = s .settings .base
@@ -160,13 +133,12 @@ module _ (s : State) (v : Sound s) where
       standing : List Place
       standing = places b D (s .row)
 
-      each : (ps : List Place) → All (λ p. placeOf (p .entry .cell) standing ≡ some p) ps →
-          All (Held (picture s) b D) ps → All (λ p. Kept s (p .entry)) ps →
+      each : (ps : List Place) → All (Held (picture s) b D) ps → All (λ p. Kept s (p .entry)) ps →
           All (λ p. p .entry .owes ≡ true → Debt b D p) ps → All (λ p. Asc (p .entry .key) (p .later)) ps →
           All (λ p. All (λ z. (0 < z .cell) × (z .cell < s .settings .cells)) (p .later)) ps → All (OnPath (picture s) b (positionKey s)) ps →
           All (Shown (picture s) (positionKey s)) ps
-      each [] found held kept debt ascends later path = tt
-      each (p ∷ ps) found held kept debt ascends later path = (
-        shown p (found .0) (held .0) (kept .0) (debt .0) (ascends .0) (later .0) (path .0),
-        each ps (found .1) (held .1) (kept .1) (debt .1) (ascends .1) (later .1) (path .1),
+      each [] held kept debt ascends later path = tt
+      each (p ∷ ps) held kept debt ascends later path = (
+        shown p (held .0) (kept .0) (debt .0) (ascends .0) (later .0) (path .0),
+        each ps (held .1) (kept .1) (debt .1) (ascends .1) (later .1) (path .1),
       )

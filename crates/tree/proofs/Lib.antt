@@ -1,4 +1,5 @@
 -- The check's account on the words accepts exactly the lists.
+pub mod Written
 pub mod AcceptedTests
 pub mod AcceptedRun
 pub mod AcceptedKeys

@@ -1,7 +1,7 @@
 -- What the shape of a list's words gives: the words of a cell lie inside, the settings are the first words, and a word behind those may
 -- be written without losing the shape. Then what links, steps and coordinates are in the code's terms.
 use mathlib.Core.Path.{_≡_, refl, sym, ap, _∙_}
-use mathlib.Core.Bool.{cond, and-false}
+use mathlib.Core.Bool.{cond}
 use mathlib.Core.List.{List, [], _∷_, _++_, append-assoc, append-nil}
 use Prim.Native.Nat.{ℕ, zero, suc, _+_, _-_, _/_, _%_, _≤_, _<_}
 use native.Mathlib.Nat.{suc-mul, mul-le-mul-right}
@@ -10,13 +10,13 @@ use native.Mathlib.Omega.{arith}
 use lib.Dec.{eqb, ltb}
 use lib.ListN.{length, getD, take, drop, set, replicate, length-set, length-append, length-drop, length-replicate, drop-of-length-le}
 use lib.Seq.{set-at, drop-cons, drop-drop, take-at, drop-set-lt, getD-set-same, getD-set-other, lt-length-set, drop-length, length-take-le, sets, sets-eq}
-use borrow.Author.Tests.{lt-ltb, le-ltb, le-leb, lt-leb, eq-eqb, ne-eqb}
+use borrow.Author.Tests.{lt-ltb, le-ltb, eq-eqb, ne-eqb}
 use borrow.Rule.Slice.PartMut.{midOf, putMid, mid-len}
 use Rattle.settings.specs.Numbers.{fieldsBeforeCoordinates, cellWords, lengthOf, mostDimensions, mostCells}
 use Rattle.settings.specs.declared.Settings.{Settings}
 use Rattle.settings.proofs.Laws.{cells-fit}
 use Rattle.meaning.specs.Keys.{coordinates}
-use Rattle.meaning.specs.Words.{place, wordAt, owedAt, lowAt, highAt, coordinateAt, linkAt}
+use Rattle.meaning.specs.Words.{place, wordAt, coordinateAt, linkAt}
 use Rattle.meaning.specs.Walk.{linkRead, along, stepAt}
 use Rattle.meaning.specs.Stores.{store, linkField}
 use Rattle.meaning.specs.declared.Step.the-variants.{Go, Up, End}
@@ -138,26 +138,6 @@ pub filled-all : (v : ℕ) (l : List ℕ) (i : ℕ) → i ≡ length l → repli
 filled-all v l i e =
     let h : length l ≤ i = omega arith in
     rw (drop-of-length-le l h, append-nil {A = ℕ} (replicate i v), e) refl
-
--- Links read through what is owed
-
-pub read-own : (ws : List ℕ) (x d : ℕ) → owedAt ws x ≡ 0 → linkRead ws x d ≡ linkAt ws x d
-unfolding linkRead
-read-own ws x d e = rw (eq-eqb (owedAt ws x) 0 e) refl
-
-pub read-below : (ws : List ℕ) (x d : ℕ) → d < lowAt ws x → linkRead ws x d ≡ linkAt ws x d
-unfolding linkRead
-read-below ws x d h = simp (lt-leb (lowAt ws x) d h, and-false) refl
-
-pub read-above : (ws : List ℕ) (x d : ℕ) → highAt ws x ≤ d → linkRead ws x d ≡ linkAt ws x d
-unfolding linkRead
-read-above ws x d h = simp (le-ltb d (highAt ws x) h, and-false) refl
-
-pub read-owed :
-    (ws : List ℕ) (x d : ℕ) {owed : ℕ} → owed ≡ owedAt ws x → (owed ≡ 0 → ⊥) → lowAt ws x ≤ d → d < highAt ws x →
-    linkRead ws x d ≡ linkAt ws owed d
-unfolding linkRead
-read-owed ws x d e owes low high = rw (← e, ne-eqb _ 0 owes, le-leb (lowAt ws x) d low, lt-ltb d (highAt ws x) high) refl
 
 -- One step, by the cell's coordinate and the sought one
 

@@ -1,9 +1,10 @@
 -- `words::link_read` meets its contract: the three tests are those of the definition, and each way out reads the link from the cell that
 -- the definition names.
-use mathlib.Core.Path.{sym, _∙_}
+use mathlib.Core.Path.{sym, ap, _∙_}
 use native.Mathlib.Omega.{arith}
 use borrow.Author.Needs.{needs}
-use Rattle.words.proofs.Laws.{read-own, read-below, read-above, read-owed}
+use Rattle.meaning.specs.Words.{linkAt}
+use Rattle.meaning.proofs.WalkRead.{read-unowing, read-below, read-above, read-through}
 use Rattle.words.proofs.link_read.Statement.{statement}
 use Rattle.words.proofs.link_read.Tie as tie
 
@@ -16,7 +17,7 @@ link-requires c κs = search needs
 returns : tie.Need-returns
 returns c =
     let a = c .before .before .before .before .args in
-    c .link .ensures ∙ sym (read-own (a .list .now) (a .x) (a .d) (omega (arith, c .before .before .word .ensures)))
+    c .link .ensures ∙ sym (read-unowing (a .list .now) (a .x) (a .d) (omega (arith, c .before .before .word .ensures)))
 
 word-requires-2 : tie.Need-word-requires-2
 word-requires-2 c κs = search needs
@@ -48,10 +49,11 @@ link-requires-4 c κs =
 returns-4 : tie.Need-returns-4
 returns-4 c =
     let a = c .before .before .before .before .before .before .before .before .args in
+    let owed = c .before .before .before .before .before .before .word .ensures in
     c .link4 .ensures
+    ∙ ap (λ y. linkAt (a .list .now) y (a .d)) owed
     ∙ sym
-    (read-owed (a .list .now) (a .x) (a .d) (c .before .before .before .before .before .before .word .ensures)
-    (c .before .before .before .before .before .if1 .left)
+    (read-through (a .list .now) (a .x) (a .d) (omega (arith, owed, c .before .before .before .before .before .if1 .left))
     (omega (arith, c .before .before .before .before .word2 .ensures))
     (omega (arith, c .before .before .word3 .ensures)))
 
