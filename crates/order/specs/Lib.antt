@@ -1,3 +1,2 @@
 -- What the order program keeps to, so that it is safe.
 pub mod Kept
-pub mod Printed

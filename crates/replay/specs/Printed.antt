@@ -1,14 +1,21 @@
--- The room that a printed line takes at most.
-use Prim.Native.Nat.{ℕ, _+_, _*_}
+-- What the replay prints for a line: "refusal, key, value, count and the checksum of the buffer afterwards, with one space between. For P
+-- and L: `- - - -` and the checksum."
+use mathlib.Core.List.{List, [], _∷_, _++_}
+use Prim.Native.Nat.{ℕ}
+use Rattle.text.specs.Fields.{space}
+use Rattle.text.specs.Lines.{lineFeed}
+use Rattle.report.specs.Report.{decimal, answerText, checksumOf}
+use Rattle.replay.specs.declared.answer.Reply.{Reply}
+use Rattle.replay.specs.declared.answer.Reply.the-variants.{Four, NoCall}
 
--- the digits of a number of 64 bits, in decimal
-abbrev pub mostDigits : ℕ
-mostDigits = 20
+abbrev pub dash : ℕ
+dash = 45
 
--- a number and the byte after it
-abbrev pub fieldBytes : ℕ
-fieldBytes = mostDigits + 1
+-- before the checksum
+abbrev pub replyText : Reply → List ℕ
+replyText (Four a) = answerText a space
+replyText NoCall = dash ∷ space ∷ dash ∷ space ∷ dash ∷ space ∷ dash ∷ space ∷ []
 
--- refusal, key, value and count
-abbrev pub answerBytes : ℕ
-answerBytes = 4 * fieldBytes
+-- a reply and the words of the buffer afterwards
+abbrev pub lineText : Reply → List ℕ → List ℕ
+lineText reply ws = replyText reply ++ (decimal (checksumOf ws) ++ (lineFeed ∷ []))

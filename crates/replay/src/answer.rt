@@ -1,17 +1,16 @@
 // The call that a line makes, and the line that is printed for it.
 ghost use mathlib.Core.Path.{_≡_};
-ghost use Prim.Native.Nat.{_+_, _≤_};
+ghost use Prim.Native.Nat.{_≤_};
 ghost use lib.ListN.{length};
-ghost use Rattle.replay.specs.Printed.{mostDigits, fieldBytes, answerBytes};
+ghost use Rattle.report.specs.Report.{answerBytes, Put};
+ghost use Rattle.replay.specs.Printed.{replyText, lineText};
 use crate::trace::Kind;
 use meaning::Answer;
 
 const UNREADABLE: u32 = 10;
 
-const MOST_DIGITS: usize = 20;
-
-// Five numbers, each with a byte after its digits.
-const MOST_BYTES: usize = 105;
+// The room for an answer and the checksum, with a byte after it.
+const MOST_BYTES: usize = report::ANSWER_BYTES + report::FIELD_BYTES;
 
 // What a line is answered: four numbers, or none where it makes no call.
 pub enum Reply {
@@ -34,63 +33,28 @@ pub fn call(list: &mut [u32], kind: Kind) -> Reply {
     }
 }
 
-// Puts bytes at `at`; the index after them.
-fn append(out: &mut [u8], at: usize, bytes: &[u8]) -> usize
-    requires { ⌜ at + length (now bytes) ≤ length (now out) ⌝ }
-    ensures { λ r. ⌜ r ≡ at + length (now (bytes .entry)) ⌝ }
-{
-    let mut i = 0;
-    while i < bytes.len() {
-        out[at + i] = bytes[i];
-        i += 1;
-    }
-    at + i
-}
-
-// Puts a number in decimal.
-fn append_digits(out: &mut [u8], at: usize, number: u64) -> usize
-    requires { ⌜ at + mostDigits ≤ length (now out) ⌝ }
-    ensures { λ r. ⌜ r ≤ at + mostDigits ⌝ }
-{
-    let mut digits = [0u8; MOST_DIGITS];
-    let n = io::decimal(number, &mut digits);
-    append(out, at, &digits[..n])
-}
-
-// Puts a number in decimal, and a byte after it.
-fn append_number(out: &mut [u8], at: usize, number: u64, after: u8) -> usize
-    requires { ⌜ at + fieldBytes ≤ length (now out) ⌝ }
-    ensures { λ r. ⌜ r ≤ at + fieldBytes ⌝ }
-{
-    let end = append_digits(out, at, number);
-    out[end] = after;
-    end + 1
-}
-
-fn append_answer(out: &mut [u8], a: Answer) -> usize
+// Puts what is printed before the checksum; the index after it.
+fn put_reply(out: &mut [u8], reply: Reply) -> usize
     requires { ⌜ answerBytes ≤ length (now out) ⌝ }
-    ensures { λ r. ⌜ r ≤ answerBytes ⌝ }
-{
-    let key = append_number(out, 0, a.refusal as u64, b' ');
-    let value = append_number(out, key, a.key as u64, b' ');
-    let count = append_number(out, value, a.value as u64, b' ');
-    append_number(out, count, a.count as u64, b' ')
-}
-
-fn append_reply(out: &mut [u8], reply: Reply) -> usize
-    requires { ⌜ answerBytes ≤ length (now out) ⌝ }
-    ensures { λ r. ⌜ r ≤ answerBytes ⌝ }
+    ensures { λ r. ⌜ Put (now (out .entry)) 0 (replyText reply) (now (out .exit)) r × (r ≤ answerBytes) ⌝ }
 {
     match reply {
-        Reply::Four(a) => return append_answer(out, a),
-        Reply::NoCall => return append(out, 0, b"- - - - "),
+        Reply::Four(a) => return report::put_answer(out, 0, a, b' '),
+        Reply::NoCall => return report::put(out, 0, b"- - - - "),
     }
 }
 
-// Prints one line, by one write.
-pub fn print(reply: Reply, checksum: u64) {
+// Writes a line, by one write. It takes the reply and the buffer afterwards so that its contract can say whose line it is.
+fn write(line: &[u8], reply: Reply, list: &[u32])
+    requires { ⌜ now line ≡ lineText reply (now list) ⌝ }
+{
+    io::write_all(1, line);
+}
+
+// Prints a reply and the checksum of the buffer afterwards.
+pub fn print(reply: Reply, list: &[u32]) {
     let mut out = [0u8; MOST_BYTES];
-    let at = append_reply(&mut out, reply);
-    let end = append_number(&mut out, at, checksum, b'\n');
-    io::write_all(1, &out[0..end]);
+    let at = put_reply(&mut out, reply);
+    let end = report::put_number(&mut out, at, report::checksum(list), b'\n');
+    write(&out[0..end], reply, list);
 }

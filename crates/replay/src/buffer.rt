@@ -1,4 +1,4 @@
-// The buffer, the first `used` of an array's words: what a line does to it apart from its call, and its checksum.
+// The buffer, the first `used` of an array's words: what a line does to it apart from its call.
 ghost use Prim.Native.Nat.{_≤_};
 ghost use Rattle.replay.specs.Kept.{mostWords, lengthIn, Held};
 use crate::trace::Kind;
@@ -6,26 +6,12 @@ use crate::trace::Kind;
 // A word that no fresh list has, so that a word left as it was shows.
 const LEFT: u32 = 2779096485;
 
-const FACTOR: u64 = 1000003;
-
-const MODULUS: u64 = 2147483647;
-
-const MODULUS_PLUS_1: u64 = 2147483648;
-
-fn fill(part: &mut [u32], word: u32) {
-    let mut i = 0;
-    while i < part.len() {
-        part[i] = word;
-        i += 1;
-    }
-}
-
 // A new buffer of n words.
 fn made(words: &mut [u32], n: usize) -> usize
     requires { ⌜ Held (now words) n ⌝ }
     ensures { λ r. ⌜ Held (now (words .exit)) r ⌝ }
 {
-    fill(&mut words[0..n], LEFT);
+    words::fill(&mut words[0..n], LEFT);
     n
 }
 
@@ -45,7 +31,7 @@ fn resized(words: &mut [u32], used: usize, n: usize) -> usize
     ensures { λ r. ⌜ Held (now (words .exit)) r ⌝ }
 {
     if used < n {
-        fill(&mut words[used..n], 0);
+        words::fill(&mut words[used..n], 0);
     }
     n
 }
@@ -66,17 +52,4 @@ pub fn altered(words: &mut [u32], used: usize, kind: Kind) -> usize
         Kind::Length(n) => return resized(words, used, n as usize),
         _ => return used,
     }
-}
-
-// "The checksum h starts at the number of words; for each word in order h becomes (h x 1,000,003 + word) mod 2,147,483,647." The modulus is
-// 2 to the power 31 less 1, so a number's quotient and remainder by 2 to the power 31 add up to the same h mod it; the last h is reduced.
-pub fn checksum(list: &[u32]) -> u64 {
-    let mut h = list.len() as u64 % MODULUS;
-    let mut i = 0;
-    while i < list.len() {
-        let next = h * FACTOR + list[i] as u64;
-        h = next / MODULUS_PLUS_1 + next % MODULUS_PLUS_1;
-        i += 1;
-    }
-    h % MODULUS
 }

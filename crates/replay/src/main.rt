@@ -18,7 +18,7 @@
 //
 // The file stdout has the answers of the separate ordered set: compare/ordered_set/target/release/ordered_set replay < stdin > stdout
 mod trace; // trace.rt: the kinds of line
-mod buffer; // buffer.rt: the buffer, what a line does to it apart from its call, the checksum
+mod buffer; // buffer.rt: the buffer, what a line does to it apart from its call
 mod answer; // answer.rt: the call, and the line printed
 
 ghost use mathlib.Core.Path.{_≡_};
@@ -43,7 +43,7 @@ fn reply(words: &mut [u32], used: usize, kind: Kind) -> usize
 {
     let n = buffer::altered(words, used, kind);
     let answered = answer::call(&mut words[0..n], kind);
-    answer::print(answered, buffer::checksum(&words[0..n]));
+    answer::print(answered, &words[0..n]);
     n
 }
 

@@ -1,2 +1,3 @@
--- Sample buffers, made by calls.
+-- Sample buffers, made by calls, and what is printed of a fresh list.
 pub mod Samples
+pub mod Printed

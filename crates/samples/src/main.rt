@@ -3,6 +3,10 @@
 //
 // The file stdout has the answers of the separate ordered set to the same rows. In the crate's folder:
 //     sed -n 's/^    \[\(.*\)\],$/U \1/p' src/main.rt | tr -d , | ../../compare/ordered_set/target/release/ordered_set replay > stdout
+ghost use mathlib.Core.Path.{_≡_};
+ghost use Rattle.samples.specs.Printed.{lineText};
+use meaning::Answer;
+
 const MOST_WORDS: usize = 155670;
 
 // D, K, C and the number of words lent.
@@ -46,45 +50,27 @@ const EDGES: [[u32; 4]; 28] = [
 // A word that no fresh list has, so that a word left as it was shows.
 const LEFT: u32 = 2779096485;
 
-const FACTOR: u64 = 1000003;
+// The room for an answer and the checksum, with a byte after it.
+const MOST_BYTES: usize = report::ANSWER_BYTES + report::FIELD_BYTES;
 
-const MODULUS: u64 = 2147483647;
-
-fn fill(part: &mut [u32]) {
-    let mut i = 0;
-    while i < part.len() {
-        part[i] = LEFT;
-        i += 1;
-    }
+// Writes a line, by one write. It takes the answer and the words afterwards so that its contract can say whose line it is.
+fn write(line: &[u8], a: Answer, part: &[u32])
+    requires { ⌜ now line ≡ lineText a (now part) ⌝ }
+{
+    io::write_all(1, line);
 }
 
-fn checksum(part: &[u32]) -> u64 {
-    let mut h = part.len() as u64 % MODULUS;
-    let mut i = 0;
-    while i < part.len() {
-        h = (h * FACTOR + part[i] as u64) % MODULUS;
-        i += 1;
-    }
-    h
-}
-
-fn print(a: meaning::Answer, h: u64) {
-    io::print_decimal(1, a.refusal as u64);
-    io::write_all(1, b" ");
-    io::print_decimal(1, a.key as u64);
-    io::write_all(1, b" ");
-    io::print_decimal(1, a.value as u64);
-    io::write_all(1, b" ");
-    io::print_decimal(1, a.count as u64);
-    io::write_all(1, b" ");
-    io::print_decimal(1, h);
-    io::write_all(1, b"\n");
+fn print(a: Answer, part: &[u32]) {
+    let mut out = [0u8; MOST_BYTES];
+    let at = report::put_answer(&mut out, 0, a, b' ');
+    let end = report::put_number(&mut out, at, report::checksum(part), b'\n');
+    write(&out[0..end], a, part);
 }
 
 fn edge(part: &mut [u32], d: u32, k: u32, c: u32) {
-    fill(part);
+    words::fill(part, LEFT);
     let a = mdlist::mdlist_set_up(d, k, c, part);
-    print(a, checksum(part));
+    print(a, part);
 }
 
 // Lends the first of the words, as many as are asked for.

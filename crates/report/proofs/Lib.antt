@@ -1,0 +1,5 @@
+-- What the functions rest on, and what a customer may rely on.
+pub mod Puts
+pub mod Digits
+pub mod Sums
+pub mod Laws

@@ -1,0 +1,71 @@
+// What the programs print of an answer: its four numbers in decimal, and the checksum of a buffer's words. The bytes are put into an array
+// that the caller lends and writes out.
+ghost use mathlib.Core.Path.{_≡_};
+ghost use mathlib.Core.List.{[], _∷_, _++_};
+ghost use Prim.Native.Nat.{_+_, _≤_};
+ghost use lib.ListN.{length};
+ghost use Rattle.report.specs.Report.{decimal, answerText, fieldBytes, answerBytes, Put, checksumOf};
+use meaning::Answer;
+
+// The digits of a number of 64 bits, at most.
+const MOST_DIGITS: usize = 20;
+
+// The room for a number and a byte after it.
+pub const FIELD_BYTES: usize = MOST_DIGITS + 1;
+
+// The room for an answer's four numbers, each with a byte after it.
+pub const ANSWER_BYTES: usize = 4 * FIELD_BYTES;
+
+const FACTOR: u64 = 1000003;
+
+const MODULUS: u64 = 2147483647;
+
+// Puts bytes at `at`; the index after them.
+pub fn put(out: &mut [u8], at: usize, bytes: &[u8]) -> usize
+    requires { ⌜ at + length (now bytes) ≤ length (now out) ⌝ }
+    ensures { λ r. ⌜ Put (now (out .entry)) at (now (bytes .entry)) (now (out .exit)) r ⌝ }
+{
+    let mut i = 0;
+    while i < bytes.len() {
+        out[at + i] = bytes[i];
+        i += 1;
+    }
+    at + i
+}
+
+// Puts a number in decimal, and a byte after it.
+pub fn put_number(out: &mut [u8], at: usize, number: u64, after: u8) -> usize
+    requires { ⌜ at + fieldBytes ≤ length (now out) ⌝ }
+    ensures { λ r. ⌜ Put (now (out .entry)) at (decimal number ++ (after ∷ [])) (now (out .exit)) r × (r ≤ at + fieldBytes) ⌝ }
+{
+    let mut digits = [0u8; MOST_DIGITS];
+    let n = io::decimal(number, &mut digits);
+    let end = put(out, at, &digits[..n]);
+    out[end] = after;
+    end + 1
+}
+
+// Puts refusal, key, value and count with a space between, and a byte after them.
+pub fn put_answer(out: &mut [u8], at: usize, a: Answer, after: u8) -> usize
+    requires { ⌜ at + answerBytes ≤ length (now out) ⌝ }
+    ensures { λ r. ⌜ Put (now (out .entry)) at (answerText a after) (now (out .exit)) r × (r ≤ at + answerBytes) ⌝ }
+{
+    let key = put_number(out, at, a.refusal as u64, b' ');
+    let value = put_number(out, key, a.key as u64, b' ');
+    let count = put_number(out, value, a.value as u64, b' ');
+    put_number(out, count, a.count as u64, after)
+}
+
+// "The checksum h starts at the number of words; for each word in order h becomes (h x 1,000,003 + word) mod 2,147,483,647."
+pub fn checksum(part: &[u32]) -> u64
+    ensures { λ r. ⌜ r ≡ checksumOf (now (part .entry)) ⌝ }
+{
+    let mut h = part.len() as u64 % MODULUS;
+    let mut i = 0;
+    while i < part.len() {
+        let word = part[i] as u64;
+        h = (h * FACTOR + word) % MODULUS;
+        i += 1;
+    }
+    h
+}
