@@ -112,12 +112,12 @@ headed {ws} {s} p q = at (headerRight ws) refl (sym p ∙ q)
               record {
                 header = refl;
                 long = h .size;
-                dimensions-least = h .in-range .least-dimensions;
-                dimensions-most = h .in-range .most-dimensions;
-                cells-most = h .in-range .most-cells;
+                dimensions-least = h .in-range .dimensions-least;
+                dimensions-most = h .in-range .dimensions-most;
+                cells-most = h .in-range .cells-most;
               };
           base = h .positive;
-          cells = omega (arith, h .in-range .least-cells);
+          cells = omega (arith, h .in-range .cells-least);
         })
     at false e f = absurd (let z : _≡_ {A = ℕ} 0 1 = cc in omega arith)
 

@@ -126,7 +126,7 @@ room : (s : State) → Sound s → suc (length (keysIn (s .row)) + length (s .fr
 room s v =
     let e = free-length s v in
     let n = length-map (s .row) (λ x. x .key) in
-    let least = v .cells-least in
+    let least = v .ranges .cells-least in
     omega arith
 
 -- finishing changes no pair and no key

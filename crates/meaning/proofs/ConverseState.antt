@@ -140,12 +140,15 @@ module _ (ws : List ℕ) (a : AList ws) where
       let shown = row-above ws a .shown in
       let least = a .count .0 in
       record {
-        dimensions-least = a .dimensions .0;
-        dimensions-most = a .dimensions .1;
-        largest-least = a .largest .0;
-        largest-most = a .largest .1;
-        cells-least = a .count .0;
-        cells-most = a .count .1;
+        ranges =
+            record {
+              dimensions-least = a .dimensions .0;
+              dimensions-most = a .dimensions .1;
+              largest-least = a .largest .0;
+              largest-most = a .largest .1;
+              cells-least = a .count .0;
+              cells-most = a .count .1;
+            };
         base = base-unique (a .base) (base-is (dimensionsAt ws) (largestAt ws) (let h = a .dimensions .0 in omega arith));
         ascends = row-above ws a .ascends;
         keys = all-map (λ x t. (let k = t .0 .key in let l = t .1 in let h = a .keys (x .cell) (t .0 .standing) l .1 in omega arith)) row (row-shown ws a 1 (C - 1) (omega arith));

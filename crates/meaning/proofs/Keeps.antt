@@ -112,12 +112,7 @@ changed-sound s f p v k paying values position dead =
     let D = s .settings .dimensions in
     let cells = cells-changed f k (s .row) in
     record {
-      dimensions-least = v .dimensions-least;
-      dimensions-most = v .dimensions-most;
-      largest-least = v .largest-least;
-      largest-most = v .largest-most;
-      cells-least = v .cells-least;
-      cells-most = v .cells-most;
+      ranges = v .ranges;
       base = v .base;
       ascends = asc-changed f k 0 (s .row) (v .ascends);
       keys = all-mapped (λ x. x .key ≤ s .settings .largest) f (s .row) (all-map (λ x h. subst (λ i. i ≤ s .settings .largest) (sym (k .key x)) h) (s .row) (v .keys));

@@ -208,12 +208,7 @@ pub put-sound :
 unfolding places
 put-sound s x free p v h most g first value un own same lowered =
     record {
-      dimensions-least = v .dimensions-least;
-      dimensions-most = v .dimensions-most;
-      largest-least = v .largest-least;
-      largest-most = v .largest-most;
-      cells-least = v .cells-least;
-      cells-most = v .cells-most;
+      ranges = v .ranges;
       base = v .base;
       ascends = asc-put 0 x pre post h (subst (Asc 0) (g .splits) (v .ascends)) (g .below) (g .above);
       keys = entries (λ y. y .key ≤ s .settings .largest) most (v .keys);

@@ -39,17 +39,12 @@ unfolding fresh
 fresh-sound D K C e =
     let r = ranges D K C e in
     record {
-      dimensions-least = r .least-dimensions;
-      dimensions-most = r .most-dimensions;
-      largest-least = r .least-largest;
-      largest-most = r .most-largest;
-      cells-least = r .least-cells;
-      cells-most = r .most-cells;
+      ranges = r;
       base = refl;
       ascends = tt;
       keys = tt;
       count = numbers-length 1 (C - 1);
-      range = all-map (λ c h. let least = r .least-cells in let low = h .0 in let high = h .1 in omega arith) (numbersFrom 1 (C - 1)) (numbers-range 1 (C - 1));
+      range = all-map (λ c h. let least = r .cells-least in let low = h .0 in let high = h .1 in omega arith) (numbersFrom 1 (C - 1)) (numbers-range 1 (C - 1));
       once = all-map (λ c h. numbers-once c 1 (C - 1) (h .0) (h .1)) (numbersFrom 1 (C - 1)) (numbers-range 1 (C - 1));
       values = tt;
       debts = unowing-debts (baseOf D K) D [] tt;

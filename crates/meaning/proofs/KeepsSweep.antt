@@ -124,12 +124,7 @@ swept-sound s v =
     let kept = keptBy (s .row) in
     let position = lastOf (deadFront (s .row)) .cell in
     record {
-      dimensions-least = v .dimensions-least;
-      dimensions-most = v .dimensions-most;
-      largest-least = v .largest-least;
-      largest-most = v .largest-most;
-      cells-least = v .cells-least;
-      cells-most = v .cells-most;
+      ranges = v .ranges;
       base = v .base;
       ascends = asc-changed paid paid-all-keeping 0 kept (kept-asc 0 (s .row) (v .ascends));
       keys = all-mapped (λ x. x .key ≤ s .settings .largest) paid kept (kept-all (λ x. x .key ≤ s .settings .largest) (s .row) (v .keys));

@@ -77,7 +77,7 @@ module _ (s : State) (v : Sound s) where
       D = s .settings .dimensions
 
       some : 0 < s .settings .cells
-      some = let least = v .cells-least in omega arith
+      some = let least = v .ranges .cells-least in omega arith
 
       at : Dec (d < D) → getD (pathFor b D (s .row) key) d 0 < s .settings .cells
       at (yes h) = path-holds (λ c. c < s .settings .cells) b D (s .row) key d h some (all-map (λ x r. r .1) (s .row) (row-range s v))

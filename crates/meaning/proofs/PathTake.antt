@@ -194,7 +194,7 @@ from-position s v =
 
 fits : (s : State) → Sound s → (o : FromPosition s) → length (o .dead) < s .settings .cells
 fits s v o =
-    let most = v .cells-least in
+    let most = v .ranges .cells-least in
     omega (arith, free-length s v, ap length (o .split), length-append (o .front) (o .dead ++ fromLive (s .row)), length-append (o .dead) (fromLive (s .row)))
 
 module _ (s : State) (v : Sound s) (fuel : ℕ) (enough : s .settings .cells ≤ fuel) where

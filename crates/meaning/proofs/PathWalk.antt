@@ -264,7 +264,7 @@ module _ (s : State) (v : Sound s) (k : ℕ) (least : 1 ≤ k) (most : k ≤ s .
   path-of-rest =
       let b = s .settings .base in
       let D = s .settings .dimensions in
-      let h = v .dimensions-least in
+      let h = v .ranges .dimensions-least in
       let above = base-above s v in
       ap (λ p. pathAlong (D * b) (picture s) k p 0 0) (sym (path-head b D (s .row)))
       ∙ rests-below (picture s) b D k (picture-dimensions s) (picture-base s) (base-positive s v) (omega arith) (omega arith) (s .row) (D * b) (headPlace (s .row))

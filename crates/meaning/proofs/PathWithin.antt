@@ -51,7 +51,7 @@ module _ (P : ℕ → Type 0) where
 
 module _ (s : State) (v : Sound s) where
   cell-none : 0 < s .settings .cells
-  cell-none = let least = v .cells-least in omega arith
+  cell-none = let least = v .ranges .cells-least in omega arith
 
   later-within : (x : ℕ) (p : Place) → Placed s x p → All (λ y. y .cell < s .settings .cells) (p .later)
   later-within x p here = all-map (λ y h. placed-below v (h .placed)) (p .later) (later-placed v here)

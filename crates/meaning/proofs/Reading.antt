@@ -23,7 +23,7 @@ use Rattle.meaning.specs.Picture.{numbersFrom, firstNumber, mark, standi
 use Rattle.meaning.specs.Reading.{blocks, entryOf, standing, chain, cellsAt, read, sized, same, isList}
 use Rattle.meaning.proofs.Order.{All, Asc, both, and-both, all-map, asc-above}
 use Rattle.meaning.proofs.Keys.{shared-same, shared-less}
-use Rattle.meaning.proofs.State.{Sound, sound-ranges, valid-sound, sound-valid}
+use Rattle.meaning.proofs.State.{Sound, valid-sound, sound-valid}
 use Rattle.meaning.proofs.Blocks.{numbers-length, made-at, made-rest, blocks-cut}
 use Rattle.meaning.proofs.Cells.{Distinct, all-zip, all-of-map, row-distinct, free-distinct, row-range, free-range, free-length}
 use Rattle.meaning.proofs.Put.{those-all, those-none, those-same, those-keep, put-front, put-past}
@@ -163,7 +163,7 @@ row-read s v =
     let C = s .settings .cells in
     ap (λ cells. standing 1 (drop 1 cells)) (blocks-read s)
     ∙ ap (standing 1) (made-rest (shownWords s) 0 C)
-    ∙ cells-read s v (C - 1) 1 (omega arith) (let h = v .cells-least in omega arith)
+    ∙ cells-read s v (C - 1) 1 (omega arith) (let h = v .ranges .cells-least in omega arith)
     ∙ those-all (from 1) (s .row) (all-map (λ x h. le-leb 1 (x .cell) (h .0)) (s .row) (row-range s v))
 
 -- The free cells
@@ -246,7 +246,7 @@ pub position-read : (s : State) → Sound s → getD (picture s) (headerWords + 
 position-read s v =
     let b = s .settings .base in
     let D = s .settings .dimensions in
-    let least = v .dimensions-least in
+    let least = v .ranges .dimensions-least in
     let there : headerWords + D - 1 ≡ headerWords + (D - 1) = omega arith in
     let all : suc (D - 1) ≡ D = omega arith in
     ap (λ n. getD (picture s) n 0) there
@@ -282,7 +282,7 @@ picture-sized s v =
     let K = s .settings .largest in
     let C = s .settings .cells in
     and-both (inRange D K C) (eqb (length (picture s)) (lengthOf D C))
-    (in-range D K C (sound-ranges s v)) (eq-eqb (length (picture s)) (lengthOf D C) (picture-length s))
+    (in-range D K C (v .ranges)) (eq-eqb (length (picture s)) (lengthOf D C) (picture-length s))
 
 -- the picture of a state in order is a list
 pub picture-is-list : (s : State) → Sound s → isList (picture s) ≡ true

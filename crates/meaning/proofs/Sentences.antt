@@ -332,11 +332,11 @@ pub picture-sentences : (s : State) → Sound s → AList (picture s)
 unfolding picture
 picture-sentences s v =
     record {
-      dimensions = (v .dimensions-least, v .dimensions-most);
-      largest = (v .largest-least, v .largest-most);
-      count = (v .cells-least, v .cells-most);
+      dimensions = (v .ranges .dimensions-least, v .ranges .dimensions-most);
+      largest = (v .ranges .largest-least, v .ranges .largest-most);
+      count = (v .ranges .cells-least, v .ranges .cells-most);
       keys = λ x stands h. key-sentence v (cell-standing s x stands .1) h;
-      base = rw (v .base) (base-is (s .settings .dimensions) (s .settings .largest) (let h = v .dimensions-least in omega arith));
+      base = rw (v .base) (base-is (s .settings .dimensions) (s .settings .largest) (let h = v .ranges .dimensions-least in omega arith));
       long = picture-length s;
       marks = mark-sentence v;
       head = (place-key v (head-placed s), (place-value v (head-placed s), place-mark v (head-placed s)));

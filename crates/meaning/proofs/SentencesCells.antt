@@ -124,7 +124,7 @@ occurs-placed s x h = at (placeOf x (placesIn s)) refl
 module _ {s : State} (v : Sound s) {x : ℕ} {p : Place} (here : Placed s x p) where
   pub placed-below : x < s .settings .cells
   placed-below =
-      let least = v .cells-least in
+      let least = v .ranges .cells-least in
       let below = placed-entry here (λ y. y .cell < s .settings .cells) (omega arith) (all-map (λ y r. r .1) (s .row) (row-range s v)) in
       omega (arith, placed-cell here)
 

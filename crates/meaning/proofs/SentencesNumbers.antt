@@ -84,6 +84,6 @@ occurs-has P c (x ∷ xs) h a = at (ℕ-discrete x c) (λ more. occurs-has P c x
 -- the head, the cells of the row and those of the chain
 pub cells-cover : (s : State) → Sound s → (x : ℕ) → x < s .settings .cells → 0 < occurrences x (0 ∷ cellsIn s)
 cells-cover s v x h =
-    let least = v .cells-least in
+    let least = v .ranges .cells-least in
     let count = v .count in
     distinct-covers (s .settings .cells) (0 ∷ cellsIn s) (cells-distinct s v) (omega arith, all-map (λ c r. r .1) (cellsIn s) (v .range)) (omega arith) x h

@@ -111,7 +111,7 @@ pub first-free-apart : (s : State) → Sound s → 0 < length (s .free) → With
 first-free-apart s v h = first-free-all (λ c. Without c (headEntry ∷ s .row)) (s .free) h (free-apart s v)
 
 pub dimensions-positive : (s : State) → Sound s → 0 < s .settings .dimensions
-dimensions-positive s v = let h = v .dimensions-least in omega arith
+dimensions-positive s v = let h = v .ranges .dimensions-least in omega arith
 
 -- What has the slot
 

@@ -8,7 +8,7 @@ use native.Mathlib.Omega.{arith}
 use lib.Dec.{eqb, leb, ltb}
 use lib.ListN.{length}
 use borrow.Author.Tests.{ltb-true, lt-ltb, leb-true, le-leb, eqb-true, eq-eqb, not-true, not-false}
-use Rattle.settings.specs.Numbers.{leastDimensions, mostDimensions, leastLargest, mostLargest, leastCells, mostCells, inRange, baseOf}
+use Rattle.settings.specs.Numbers.{inRange, baseOf}
 use Rattle.settings.specs.Base.{IsBase}
 use Rattle.settings.proofs.Laws.{Ranges, ranges, in-range, base-is, base-at-least-two}
 use Rattle.meaning.specs.Keys.{shared}
@@ -27,12 +27,7 @@ pub record Debt (b D : ℕ) (n : Place) : Type 0 where
   pub lower : n .dimension < shared b D (n .entry .key) (firstOf (n .later) .key)
 
 pub record Sound (s : State) : Type 0 where
-  pub dimensions-least : leastDimensions ≤ s .settings .dimensions
-  pub dimensions-most : s .settings .dimensions ≤ mostDimensions
-  pub largest-least : leastLargest ≤ s .settings .largest
-  pub largest-most : s .settings .largest ≤ mostLargest
-  pub cells-least : leastCells ≤ s .settings .cells
-  pub cells-most : s .settings .cells ≤ mostCells
+  pub ranges : Ranges (s .settings .dimensions) (s .settings .largest) (s .settings .cells)
   pub base : s .settings .base ≡ baseOf (s .settings .dimensions) (s .settings .largest)
   pub ascends : Asc 0 (s .row)
   pub keys : All (λ x. x .key ≤ s .settings .largest) (s .row)
@@ -152,12 +147,7 @@ module _ (s : State) where
       let counted = both (eqb (length (cellsIn s)) (C - 1)) (every inside (cellsIn s)) (cells .0) in
       let position = both (ltb 0 stands) (every (λ x. not (x .live) || ltb (positionKey s) (x .key)) row) (holds .1 .1 .1 .1 .1 .0) in
       record {
-        dimensions-least = r .least-dimensions;
-        dimensions-most = r .most-dimensions;
-        largest-least = r .least-largest;
-        largest-most = r .most-largest;
-        cells-least = r .least-cells;
-        cells-most = r .most-cells;
+        ranges = r;
         base = eqb-true b (baseOf D K) (settings .1);
         ascends = ascending-asc 0 row (keys .0);
         keys = facts {P = λ x. x .key ≤ K} (λ x. leb (x .key) K) (λ x. leb-true (x .key) K) row (keys .1);
@@ -174,22 +164,11 @@ module _ (s : State) where
             (λ x. dead-fact (positionKey s) (x .key) (x .live)) row (position .1);
       }
 
-  pub sound-ranges : Sound s → Ranges D K C
-  sound-ranges v =
-      record {
-        least-dimensions = v .dimensions-least;
-        most-dimensions = v .dimensions-most;
-        least-largest = v .largest-least;
-        most-largest = v .largest-most;
-        least-cells = v .cells-least;
-        most-cells = v .cells-most;
-      }
-
   pub sound-valid : Sound s → valid s ≡ true
   unfolding tests valid
   sound-valid v =
       let settings : settingsHold s ≡ true =
-      and-both (inRange D K C) (eqb b (baseOf D K)) (in-range D K C (sound-ranges v)) (eq-eqb b (baseOf D K) (v .base)) in
+      and-both (inRange D K C) (eqb b (baseOf D K)) (in-range D K C (v .ranges)) (eq-eqb b (baseOf D K) (v .base)) in
       let keys : keysHold s ≡ true =
       and-both (ascending 0 row) (every (λ x. leb (x .key) K) row)
       (asc-ascending 0 row (v .ascends))
@@ -214,10 +193,10 @@ module _ (s : State) where
 -- The base
 
 pub base-of : (s : State) → Sound s → IsBase (s .settings .dimensions) (s .settings .largest) (s .settings .base)
-base-of s v = rw (v .base) (base-is (s .settings .dimensions) (s .settings .largest) (let h = v .dimensions-least in omega arith))
+base-of s v = rw (v .base) (base-is (s .settings .dimensions) (s .settings .largest) (let h = v .ranges .dimensions-least in omega arith))
 
 pub base-positive : (s : State) → Sound s → 0 < s .settings .base
-base-positive s v = let h = base-at-least-two (v .largest-least) (base-of s v) in omega arith
+base-positive s v = let h = base-at-least-two (v .ranges .largest-least) (base-of s v) in omega arith
 
 pub base-above : (s : State) → Sound s → s .settings .largest < s .settings .base ^ s .settings .dimensions
 base-above s v = base-of s v .above

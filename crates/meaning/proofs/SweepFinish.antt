@@ -101,7 +101,7 @@ finished-all x (suc n) row a = finished-all (suc x) n (finished x row) (finished
 -- what all cells but the head owe is finished: "It finishes all that is owed"
 pub finish-all : (s : State) → Sound s → finishAll (s .settings .dimensions) (picture s) 1 (s .settings .cells - 1) ≡ picture (withRow s (map paid (s .row)))
 finish-all s v =
-    let least = v .cells-least in
+    let least = v .ranges .cells-least in
     finish-from s v 1 (s .settings .cells - 1) (omega arith)
     ∙ ap (λ row. picture (withRow s row))
     (finished-all 1 (s .settings .cells - 1) (s .row) (all-map (λ y r. let above = r .0 in let below = r .1 in (λ l. absurd (omega arith), omega arith)) (s .row) (row-range s v)))

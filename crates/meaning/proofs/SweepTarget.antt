@@ -195,12 +195,12 @@ sweep-read s = λ i.
 -- there is fuel for all entries
 pub front-below : (s : State) → Sound s → length (deadFront (s .row)) < s .settings .cells
 front-below s v =
-    let least = v .cells-least in
+    let least = v .ranges .cells-least in
     omega (arith, free-length s v, ap length (row-split (s .row)), length-append (deadFront (s .row)) (fromLive (s .row)))
 
 pub freed-below : (s : State) → Sound s → length (freedBy (s .row)) < s .settings .cells
 freed-below s v =
-    let least = v .cells-least in
+    let least = v .ranges .cells-least in
     omega (arith, free-length s v, ap length (swept-split (s .row)), length-append (freedBy (s .row)) (keptBy (s .row)))
 
 -- the key of the new position, as it stands in its cell

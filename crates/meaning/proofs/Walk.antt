@@ -249,7 +249,7 @@ module _ (s : State) (v : Sound s) (k : ℕ) (least : 1 ≤ k) (most : k ≤ s .
   list-walks =
       let b = s .settings .base in
       let D = s .settings .dimensions in
-      let h = v .dimensions-least in
+      let h = v .ranges .dimensions-least in
       let above = base-above s v in
       walks-below (picture s) b D k (picture-dimensions s) (picture-base s) (base-positive s v) (omega arith) (omega arith) (D * b) (headPlace (s .row))
       (head-read s v) (others-standing s v) (omega arith) (v .ascends) 0 (omega arith) (omega arith) (omega arith)
@@ -271,7 +271,7 @@ module _ (s : State) (v : Sound s) (k : ℕ) (least : 1 ≤ k) (most : k ≤ s .
   walk-is-rule =
       let b = s .settings .base in
       let D = s .settings .dimensions in
-      let h = v .dimensions-least in
+      let h = v .ranges .dimensions-least in
       let above = base-above s v in
       ap (map (keyAt (picture s))) walk-is-row-walk
       ∙ keys-of-cells (picture s) (rowWalk b D k 0 (s .row)) (row-walk-all (λ x. keyAt (picture s) (x .cell) ≡ x .key) b D k 0 (s .row) (row-key-read s v))
@@ -281,7 +281,7 @@ module _ (s : State) (v : Sound s) (k : ℕ) (least : 1 ≤ k) (most : k ≤ s .
   walk-bounded =
       let b = s .settings .base in
       let D = s .settings .dimensions in
-      let h = v .dimensions-least in
+      let h = v .ranges .dimensions-least in
       rw (walk-is-row-walk, length-map (rowWalk b D k 0 (s .row)) (λ x. x .cell))
       (row-walk-bounded b D k (base-positive s v) (omega arith) (s .row) least (v .ascends) (keys-fit s v))
 

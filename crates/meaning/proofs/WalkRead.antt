@@ -108,7 +108,7 @@ module _ (s : State) where
       let C = s .settings .cells in
       let standing = places (s .settings .base) (s .settings .dimensions) (s .row) in
       all-zip held standing
-      (all-places (λ x. x .cell < C) (s .settings .base) (s .settings .dimensions) (s .row) (let h = v .cells-least in omega arith) (all-map (λ x h. h .1) (s .row) (row-range s v)))
+      (all-places (λ x. x .cell < C) (s .settings .base) (s .settings .dimensions) (s .row) (let h = v .ranges .cells-least in omega arith) (all-map (λ x h. h .1) (s .row) (row-range s v)))
       (place-found s v)
 
 -- Links as they stand.

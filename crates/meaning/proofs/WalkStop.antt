@@ -345,7 +345,7 @@ module _ (s : State) (v : Sound s) (k : ℕ) (least : 1 ≤ k) (most : k ≤ s .
   rests =
       let b = s .settings .base in
       let D = s .settings .dimensions in
-      let h = v .dimensions-least in
+      let h = v .ranges .dimensions-least in
       let above = base-above s v in
       rest-below (picture s) b D k (picture-dimensions s) (picture-base s) (base-positive s v) (omega arith) (omega arith) (s .row) (D * b) (headPlace (s .row))
       (head-read s v) (place-found s v .0) refl others-stand (omega arith) (v .ascends) 0 (omega arith) (omega arith) (omega arith) 0 0 0

@@ -34,7 +34,7 @@ use Rattle.paths.proofs.Alike.{Alike, path-alike, alike-walkable, alike
 
 pub picture-walkable : (t : State) → Sound t → Walkable (picture t) (t .settings)
 picture-walkable t v =
-    record { shaped = picture-shaped t v; head = omega (arith, v .cells-least); owed = owed-within t v; links = linkRead-within t v }
+    record { shaped = picture-shaped t v; head = omega (arith, v .ranges .cells-least); owed = owed-within t v; links = linkRead-within t v }
 
 pub listed-walkable : {ws : List ℕ} {s : Settings} → Listed ws s → Walkable ws s
 listed-walkable = on-listed (λ t ws s. Walkable ws s) picture-walkable

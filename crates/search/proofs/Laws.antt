@@ -51,7 +51,7 @@ module _ {ws : List ℕ} {s : Settings} (h : Listed ws s) {k from number x d n :
   looked-fits least most =
       let bound : length (walk ws k) ≤ s .dimensions * (s .base - 1) =
       on-listed (λ t l u. k ≤ u .largest → length (walk l k) ≤ u .dimensions * (u .base - 1)) (λ t v m. walk-bounded t v k least m) h most in
-      let base : s .base ≤ 65536 = on-listed (λ t l u. u .base ≤ 65536) (λ t v. base-at-most (v .dimensions-least) (v .largest-most) (base-of t v)) h in
+      let base : s .base ≤ 65536 = on-listed (λ t l u. u .base ≤ 65536) (λ t v. base-at-most (v .ranges .dimensions-least) (v .ranges .largest-most) (base-of t v)) h in
       let low : s .base - 1 ≤ 65535 = omega arith in
       let product : s .dimensions * (s .base - 1) ≤ 16 * 65535 = mul-le-mul (listed-shaped h .dimensions-most) low in
       omega (arith, ap (λ r. r .looked) (w .rested), rest-looked ws k, rest-looked-from (enough ws) ws k from number x d n)

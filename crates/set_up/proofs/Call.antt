@@ -40,7 +40,7 @@ module _ (D K C : ℕ) (checked : Checked) (is : checked ≡ checkedOf D K C) wh
   limits e =
       let r = in-range e in
       let b = ranges D K C (r .0) in
-      rw (r .1) (b .most-dimensions, b .most-cells)
+      rw (r .1) (b .dimensions-most, b .cells-most)
 
   module _ (ws : List ℕ) (r : Answer) where
     pub out-of-range-meets : checked ≡ OutOfRange → r ≡ answer 1 0 0 0 → Meets (setUpOut D K C ws) r ws

@@ -98,23 +98,23 @@ and-right true b e = e
 and-right false b e = cc
 
 pub record Ranges (D K C : ℕ) : Type 0 where
-  pub least-dimensions : leastDimensions ≤ D
-  pub most-dimensions : D ≤ mostDimensions
-  pub least-largest : leastLargest ≤ K
-  pub most-largest : K ≤ mostLargest
-  pub least-cells : leastCells ≤ C
-  pub most-cells : C ≤ mostCells
+  pub dimensions-least : leastDimensions ≤ D
+  pub dimensions-most : D ≤ mostDimensions
+  pub largest-least : leastLargest ≤ K
+  pub largest-most : K ≤ mostLargest
+  pub cells-least : leastCells ≤ C
+  pub cells-most : C ≤ mostCells
 
 pub in-range : (D K C : ℕ) → Ranges D K C → inRange D K C ≡ true
 unfolding inRange
 in-range D K C r =
     simp (
-      le-leb leastDimensions D (r .least-dimensions),
-      le-leb D mostDimensions (r .most-dimensions),
-      le-leb leastLargest K (r .least-largest),
-      le-leb K mostLargest (r .most-largest),
-      le-leb leastCells C (r .least-cells),
-      le-leb C mostCells (r .most-cells),
+      le-leb leastDimensions D (r .dimensions-least),
+      le-leb D mostDimensions (r .dimensions-most),
+      le-leb leastLargest K (r .largest-least),
+      le-leb K mostLargest (r .largest-most),
+      le-leb leastCells C (r .cells-least),
+      le-leb C mostCells (r .cells-most),
     )
 
 pub ranges : (D K C : ℕ) → inRange D K C ≡ true → Ranges D K C
@@ -125,12 +125,12 @@ ranges D K C e =
     let k = bounds leastLargest mostLargest K (and-right dimensions largest dk) in
     let c = bounds leastCells mostCells C (and-right (dimensions && largest) cells e) in
     record {
-      least-dimensions = d .0;
-      most-dimensions = d .1;
-      least-largest = k .0;
-      most-largest = k .1;
-      least-cells = c .0;
-      most-cells = c .1;
+      dimensions-least = d .0;
+      dimensions-most = d .1;
+      largest-least = k .0;
+      largest-most = k .1;
+      cells-least = c .0;
+      cells-most = c .1;
     }
   where
     dimensions : Bool

@@ -117,7 +117,7 @@ module _ (t : State) (v : Sound t) where
       (before-all fuel (front ++ y ∷ []) later (split ∙ sym (append-snoc front y later)) (omega arith))
 
   row-below : length (t .row) < t .settings .cells
-  row-below = omega (arith, v .cells-least, free-length t v)
+  row-below = omega (arith, v .ranges .cells-least, free-length t v)
 
   reaches-end : Reaches (picture t) (t .settings) 0 (replicate (t .settings .dimensions) 0)
   reaches-end =

@@ -71,7 +71,7 @@ module _ (t : State) (v : Sound t) where
         front = w .front;
         later = w .later;
         on-way = here;
-        room = omega (arith, v .cells-least, free-length t v, ap length (w .on-way .split), length-append (w .front) (w .later));
+        room = omega (arith, v .ranges .cells-least, free-length t v, ap length (w .on-way .split), length-append (w .front) (w .later));
         path-in = record { formed = f; below = λ d h. way-within v here d };
         rest = rw (all, is) refl;
       }
@@ -88,7 +88,7 @@ module _ (t : State) (v : Sound t) where
           is =
               g .rest ∙ ap (λ f. aheadFrom f ws (pathOf p) passed) fuel
               ∙ ahead-end ws (s .dimensions) (picture-dimensions t) (s .cells - suc passed) (pathOf p) passed (r .number) nowhere;
-          below = omega (arith, v .cells-least);
+          below = omega (arith, v .ranges .cells-least);
           formed = g .path-in .formed;
         }
 

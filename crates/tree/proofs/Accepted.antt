@@ -132,13 +132,8 @@ module _ (ws : List ℕ) (k : Checked ws) where
   sound =
       let r = k .header .in-range in
       record {
-        dimensions-least = r .least-dimensions;
-        dimensions-most = r .most-dimensions;
-        largest-least = r .least-largest;
-        largest-most = r .most-largest;
-        cells-least = r .least-cells;
-        cells-most = r .most-cells;
-        base = base-unique (k .header .base) (base-is (getD ws 0 0) (getD ws 1 0) (let h = r .least-dimensions in omega arith));
+        ranges = r;
+        base = base-unique (k .header .base) (base-is (getD ws 0 0) (getD ws 1 0) (let h = r .dimensions-least in omega arith));
         ascends = subst (λ low. Asc low (stateOf ws k .row)) (k .head .key) (row-asc ws 0 (k .run .met) rises);
         keys = keys-met ws (atHead ws) (k .run .met) (k .run .trace);
         count = count;

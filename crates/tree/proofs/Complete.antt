@@ -21,7 +21,7 @@ use Rattle.meaning.specs.Reading.{read, isList}
 use Rattle.meaning.specs.Words.{wordAt, keyAt, valueAt, markAt, owedAt, lowAt, highAt, coordinateAt}
 use Rattle.meaning.proofs.Order.{All, Asc, all-map, asc-weaken}
 use Rattle.meaning.proofs.Keys.{shared-same, coordinate-head}
-use Rattle.meaning.proofs.State.{Sound, sound-ranges, base-positive, base-above, base-of}
+use Rattle.meaning.proofs.State.{Sound, base-positive, base-above, base-of}
 use Rattle.meaning.proofs.Cells.{free-distinct, free-range, free-length}
 use Rattle.meaning.proofs.Picture.{picture-length, picture-free, free-found}
 use Rattle.meaning.proofs.Reading.{Follow, distinct-follow, list-is-picture, list-sound}
@@ -196,7 +196,7 @@ module _ (s : State) (v : Sound s) where
       let C = s .settings .cells in
       let b = s .settings .base in
       let pos = base-positive s v in
-      and-then (in-range D K C (sound-ranges s v))
+      and-then (in-range D K C (v .ranges))
       (and-then (eq-eqb (length (picture s)) (lengthOf D C) (picture-length s))
       (and-then (lt-ltb 0 b pos)
       (and-then (lt-ltb K (b ^ D) (base-above s v))
@@ -230,8 +230,8 @@ module _ (s : State) (v : Sound s) where
       (lastBelow (s .settings .base) (s .settings .dimensions) 0 (headPlace (s .row)))
   unfolding picture
   picture-seen =
-      let least = v .dimensions-least in
-      let cells = v .cells-least in
+      let least = v .ranges .dimensions-least in
+      let cells = v .ranges .cells-least in
       let count = free-length s v in
       all-seen (picture s) (positionKey s) (length (s .free)) (s .row) (base-positive s v) (omega arith) (position-stands s v) (omega arith)
       (places-shown s v) (all-map (λ p r. r .link) (places (s .settings .base) (s .settings .dimensions) (s .row)) (places-read s v))
@@ -260,8 +260,8 @@ module _ (s : State) (v : Sound s) where
   at-head-right : atHead (picture s) .right ≡ true
   unfolding picture
   at-head-right =
-      let least = v .dimensions-least in
-      let cells = v .cells-least in
+      let least = v .ranges .dimensions-least in
+      let cells = v .ranges .cells-least in
       let count = free-length s v in
       ap (λ t. t .right) (head-seen (picture s) (positionKey s) (length (s .free)) (s .row) (omega arith) (head-shown .path) (omega arith))
 

@@ -59,7 +59,7 @@ kept s (x ∷ row) range most worthless dead = (
 )
 
 head-kept : (s : State) → Sound s → Kept s headEntry
-head-kept s v = let c = v .cells-least in record { cell = omega arith; most = omega arith; worthless = λ e. refl; dead = λ h. refl }
+head-kept s v = let c = v .ranges .cells-least in record { cell = omega arith; most = omega arith; worthless = λ e. refl; dead = λ h. refl }
 
 places-kept : (s : State) → Sound s → All (λ p. Kept s (p .entry)) (places (s .settings .base) (s .settings .dimensions) (s .row))
 places-kept s v =

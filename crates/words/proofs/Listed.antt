@@ -22,9 +22,9 @@ picture-shaped t v =
     record {
       header = header;
       long = picture-length t;
-      dimensions-least = v .dimensions-least;
-      dimensions-most = v .dimensions-most;
-      cells-most = v .cells-most;
+      dimensions-least = v .ranges .dimensions-least;
+      dimensions-most = v .ranges .dimensions-most;
+      cells-most = v .ranges .cells-most;
     }
   where
     header : settingsAt (picture t) ≡ t .settings
@@ -53,7 +53,7 @@ pub listed-base : {ws : List ℕ} {s : Settings} → Listed ws s → 0 < s .base
 listed-base = on-listed (λ t ws s. 0 < s .base) base-positive
 
 pub listed-cells : {ws : List ℕ} {s : Settings} → Listed ws s → 3 ≤ s .cells
-listed-cells = on-listed (λ t ws s. 3 ≤ s .cells) (λ t v. v .cells-least)
+listed-cells = on-listed (λ t ws s. 3 ≤ s .cells) (λ t v. v .ranges .cells-least)
 
 -- as many words as there are most dimensions hold a key's coordinates
 pub listed-sought : {ws : List ℕ} {s : Settings} → Listed ws s → {n : ℕ} → n ≡ mostDimensions → s .dimensions ≤ n

@@ -36,7 +36,7 @@ length-requires c κs =
     let l = c .before .before .before .before .before .before .before .before .args .list .now in
     let r = c .before .in-range in
     let h = ranges (getD l 0 0) (getD l 1 0) (getD l 2 0) (holds (r .ensures) (c .if2 .left)) in
-    (h .most-dimensions, h .most-cells)
+    (h .dimensions-most, h .cells-most)
 
 returns-3 : tie.Need-returns-3
 returns-3 c =
