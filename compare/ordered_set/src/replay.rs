@@ -76,8 +76,8 @@ pub fn parse(fields: &[&str]) -> Option<Line> {
     })
 }
 
-/// "The checksum h starts at the number of words; for each word in order h becomes
-/// (h x 1,000,003 + word) mod 2,147,483,647."
+/// The checksum h starts at the number of words; for each word in order h becomes
+/// (h x 1,000,003 + word) mod 2,147,483,647.
 pub fn checksum(words: &[u32]) -> u64 {
     let step = |h: u64, &word: &u32| (h * 1_000_003 + u64::from(word)) % 2_147_483_647;
     words.iter().fold(words.len() as u64, step)

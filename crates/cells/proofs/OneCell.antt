@@ -80,12 +80,12 @@ key-written {ws} {s} h y p q k =
 
 -- The key, the mark and the value
 
-module _ (ws : List ℕ) (y : ℕ) (passed : Bool) where
-  pub entry-high : getD ws 1 0 < keyAt ws y → entryRight ws y passed ≡ false
+module _ (ws : List ℕ) (y : ℕ) (reached : Bool) where
+  pub entry-high : getD ws 1 0 < keyAt ws y → entryRight ws y reached ≡ false
   unfolding entryRight
   entry-high h = rw (lt-leb (keyAt ws y) (getD ws 1 0) h) refl
 
-  pub entry-dead : keyAt ws y ≤ getD ws 1 0 → markAt ws y ≡ 2 → entryRight ws y passed ≡ eqb (valueAt ws y) 0
+  pub entry-dead : keyAt ws y ≤ getD ws 1 0 → markAt ws y ≡ 2 → entryRight ws y reached ≡ eqb (valueAt ws y) 0
   unfolding entryRight
   entry-dead h mark =
       rw (
@@ -96,12 +96,12 @@ module _ (ws : List ℕ) (y : ℕ) (passed : Bool) where
       )
       refl
 
-  pub entry-live : keyAt ws y ≤ getD ws 1 0 → markAt ws y ≡ 1 → entryRight ws y passed ≡ passed
+  pub entry-live : keyAt ws y ≤ getD ws 1 0 → markAt ws y ≡ 1 → entryRight ws y reached ≡ reached
   unfolding entryRight
   entry-live h mark =
       rw (le-leb (keyAt ws y) (getD ws 1 0) h, ne-eqb (markAt ws y) 2 (λ e. omega arith), eq-eqb (markAt ws y) 1 mark) refl
 
-  pub entry-neither : (markAt ws y ≡ 2 → ⊥) → (markAt ws y ≡ 1 → ⊥) → entryRight ws y passed ≡ false
+  pub entry-neither : (markAt ws y ≡ 2 → ⊥) → (markAt ws y ≡ 1 → ⊥) → entryRight ws y reached ≡ false
   unfolding entryRight
   entry-neither dead live = rw (ne-eqb (markAt ws y) 2 dead, ne-eqb (markAt ws y) 1 live, and-false) refl
 
@@ -172,7 +172,7 @@ pub record Alone (ws : List ℕ) (y e : ℕ) (s : Seen) : Type 0 where
   pub inside : y < getD ws 2 0
   pub comes : follows ws (s .last) y e ≡ true
   pub writes : writesKey ws y ≡ true
-  pub entry : entryRight ws y (s .passed) ≡ true
+  pub entry : entryRight ws y (s .reached) ≡ true
   pub below : linksBelow ws (s .last) y e ≡ true
   pub debt : debtRight ws (s .last) y e ≡ true
 
@@ -180,7 +180,7 @@ module _ (ws : List ℕ) (y e : ℕ) (s : Seen) where
   pub alone : cellAloneRight ws y e s ≡ true → Alone ws y e s
   alone h =
       let x = s .last in
-      let t = joined-all (ltb 0 (s .left) ∷ ltb y (getD ws 2 0) ∷ follows ws x y e ∷ writesKey ws y ∷ entryRight ws y (s .passed) ∷
+      let t = joined-all (ltb 0 (s .left) ∷ ltb y (getD ws 2 0) ∷ follows ws x y e ∷ writesKey ws y ∷ entryRight ws y (s .reached) ∷
       linksBelow ws x y e ∷ debtRight ws x y e ∷ []) h in
       record {
         left = ltb-true 0 (s .left) (t .0);
@@ -196,7 +196,7 @@ module _ (ws : List ℕ) (y e : ℕ) (s : Seen) where
   alone-not never = sym (refuted (cellAloneRight ws y e s) (λ t. never (alone t)))
 
   pub alone-debt :
-      0 < s .left → y < getD ws 2 0 → follows ws (s .last) y e ≡ true → writesKey ws y ≡ true → entryRight ws y (s .passed) ≡ true →
+      0 < s .left → y < getD ws 2 0 → follows ws (s .last) y e ≡ true → writesKey ws y ≡ true → entryRight ws y (s .reached) ≡ true →
       linksBelow ws (s .last) y e ≡ true → cellAloneRight ws y e s ≡ debtRight ws (s .last) y e
   alone-debt left inside comes writes entry below =
       rw (lt-ltb 0 (s .left) left, lt-ltb y (getD ws 2 0) inside, comes, writes, entry, below) refl

@@ -1,4 +1,4 @@
-// A free cell.
+// The test of a free cell: its words after the first are 0.
 ghost use mathlib.Core.Path.{_≡_};
 ghost use Rattle.words.specs.Shaped.{Shaped};
 ghost use Rattle.tree.specs.Tree.{freeRight};

@@ -1,4 +1,4 @@
-// The head, cell 0.
+// The test of cell 0: that it is the head.
 ghost use mathlib.Core.Path.{_≡_};
 ghost use Prim.Native.Nat.{_<_};
 ghost use Rattle.words.specs.Shaped.{Shaped};

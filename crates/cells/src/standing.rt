@@ -60,9 +60,9 @@ fn cell_follows(list: &[u32], s: Settings, x: u32, y: u32, e: u32) -> bool
 }
 
 // Whether the key of cell y is at most K, and its mark and value are right: dead as long as the position has not been read.
-fn entry_right(list: &[u32], s: Settings, y: u32, passed: bool) -> bool
+fn entry_right(list: &[u32], s: Settings, y: u32, reached: bool) -> bool
     requires { ⌜ Shaped (now list) s × (y < s .cells) ⌝ }
-    ensures { λ r. ⌜ r ≡ entryRight (now (list .entry)) y passed ⌝ }
+    ensures { λ r. ⌜ r ≡ entryRight (now (list .entry)) y reached ⌝ }
 {
     if s.largest < words::word(list, s, y, words::KEY) {
         return false;
@@ -72,7 +72,7 @@ fn entry_right(list: &[u32], s: Settings, y: u32, passed: bool) -> bool
         return words::word(list, s, y, words::VALUE) == 0;
     }
     if mark == 1 {
-        return passed;
+        return reached;
     }
     false
 }
@@ -174,7 +174,7 @@ pub fn cell_alone_right(list: &[u32], s: Settings, y: u32, e: u32, seen: Seen) -
     if !cell_writes_key(list, s, y) {
         return false;
     }
-    if !entry_right(list, s, y, seen.passed) {
+    if !entry_right(list, s, y, seen.reached) {
         return false;
     }
     if !links_below(list, s, seen.last, y, e) {

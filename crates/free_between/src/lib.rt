@@ -146,7 +146,8 @@ fn free_chained(list: &mut [u32], s: Settings, chained: Freed)
     }
 }
 
-// Relinks head and new position, frees what is between, and redraws the path. Answers how many cells are freed.
+// Relinks head and new position, frees what is between, and redraws the path. The cells between are chained first: once the head is
+// relinked, no link leads to them. Answers how many are freed.
 pub fn drop_front(list: &mut [u32], s: Settings, t: Target) -> u32
     requires { ⌜ Droppable (now list) s t ⌝ }
     ensures { λ r. ⌜ (now (list .exit) ≡ droppedTo (now (list .entry)) s t) × (r ≡ length (cellsUpTo (now (list .entry)) s (t .cell))) ⌝ }

@@ -19,7 +19,7 @@ use Rattle.meaning.specs.Reading.{read, Listed}
 use Rattle.meaning.specs.Refusals.{answer, Meets, accepted}
 use Rattle.meaning.specs.Words.{place, wordAt, markAt}
 use Rattle.meaning.specs.Operations.{owesFromFree, positionAfter, revived, Slot, slotFor, added, insertOut}
-use Rattle.meaning.specs.Stores.{store, linkField, finishWords, writePath, writeEntry, newWords, insertWords}
+use Rattle.meaning.specs.Stores.{store, linkField, finishWords, writePath, writeEntry, newWords, insertWords, paidWords}
 use Rattle.meaning.specs.declared.Answer.{Answer}
 use Rattle.meaning.proofs.Order.{All, all-map}
 use Rattle.meaning.proofs.State.{Sound, sound-valid}
@@ -46,7 +46,7 @@ use Rattle.search.proofs.Slots.{Present, SlotFound, entry-placed, found-standin
 use Rattle.new_cell.specs.NewCell.{slotOf, Fits}
 use Rattle.finish.specs.Payable.{Payable}
 use Rattle.finish.proofs.Debts.{payable, listed-payable, listed-owes}
-use Rattle.insert.specs.Inserting.{Sought, paidWords, Ending, Due, PathWritten}
+use Rattle.insert.specs.Inserting.{Sought, Ending, Due, PathWritten}
 
 -- what holds of each state in order, its picture and its settings, where the search has answered so, holds of the list
 on-sought :

@@ -6,8 +6,7 @@ use Prim.Native.Nat.{ℕ, suc}
 use native.Mathlib.Omega.{arith}
 use borrow.Author.Tests.{eq-eqb, ne-eqb}
 use Rattle.meaning.specs.Words.{place}
-use Rattle.meaning.specs.Stores.{store, finishWords, writeEntry}
-use Rattle.insert.specs.Inserting.{paidWords}
+use Rattle.meaning.specs.Stores.{store, finishWords, writeEntry, paidWords}
 
 -- value and mark, one after the other
 pub entry-written : (D : ℕ) (ws : List ℕ) (x value mark : ℕ) {first second : List ℕ} → first ≡ store D ws x 1 value → second ≡ store D first x 2 mark → second ≡ writeEntry D ws x value mark

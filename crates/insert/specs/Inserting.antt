@@ -1,14 +1,13 @@
 -- What is known when the search has answered, and at which state the words end once the path is written.
 use mathlib.Core.Path.{_≡_}
-use mathlib.Core.Bool.{true, cond}
+use mathlib.Core.Bool.{true}
 use mathlib.Core.List.{List}
 use Prim.Native.Nat.{ℕ, _≤_, _<_}
-use lib.Dec.{eqb}
 use Rattle.settings.specs.declared.Settings.{Settings}
 use Rattle.meaning.specs.State.{State, valid}
 use Rattle.meaning.specs.Picture.{path, picture}
 use Rattle.meaning.specs.Reading.{read, Listed}
-use Rattle.meaning.specs.Stores.{finishWords, writePath}
+use Rattle.meaning.specs.Stores.{writePath}
 use Rattle.search.specs.Found.{foundOf}
 use Rattle.search.specs.declared.Found.{Found}
 
@@ -18,10 +17,6 @@ pub record Sought (ws : List ℕ) (s : Settings) (key : ℕ) (f : Found) : Type 
   pub least : 1 ≤ key
   pub most : key ≤ s .largest
   pub is : f ≡ foundOf (read ws) key
-
--- "an insert finishes what the parent owes, then what c owes", where there is a c
-abbrev pub paidWords : ℕ → List ℕ → ℕ → ℕ → List ℕ
-paidWords D ws parent c = cond (eqb c 0) (finishWords D ws parent) (finishWords D (finishWords D ws parent) c)
 
 -- Words that are the picture of a state t in order but for the D words of path. "If the key is at or below the position's", which is
 -- `top`, t has its position at the parent; else t has the path that stands.

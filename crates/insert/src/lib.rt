@@ -8,10 +8,10 @@ ghost use Rattle.meaning.specs.Reading.{read, Listed};
 ghost use Rattle.meaning.specs.Refusals.{Meets};
 ghost use Rattle.meaning.specs.Operations.{owesFromFree, insertOut};
 ghost use Rattle.meaning.specs.Words.{markAt};
-ghost use Rattle.meaning.specs.Stores.{finishWords};
+ghost use Rattle.meaning.specs.Stores.{finishWords, paidWords};
 ghost use Rattle.words.specs.Shaped.{Shaped};
 ghost use Rattle.finish.specs.Payable.{Payable};
-ghost use Rattle.insert.specs.Inserting.{Sought, paidWords, Due, PathWritten};
+ghost use Rattle.insert.specs.Inserting.{Sought, Due, PathWritten};
 use meaning::Answer;
 use search::Found;
 use settings::Settings;
@@ -68,6 +68,7 @@ fn add(list: &mut [u32], s: Settings, n: u32, f: Found, key: u32, value: u32)
 {
     let top = position_key(list, s);
     finish_neighbours(list, s, f);
+    // as any free cell's, n's first word holds the next free cell
     list[4] = words::word(list, s, n, words::KEY);
     new_cell::write_cell(list, s, n, f, key, value);
     let parent = f.parent;
@@ -76,7 +77,7 @@ fn add(list: &mut [u32], s: Settings, n: u32, f: Found, key: u32, value: u32)
     move_position(list, s, top, key, parent);
 }
 
-// Refusal 9's test for an insert: the parent's debt, and c's.
+// Refusal 9's test for an insert: the parent's debt, and c's; where there is no c, the head's, which owes nothing.
 fn slot_owes_from_free(list: &[u32], s: Settings, f: Found) -> bool
     requires { ⌜ Shaped (now list) s × ((f .parent < s .cells) × (f .c < s .cells)) ⌝ }
     ensures { λ r. ⌜ r ≡ (owesFromFree (now (list .entry)) (f .parent) || owesFromFree (now (list .entry)) (f .c)) ⌝ }

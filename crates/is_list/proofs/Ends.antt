@@ -30,13 +30,13 @@ use Rattle.cells.proofs.Laws.{refuted}
 
 module _ {ws : List ℕ} {s : Settings} (h : Shaped ws s) {agreed : ℕ} (run : agreed ≡ pathRun ws 0 0 (s .dimensions - 0)) where
   pub head-elsewhere :
-      (positionWord ws ≡ 0 → ⊥) → record { right = true; left = s .cells - 1; last = 0; agreed = agreed; passed = false } ≡ atHead ws
+      (positionWord ws ≡ 0 → ⊥) → record { right = true; left = s .cells - 1; last = 0; agreed = agreed; reached = false } ≡ atHead ws
   unfolding atHead
   head-elsewhere away = rw (ne-eqb (positionWord ws) 0 away, run, sub-zero (s .dimensions), ← shaped-dimensions h, ← shaped-cells h) refl
 
   pub head-position :
       positionWord ws ≡ 0 →
-      record { right = eqb agreed (s .dimensions); left = s .cells - 1; last = 0; agreed = agreed; passed = true } ≡ atHead ws
+      record { right = eqb agreed (s .dimensions); left = s .cells - 1; last = 0; agreed = agreed; reached = true } ≡ atHead ws
   unfolding atHead
   head-position here = rw (eq-eqb (positionWord ws) 0 here, run, sub-zero (s .dimensions), ← shaped-dimensions h, ← shaped-cells h) refl
 
@@ -132,7 +132,7 @@ pub record Accepts (ws : List ℕ) : Type 0 where
   pub head : headRight ws ≡ true
   pub start : atHead ws .right ≡ true
   pub right : seenAll ws .right ≡ true
-  pub passed : seenAll ws .passed ≡ true
+  pub reached : seenAll ws .reached ≡ true
   pub chain : chainRight ws (seenAll ws .left) (getD ws 4 0) ≡ true
 
 accepted : (ws : List ℕ) → accepts ws ≡ true → Accepts ws
@@ -142,16 +142,16 @@ accepted ws e = at (headerRight ws) refl e
     tests : Bool
     tests =
         headRight ws
-        && ((atHead ws .right && seenAll ws .right) && (seenAll ws .passed && chainRight ws (seenAll ws .left) (getD ws 4 0)))
+        && ((atHead ws .right && seenAll ws .right) && (seenAll ws .reached && chainRight ws (seenAll ws .left) (getD ws 4 0)))
 
     at : (t : Bool) → headerRight ws ≡ t → elim t [ true ↦ tests | false ↦ false ] ≡ true → Accepts ws
     at true h e =
         let chain = chainRight ws (seenAll ws .left) (getD ws 4 0) in
-        let t = both (headRight ws) ((atHead ws .right && seenAll ws .right) && (seenAll ws .passed && chain)) e in
-        let u = both (atHead ws .right && seenAll ws .right) (seenAll ws .passed && chain) (t .1) in
+        let t = both (headRight ws) ((atHead ws .right && seenAll ws .right) && (seenAll ws .reached && chain)) e in
+        let u = both (atHead ws .right && seenAll ws .right) (seenAll ws .reached && chain) (t .1) in
         let v = both (atHead ws .right) (seenAll ws .right) (u .0) in
-        let w = both (seenAll ws .passed) chain (u .1) in
-        record { header = h; head = t .0; start = v .0; right = v .1; passed = w .0; chain = w .1 }
+        let w = both (seenAll ws .reached) chain (u .1) in
+        record { header = h; head = t .0; start = v .0; right = v .1; reached = w .0; chain = w .1 }
     at false h e = absurd (false≢true e)
 
 accepts-all : (ws : List ℕ) → Accepts ws → accepts ws ≡ true
@@ -159,10 +159,10 @@ unfolding accepts
 accepts-all ws a =
     let chain = chainRight ws (seenAll ws .left) (getD ws 4 0) in
     let right = and-both (atHead ws .right) (seenAll ws .right) (a .start) (a .right) in
-    let ends = and-both (seenAll ws .passed) chain (a .passed) (a .chain) in
+    let ends = and-both (seenAll ws .reached) chain (a .reached) (a .chain) in
     rw (a .header, accepts)
-    (and-both (headRight ws) ((atHead ws .right && seenAll ws .right) && (seenAll ws .passed && chain)) (a .head)
-    (and-both (atHead ws .right && seenAll ws .right) (seenAll ws .passed && chain) right ends))
+    (and-both (headRight ws) ((atHead ws .right && seenAll ws .right) && (seenAll ws .reached && chain)) (a .head)
+    (and-both (atHead ws .right && seenAll ws .right) (seenAll ws .reached && chain) right ends))
 
 pub refuse : (ws : List ℕ) → (Accepts ws → ⊥) → variants.NotAList ≡ readingOf ws
 unfolding readingOf

@@ -96,17 +96,17 @@ module _ (ws : List ℕ) (y e : ℕ) (seen : Seen) where
   pub enter-position :
       {agreed : ℕ} → cellAloneRight ws y e seen ≡ true → y ≡ positionWord ws → agreed ≡ agreedAt ws y e (seen .agreed) →
       agreed ≡ getD ws 0 0 →
-      entered ws y e seen ≡ record { right = true; left = seen .left - 1; last = y; agreed = agreed; passed = true }
+      entered ws y e seen ≡ record { right = true; left = seen .left - 1; last = y; agreed = agreed; reached = true }
   unfolding entered cellRight
   enter-position {agreed} h here q on =
-      rw (h, ← q, eq-eqb y (positionWord ws) here, eq-eqb agreed (getD ws 0 0) on, or-true (seen .passed)) refl
+      rw (h, ← q, eq-eqb y (positionWord ws) here, eq-eqb agreed (getD ws 0 0) on, or-true (seen .reached)) refl
 
   pub enter-other :
       {agreed : ℕ} → cellAloneRight ws y e seen ≡ true → (y ≡ positionWord ws → ⊥) → agreed ≡ agreedAt ws y e (seen .agreed) →
-      entered ws y e seen ≡ record { right = true; left = seen .left - 1; last = y; agreed = agreed; passed = seen .passed }
+      entered ws y e seen ≡ record { right = true; left = seen .left - 1; last = y; agreed = agreed; reached = seen .reached }
   unfolding entered cellRight
   enter-other {agreed} h other q =
-      rw (h, ← q, ne-eqb y (positionWord ws) other, or-false (seen .passed)) refl
+      rw (h, ← q, ne-eqb y (positionWord ws) other, or-false (seen .reached)) refl
 
 module _ {ws : List ℕ} {s : Settings} (h : Shaped ws s) (y e : ℕ) (seen : Seen) (within : SeenWithin s seen) where
   pub entered-wrong : {r : Seen} → r ≡ wrong seen → entered ws y e seen ≡ wrong seen → Entered ws s y e seen r
@@ -122,9 +122,9 @@ module _ {ws : List ℕ} {s : Settings} (h : Shaped ws s) (y e : ℕ) (seen : Se
       })
 
   pub entered-right :
-      {agreed : ℕ} {passed : Bool} → cellAloneRight ws y e seen ≡ true → agreed ≤ s .dimensions →
-      entered ws y e seen ≡ record { right = true; left = seen .left - 1; last = y; agreed = agreed; passed = passed } →
-      Entered ws s y e seen (record { right = true; left = seen .left - 1; last = y; agreed = agreed; passed = passed })
+      {agreed : ℕ} {reached : Bool} → cellAloneRight ws y e seen ≡ true → agreed ≤ s .dimensions →
+      entered ws y e seen ≡ record { right = true; left = seen .left - 1; last = y; agreed = agreed; reached = reached } →
+      Entered ws s y e seen (record { right = true; left = seen .left - 1; last = y; agreed = agreed; reached = reached })
   entered-right right fits q =
       let a = alone ws y e seen right in
       let inside : y < s .cells = omega (arith, shaped-cells h) in

@@ -1,4 +1,4 @@
--- What the check answers.
+-- What the check answers: the settings of a list, or that there is none.
 use mathlib.Core.Bool.{cond}
 use mathlib.Core.List.{List}
 use Prim.Native.Nat.{ℕ}

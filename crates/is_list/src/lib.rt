@@ -59,7 +59,7 @@ pub fn is_list(list: &[u32]) -> Reading
     if !seen.right {
         return Reading::NotAList;
     }
-    if !seen.passed {
+    if !seen.reached {
         return Reading::NotAList;
     }
     if !free::chain_right(list, s, seen.left, list[4]) {

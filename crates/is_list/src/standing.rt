@@ -24,7 +24,7 @@ pub fn at_head(list: &[u32], s: Settings) -> Seen
             left,
             last: 0,
             agreed,
-            passed: false,
+            reached: false,
         };
     }
     Seen {
@@ -32,7 +32,7 @@ pub fn at_head(list: &[u32], s: Settings) -> Seen
         left,
         last: 0,
         agreed,
-        passed: true,
+        reached: true,
     }
 }
 
@@ -45,7 +45,7 @@ fn wrong(seen: Seen) -> Seen
         left: seen.left,
         last: seen.last,
         agreed: seen.agreed,
-        passed: seen.passed,
+        reached: seen.reached,
     }
 }
 
@@ -68,7 +68,7 @@ fn enter(list: &[u32], s: Settings, y: u32, e: u32, seen: Seen) -> Seen
             left,
             last: y,
             agreed,
-            passed: true,
+            reached: true,
         };
     }
     Seen {
@@ -76,7 +76,7 @@ fn enter(list: &[u32], s: Settings, y: u32, e: u32, seen: Seen) -> Seen
         left,
         last: y,
         agreed,
-        passed: seen.passed,
+        reached: seen.reached,
     }
 }
 

@@ -58,7 +58,7 @@ pub extern "C" fn mdlist_take(list: &mut [u32]) -> Answer
     take::take(list, s)
 }
 
-// Frees the dead cells before the position, so that they serve again.
+// Finishes all that is owed, moves the position to the greatest dead cell below every live key, and frees the cells before it.
 #[no_mangle]
 pub extern "C" fn mdlist_sweep(list: &mut [u32]) -> Answer
     ensures { λ r. ⌜ Meets (sweepOut (now (list .entry))) r (now (list .exit)) ⌝ }

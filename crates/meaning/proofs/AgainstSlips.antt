@@ -1,5 +1,5 @@
--- Document 01's "Slips that look right", each shut out by a law of its own. The theorems of specs/Promises.antt shut them out too; these
--- say it at the definition itself, so that a definition that slips is refused here first.
+-- Four of document 01's five "Slips that look right", each shut out by a law of its own; the fifth, an owing cell freed in a sweep, cannot be
+-- made in a definition that computes every link. They say it at the definition itself, so that a definition that slips is refused here first.
 use mathlib.Core.Path.{_≡_, refl, ap}
 use mathlib.Core.Bool.{false, cond}
 use mathlib.Core.List.{List, [], _∷_}

@@ -1,6 +1,6 @@
 -- Calls on lists, and what they do to the live pairs and the standing keys: a list is the picture of the state that it holds, so what a
 -- call does to a state in order (BookCalls.antt) it does to a list. Takes hand out the first live pair each time, as long as there is
--- one; and a key is live on the words just if the entry with that key is.
+-- one; and a key is live on the words exactly if the entry with that key is.
 use mathlib.Core.Path.{_≡_, refl, sym, _∙_, ap, ap₂, subst}
 use mathlib.Core.Bool.{Bool, true, false}
 use mathlib.Core.List.{List, [], _∷_, cons≢nil}

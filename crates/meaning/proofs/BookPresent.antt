@@ -1,4 +1,4 @@
--- Present means that same key: on the words of a list a key is live just if the entry with that key is, for a cell with mark 1 stands and
+-- Present means that same key: on the words of a list a key is live exactly if the entry with that key is, for a cell with mark 1 stands and
 -- is not the head, and no two entries have the same key. Insert and find answer by that entry.
 use mathlib.Core.Path.{_≡_, refl, sym, _∙_, ap, subst}
 use mathlib.Core.Bool.{Bool, true, false, false≢true}

@@ -1,4 +1,4 @@
--- The live pairs and the keys of a row, and what each change of a row does to them. A pair is live just if the first entry with its key
+-- The live pairs and the keys of a row, and what each change of a row does to them. A pair is live exactly if the first entry with its key
 -- is; the entries of a changed cell stand between smaller and larger keys; before the first live entry there are no pairs.
 use mathlib.Core.Path.{_≡_, refl, sym, _∙_, ap, ap₂, subst}
 use mathlib.Core.Bool.{Bool, true, false, cond, _||_, false≢true}

@@ -122,6 +122,6 @@ module _ (ws : List ℕ) (a : AList ws) where
 pub sentences-list : (ws : List ℕ) → AList ws → isList ws ≡ true
 sentences-list ws a = subst (λ words. isList words ≡ true) (sentences-picture ws a) (picture-is-list (stateOf ws a) (state-sound ws a))
 
--- The sentences of document 01 hold of a buffer just if it is a list by specs/Reading.antt.
-pub list-just-if : (ws : List ℕ) → (isList ws ≡ true) ↔ AList ws
-list-just-if ws = (list-sentences ws, sentences-list ws)
+-- The sentences of document 01 hold of a buffer exactly if it is a list by specs/Reading.antt.
+pub list-exactly-if : (ws : List ℕ) → (isList ws ≡ true) ↔ AList ws
+list-exactly-if ws = (list-sentences ws, sentences-list ws)

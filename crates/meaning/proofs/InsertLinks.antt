@@ -400,7 +400,7 @@ module _ (b D : ℕ) (pos : 0 < b) where
 -- In a row
 
 -- Nothing is owed that the new entry x touches: the entry before it, its parent, and the next larger entry if that has the slot, owe
--- nothing; and x itself owes just if that one has the slot and shares more with x than p coordinates.
+-- nothing; and x itself owes exactly if that one has the slot and shares more with x than p coordinates.
 pub record Cleared (b D : ℕ) (pre : List Entry) (x : Entry) (post : List Entry) : Type 0 where
   pub last : lastFrom headEntry pre .owes ≡ false
   pub parent : All (λ y. y .cell ≡ parentAfter b D headEntry pre (x .key) → y .owes ≡ false) (headEntry ∷ (pre ++ x ∷ post))

@@ -16,6 +16,7 @@ use Rattle.meaning.specs.Row.{Entry, headEntry, firstOf, Place, headPlac
 use Rattle.meaning.specs.State.{State, occurrences}
 use Rattle.meaning.specs.Picture.{firstNumber, nextFree, picture}
 use Rattle.meaning.specs.Words.{wordAt}
+use Rattle.meaning.specs.Stores.{newLinks}
 use Rattle.meaning.specs.Operations.{withRow, Slot, newEntry, slotOwes}
 use Rattle.meaning.proofs.Order.{All, Asc, all-left, all-right, all-append}
 use Rattle.meaning.proofs.Keys.{shared-less}
@@ -25,7 +26,7 @@ use Rattle.meaning.proofs.Picture.{first-has, free-found}
 use Rattle.meaning.proofs.Places.{all-splits, asc-left, lastFrom, Keeping, firstOf-changed}
 use Rattle.meaning.proofs.Keeps.{cells-positive, cell-stands}
 use Rattle.meaning.proofs.Parent.{dimensionAfter, Without, Apart, all-last, apart-left, first-place}
-use Rattle.meaning.proofs.Slot.{Gap, sound-apart, first-free-all, dimensions-positive, slotCell, SlotIs, last-changed, parent-changed, gap-last, first-free-apart}
+use Rattle.meaning.proofs.Slot.{Gap, sound-apart, first-free-all, dimensions-positive, cellAfter, SlotIs, last-changed, parent-changed, gap-last, first-free-apart}
 use Rattle.meaning.proofs.SentencesCells.{placesIn, Placed, placed-entry, placed-cell, head-placed, occurs-placed, free-cell-first}
 use Rattle.meaning.proofs.KeepsInsert.{slot-first, owing-parent}
 use Rattle.meaning.proofs.InsertLinks.{newOwes, newLink, NextUnowing, Cleared}
@@ -36,7 +37,7 @@ module _ (f : Entry → Entry) (k : Keeping f) (b D key : ℕ) where
   pub dimension-changed : (pre : List Entry) → dimensionAfter b D headEntry (map f pre) key ≡ dimensionAfter b D headEntry pre key
   dimension-changed pre = ap (λ i. shared b D i key) (ap (λ y. y .key) (last-changed f k pre) ∙ k .key (lastFrom headEntry pre))
 
-  slotCell-changed : (p : ℕ) (post : List Entry) → slotCell b D key p (map f post) ≡ slotCell b D key p post
+  slotCell-changed : (p : ℕ) (post : List Entry) → cellAfter b D key p (map f post) ≡ cellAfter b D key p post
   slotCell-changed p [] = refl
   slotCell-changed p (z ∷ rest) = ap₂ (λ i c. cond (leb p (shared b D key i)) c 0) (k .key z) (k .cell z)
 
@@ -51,7 +52,7 @@ slot-changed s f k key pre post t i row =
       n-is = i .n-is;
       p-is = i .p-is ∙ sym same;
       parent-is = i .parent-is ∙ sym (parent-changed f k b D pre key);
-      c-is = i .c-is ∙ sym (ap (λ p. slotCell b D key p (map f post)) same ∙ slotCell-changed f k b D key (dimensionAfter b D headEntry pre key) post);
+      c-is = i .c-is ∙ sym (ap (λ p. cellAfter b D key p (map f post)) same ∙ slotCell-changed f k b D key (dimensionAfter b D headEntry pre key) post);
       q-is = λ held. i .q-is held ∙ sym (ap (shared b D key) (ap (λ y. y .key) (firstOf-changed f k post) ∙ k .key (firstOf post)));
     }
 
@@ -59,15 +60,15 @@ slot-changed s f k key pre post t i row =
 
 -- it is c if it shares at least p coordinates with the key; else there is no c
 module _ (b D key p : ℕ) (z : Entry) (rest : List Entry) where
-  slot-held : p ≤ shared b D key (z .key) → slotCell b D key p (z ∷ rest) ≡ z .cell
+  slot-held : p ≤ shared b D key (z .key) → cellAfter b D key p (z ∷ rest) ≡ z .cell
   slot-held h = ap (λ t. cond t (z .cell) 0) (le-leb p (shared b D key (z .key)) h)
 
-  slot-empty : shared b D key (z .key) < p → slotCell b D key p (z ∷ rest) ≡ 0
+  slot-empty : shared b D key (z .key) < p → cellAfter b D key p (z ∷ rest) ≡ 0
   slot-empty h = ap (λ t. cond t (z .cell) 0) (lt-leb p (shared b D key (z .key)) h)
 
 -- the links of a new cell, as they are written
 abbrev pub slotLinks : ℕ → Slot → List ℕ
-slotLinks D t = cond (eqb (t .c) 0) (replicate D 0) (set (replicate D 0) (t .q) (t .c))
+slotLinks D t = newLinks D (t .q) (t .c)
 
 pub slotLinks-length : (D : ℕ) (t : Slot) → length (slotLinks D t) ≡ D
 slotLinks-length D t = at (eqb (t .c) 0)
@@ -95,7 +96,7 @@ slotLinks-here D d t h held e =
 
 module _ (b D key : ℕ) (t : Slot) where
   owes-at :
-      (post : List Entry) → All (λ z. 0 < z .cell) post → t .c ≡ slotCell b D key (t .p) post → ((t .c ≡ 0 → ⊥) → t .q ≡ shared b D key (firstOf post .key)) →
+      (post : List Entry) → All (λ z. 0 < z .cell) post → t .c ≡ cellAfter b D key (t .p) post → ((t .c ≡ 0 → ⊥) → t .q ≡ shared b D key (firstOf post .key)) →
       slotOwes t ≡ newOwes b D key (t .p) post
   owes-at [] stands c q = ap (λ r. not r && ltb (t .p) (t .q)) (eq-eqb (t .c) 0 c)
   owes-at (z ∷ rest) stands c q = at (decLe (t .p) (shared b D key (z .key)))
@@ -110,7 +111,7 @@ module _ (b D key : ℕ) (t : Slot) where
           ap (λ r. not r && ltb (t .p) (t .q)) (eq-eqb (t .c) 0 (c ∙ is)) ∙ sym (le-ltb (t .p) (shared b D key (z .key)) (omega arith))
 
   link-at :
-      (post : List Entry) → All (λ z. 0 < z .cell) post → t .c ≡ slotCell b D key (t .p) post → ((t .c ≡ 0 → ⊥) → t .q ≡ shared b D key (firstOf post .key)) →
+      (post : List Entry) → All (λ z. 0 < z .cell) post → t .c ≡ cellAfter b D key (t .p) post → ((t .c ≡ 0 → ⊥) → t .q ≡ shared b D key (firstOf post .key)) →
       (d : ℕ) → d < D → getD (slotLinks D t) d 0 ≡ newLink b D key (t .p) post d
   link-at [] stands c q d h = slotLinks-none D d t h c
   link-at (z ∷ rest) stands c q d h = at (decLe (t .p) (shared b D key (z .key))) (ℕ-discrete d (shared b D key (z .key)))
@@ -191,14 +192,14 @@ module _ (s : State) (v : Sound s) (key : ℕ) (positive : 0 < key) (g : Gap key
       stands c e found = (found .0, subst (λ y. Placed s y (found .0)) (sym e) (found .1))
 
       at : (post : List Entry) → g .post ≡ post → (q : Place) × Placed s (t .c) q
-      at [] e = stands 0 (i .c-is ∙ ap (slotCell b D key (dimensionAfter b D headEntry (g .pre) key)) e) (headPlace (s .row), head-placed s)
+      at [] e = stands 0 (i .c-is ∙ ap (cellAfter b D key (dimensionAfter b D headEntry (g .pre) key)) e) (headPlace (s .row), head-placed s)
       at (z ∷ rest) e = choose (decLe p (shared b D key (z .key)))
         where
           p : ℕ
           p = dimensionAfter b D headEntry (g .pre) key
 
-          is : t .c ≡ slotCell b D key p (z ∷ rest)
-          is = i .c-is ∙ ap (slotCell b D key p) e
+          is : t .c ≡ cellAfter b D key p (z ∷ rest)
+          is = i .c-is ∙ ap (cellAfter b D key p) e
 
           choose : Dec (p ≤ shared b D key (z .key)) → (q : Place) × Placed s (t .c) q
           choose (yes h) =
@@ -221,8 +222,8 @@ module _ (s : State) (v : Sound s) (key : ℕ) (positive : 0 < key) (g : Gap key
   above-stand : All (λ z. 0 < z .cell) (g .post)
   above-stand = all-right (λ z. 0 < z .cell) (g .pre) (g .post) (subst (All (λ z. 0 < z .cell)) (g .splits) (cells-positive s v))
 
-  held-by : t .c ≡ slotCell b D key (t .p) (g .post)
-  held-by = i .c-is ∙ ap (λ p. slotCell b D key p (g .post)) (sym (i .p-is))
+  held-by : t .c ≡ cellAfter b D key (t .p) (g .post)
+  held-by = i .c-is ∙ ap (λ p. cellAfter b D key p (g .post)) (sym (i .p-is))
 
   pub slot-owes : slotOwes t ≡ newOwes (s .settings .base) (s .settings .dimensions) key (t .p) (g .post)
   slot-owes = owes-at b D key t (g .post) above-stand held-by (i .q-is)
@@ -245,7 +246,7 @@ module _ (s : State) (v : Sound s) (key : ℕ) (positive : 0 < key) (g : Gap key
         at true e = paid (sym (owing-parent s v key positive g e) ∙ sym (i .parent-is))
         at false e = e
 
-    next-unowing : (post : List Entry) → t .c ≡ slotCell b D key (t .p) post → All (λ y. y .cell ≡ t .c → y .owes ≡ false) post → NextUnowing b D key (t .p) post
+    next-unowing : (post : List Entry) → t .c ≡ cellAfter b D key (t .p) post → All (λ y. y .cell ≡ t .c → y .owes ≡ false) post → NextUnowing b D key (t .p) post
     next-unowing [] is paid = tt
     next-unowing (z ∷ rest) is paid = λ h. paid .0 (sym (is ∙ slot-held b D key (t .p) z rest h))
 

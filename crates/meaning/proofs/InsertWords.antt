@@ -34,6 +34,7 @@ use Rattle.meaning.proofs.InsertSlot.{slot-changed, slotLinks, slotLink
 use Rattle.meaning.proofs.InsertPut.{withNew, newPlace, writeNew, put-new, put-link, put-new-words, put-elsewhere, put-parent, put-words}
 use Rattle.meaning.proofs.InsertPath.{put-path}
 
+-- a word that finishing cell n does not change
 finish-unmoved : (s : State) (v : Sound s) (n : ℕ) → 0 < occurrences n (0 ∷ map (λ y. y .cell) (s .row)) → (x j : ℕ) → j < cellWords (s .settings .dimensions) → Unmoved (picture s) n x j →
     wordAt (picture (withRow s (finished n (s .row)))) x j ≡ wordAt (picture s) x j
 unfolding picture
@@ -50,6 +51,7 @@ module _ (s : State) (v : Sound s) (key value : ℕ) (positive : 0 < key) (g : G
   abbrev D : ℕ
   D = s .settings .dimensions
 
+  -- the state with the parent's debt finished, and with c's too
   abbrev one : State
   one = parentPaid s t
 

@@ -25,7 +25,7 @@ use Rattle.meaning.proofs.Places.{all-mapped, occurrences-append, occur
 use Rattle.meaning.proofs.Keeps.{changed-sound}
 use Rattle.meaning.proofs.KeepsFinish.{paid-keeping, finished-sound}
 use Rattle.meaning.proofs.Parent.{dimensionAfter, parentAfter, placesFrom, Without, Apart, asc-last, apart-left, apart-at, first-among, first-key, last-shares, last-first, parent-is}
-use Rattle.meaning.proofs.Slot.{Gap, gap, put-gap, asc-put, apart-put, sound-apart, first-free, dimensions-positive, slotCell, SlotIs, slot-is, without-changed, apart-changed, gap-changed, last-changed, parent-changed, gap-last, first-free-apart}
+use Rattle.meaning.proofs.Slot.{Gap, gap, put-gap, asc-put, apart-put, sound-apart, first-free, dimensions-positive, cellAfter, SlotIs, slot-is, without-changed, apart-changed, gap-changed, last-changed, parent-changed, gap-last, first-free-apart}
 
 -- The position
 
@@ -264,7 +264,7 @@ first-owes [] h = absurd (let z : _≡_ {A = ℕ} 0 1 = cc in omega arith)
 first-owes (x ∷ post) h = omega arith
 
 -- it has the slot
-pub slot-first : (b D key p : ℕ) (post : List Entry) → (slotCell b D key p post ≡ 0 → ⊥) → (0 < length post) × (slotCell b D key p post ≡ firstOf post .cell)
+pub slot-first : (b D key p : ℕ) (post : List Entry) → (cellAfter b D key p post ≡ 0 → ⊥) → (0 < length post) × (cellAfter b D key p post ≡ firstOf post .cell)
 slot-first b D key p [] n = absurd (n refl)
 slot-first b D key p (x ∷ post) n = at (decLe p (shared b D key (x .key))) n
   where
@@ -273,7 +273,7 @@ slot-first b D key p (x ∷ post) n = at (decLe p (shared b D key (x .key))) n
     at (no h) m = absurd (m (rw (lt-leb p (shared b D key (x .key)) (omega arith)) refl))
 
 -- or it shares less with the key
-pub slot-not-first : (b D key p : ℕ) (post : List Entry) → 0 < length post → (firstOf post .cell ≡ slotCell b D key p post → ⊥) → shared b D key (firstOf post .key) < p
+pub slot-not-first : (b D key p : ℕ) (post : List Entry) → 0 < length post → (firstOf post .cell ≡ cellAfter b D key p post → ⊥) → shared b D key (firstOf post .key) < p
 slot-not-first b D key p [] h n = absurd (omega arith)
 slot-not-first b D key p (x ∷ post) h n = at (decLe p (shared b D key (x .key))) n
   where

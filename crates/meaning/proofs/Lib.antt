@@ -1,4 +1,5 @@
--- The laws of the definitions in specs/, each file beside the definition of the same name.
+-- The laws of the definitions in specs/. Keeps.. say that a state in order stays so, ..Words what is written, Walk.. and Path.. what the walk and
+-- the path come to, Sentences.. and Converse.. that lists are what the sentences say, Book.. what an ordered map would do.
 pub mod Computing
 pub mod Fourteen
 pub mod Examples

@@ -22,13 +22,15 @@ use Rattle.meaning.proofs.Keys.{shared-agreed, lexicographic, coordinat
 use Rattle.meaning.proofs.Ascending.{asc-rising, rising-equal}
 use Rattle.meaning.proofs.State.{Sound, base-positive, base-above}
 use Rattle.meaning.proofs.Reading.{list-sound, picture-is-list, read-of-picture}
-use Rattle.meaning.proofs.Outcomes.{on-lists, refused-alters-nothing, insert-outcome-bad-key, insert-outcome-live, insert-outcome-dead, insert-outcome-full, insert-outcome-new, find-outcome-bad-key, find-outcome-absent, find-outcome-dead, find-outcome-live, key-cases, live-cases, free-cases}
-use Rattle.meaning.proofs.Book.{calls-keep-lists, lists-stay-lists, calls-are-booked, takes-in-turn, takes-end}
-use Rattle.meaning.proofs.Leaves.{find-writes, take-writes, revive-writes, insert-writes, finish-writes, sweep-writes}
-use Rattle.meaning.proofs.Serves.{each-cell-once, swept-cells-first, insert-uses-first}
-use Rattle.meaning.proofs.BookPresent.{present-means-that-key}
-use Rattle.meaning.proofs.Walk.{walk-is-rule, walk-bounded, walk-ends, walk-more, walk-looked}
-use Rattle.meaning.proofs.Converse.{list-just-if}
+use Rattle.meaning.proofs.Outcomes as outcomes
+use Rattle.meaning.proofs.Outcomes.{on-lists, insert-outcome-bad-key, insert-outcome-live, insert-outcome-dead, insert-outcome-full, insert-outcome-new, find-outcome-bad-key, find-outcome-absent, find-outcome-dead, find-outcome-live, key-cases, live-cases, free-cases}
+use Rattle.meaning.proofs.Book as book
+use Rattle.meaning.proofs.Leaves as leaves
+use Rattle.meaning.proofs.Serves as serves
+use Rattle.meaning.proofs.BookPresent as present
+use Rattle.meaning.proofs.Walk as walks
+use Rattle.meaning.proofs.Walk.{walk-more, walk-looked}
+use Rattle.meaning.proofs.Converse.{list-exactly-if}
 
 -- keys up to K are below b to the power D
 pub list-keys : (ws : List ℕ) → isList ws ≡ true → (0 < baseAt ws) × (largestAt ws < baseAt ws ^ dimensionsAt ws)
@@ -42,27 +44,27 @@ shared-means-leading ws e x y hx hy =
     shared-agreed (baseAt ws) (dimensionsAt ws) x y (k .0) (omega arith) (omega arith)
 
 pub list-means-sentences : ListMeansSentences
-list-means-sentences = list-just-if
+list-means-sentences = list-exactly-if
 
-pub walk-and-rule : WalkIsRule
+pub walk-is-rule : WalkIsRule
 unfolding picture
-walk-and-rule =
+walk-is-rule =
     on-lists
     (λ ws. (k : ℕ) → 1 ≤ k → k ≤ largestAt ws → map (keyAt ws) (walk ws k) ≡ rule (baseAt ws) (dimensionsAt ws) (standingKeys ws) k)
-    (λ s v k h l. walk-is-rule s v k h l ∙ ap (λ t. rule (s .settings .base) (s .settings .dimensions) (map (λ x. x .key) (t .row)) k) (sym (read-of-picture s v)))
+    (λ s v k h l. walks.walk-is-rule s v k h l ∙ ap (λ t. rule (s .settings .base) (s .settings .dimensions) (map (λ x. x .key) (t .row)) k) (sym (read-of-picture s v)))
 
-pub walk-within : WalkBounded
+pub walk-bounded : WalkBounded
 unfolding picture
-walk-within =
-    on-lists (λ ws. (k : ℕ) → 1 ≤ k → k ≤ largestAt ws → length (walk ws k) ≤ dimensionsAt ws * (baseAt ws - 1)) (λ s v. walk-bounded s v)
+walk-bounded =
+    on-lists (λ ws. (k : ℕ) → 1 ≤ k → k ≤ largestAt ws → length (walk ws k) ≤ dimensionsAt ws * (baseAt ws - 1)) (λ s v. walks.walk-bounded s v)
 
-pub walk-comes-to-its-end : WalkEnds
+pub walk-ends : WalkEnds
 unfolding picture
-walk-comes-to-its-end =
+walk-ends =
     on-lists
     (λ ws. (k : ℕ) → 1 ≤ k → k ≤ largestAt ws
     → (ends (dimensionsAt ws * baseAt ws) ws k 0 0 ≡ true) × ((fuel : ℕ) → dimensionsAt ws * baseAt ws ≤ fuel → walkFrom fuel ws k 0 0 ≡ walk ws k))
-    (λ s v k h l. (walk-ends s v k h l, walk-more s v k h l))
+    (λ s v k h l. (walks.walk-ends s v k h l, walk-more s v k h l))
 
 -- the base of a list follows from its dimensions and its largest key
 list-base : (ws : List ℕ) → isList ws ≡ true → baseAt ws ≡ baseOf (dimensionsAt ws) (largestAt ws)
@@ -74,10 +76,10 @@ walk-by-keys-alone ws vs e f d l same k h m =
     let b : baseAt ws ≡ baseAt vs = list-base ws e ∙ (ap₂ baseOf d l ∙ sym (list-base vs f)) in
     let keys : standingKeys ws ≡ standingKeys vs =
     rising-equal 0 (standingKeys ws) (standingKeys vs) (asc-rising 0 (read ws .row) (list-sound ws e .ascends)) (asc-rising 0 (read vs .row) (list-sound vs f .ascends)) same in
-    walk-and-rule ws e k h m
+    walk-is-rule ws e k h m
     ∙ (ap (λ t. rule t (dimensionsAt ws) (standingKeys ws) k) b
     ∙ (ap (λ t. rule (baseAt vs) t (standingKeys ws) k) d
-    ∙ (ap (λ t. rule (baseAt vs) (dimensionsAt vs) t k) keys ∙ sym (walk-and-rule vs f k h (subst (λ t. k ≤ t) l m)))))
+    ∙ (ap (λ t. rule (baseAt vs) (dimensionsAt vs) t k) keys ∙ sym (walk-is-rule vs f k h (subst (λ t. k ≤ t) l m)))))
 
 pub order-is-lexicographic : OrderIsLexicographic
 order-is-lexicographic ws e x y hx hy =
@@ -130,8 +132,8 @@ looks s v key o c =
     let n = walk-looked s v key (c .least) (c .most) in
     record {
       walked = c .count ∙ sym n;
-      ruled = walk-and-rule (picture s) (picture-is-list s v) key (c .least) (c .most);
-      bounded = subst (λ (t : ℕ). t ≤ s .settings .dimensions * (s .settings .base - 1)) (n ∙ sym (c .count)) (walk-bounded s v key (c .least) (c .most));
+      ruled = walk-is-rule (picture s) (picture-is-list s v) key (c .least) (c .most);
+      bounded = subst (λ (t : ℕ). t ≤ s .settings .dimensions * (s .settings .base - 1)) (n ∙ sym (c .count)) (walks.walk-bounded s v key (c .least) (c .most));
     }
 
 pub looked-is-walk : LookedIsWalk
@@ -143,54 +145,54 @@ looked-is-walk ws fresh =
     × (answersLooked (findOut ws key .answered .refusal) ≡ true → Looks ws key (findOut ws key .answered .count)))
     (λ s v key value. (λ e. looks s v key (insertOut (picture s) key value) (insert-counts s v key value e), λ e. looks s v key (findOut (picture s) key) (find-counts s v key e)))
     ws
-    (lists-stay-lists ws fresh)
+    (book.lists-stay-lists ws fresh)
 
--- The promises that stand with the laws they rest on.
+-- Promises whose law is stated elsewhere, of lists already.
 
-pub kept-lists : ListsStayLists
-kept-lists = lists-stay-lists
+pub lists-stay-lists : ListsStayLists
+lists-stay-lists = book.lists-stay-lists
 
-pub kept-by-each-call : CallsKeepLists
-kept-by-each-call = calls-keep-lists
+pub calls-keep-lists : CallsKeepLists
+calls-keep-lists = book.calls-keep-lists
 
-pub unaltered-when-refused : RefusedAltersNothing
-unaltered-when-refused = refused-alters-nothing
+pub refused-alters-nothing : RefusedAltersNothing
+refused-alters-nothing = outcomes.refused-alters-nothing
 
-pub present-by-that-key : PresentMeansThatKey
-present-by-that-key = present-means-that-key
+pub present-means-that-key : PresentMeansThatKey
+present-means-that-key = present.present-means-that-key
 
-pub taken-in-turn : TakesInTurn
-taken-in-turn = takes-in-turn
+pub takes-in-turn : TakesInTurn
+takes-in-turn = book.takes-in-turn
 
-pub taken-to-the-end : TakesEnd
-taken-to-the-end = takes-end
+pub takes-end : TakesEnd
+takes-end = book.takes-end
 
-pub find-writes-no-word : FindWritesNothing
-find-writes-no-word = find-writes
+pub find-writes-nothing : FindWritesNothing
+find-writes-nothing = leaves.find-writes
 
-pub take-writes-so : TakeWrites
-take-writes-so = take-writes
+pub take-writes : TakeWrites
+take-writes = leaves.take-writes
 
-pub revive-writes-so : ReviveWrites
-revive-writes-so = revive-writes
+pub revive-writes : ReviveWrites
+revive-writes = leaves.revive-writes
 
-pub insert-writes-so : InsertWrites
-insert-writes-so = insert-writes
+pub insert-writes : InsertWrites
+insert-writes = leaves.insert-writes
 
-pub finish-writes-so : FinishWrites
-finish-writes-so = finish-writes
+pub finish-writes : FinishWrites
+finish-writes = leaves.finish-writes
 
-pub sweep-writes-so : SweepWrites
-sweep-writes-so = sweep-writes
+pub sweep-writes : SweepWrites
+sweep-writes = leaves.sweep-writes
 
-pub cells-once : EachCellOnce
-cells-once = each-cell-once
+pub each-cell-once : EachCellOnce
+each-cell-once = serves.each-cell-once
 
-pub freed-cells-first : SweptCellsFirst
-freed-cells-first = swept-cells-first
+pub swept-cells-first : SweptCellsFirst
+swept-cells-first = serves.swept-cells-first
 
-pub first-cell-used : InsertUsesFirst
-first-cell-used = insert-uses-first
+pub insert-uses-first : InsertUsesFirst
+insert-uses-first = serves.insert-uses-first
 
-pub booked-like-a-map : CallsAreBooked
-booked-like-a-map = calls-are-booked
+pub calls-are-booked : CallsAreBooked
+calls-are-booked = book.calls-are-booked

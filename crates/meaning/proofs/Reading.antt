@@ -1,4 +1,4 @@
--- Reading a picture gives the state again, so a buffer is a list just if it is the picture of a state in order. Part by part: the
+-- Reading a picture gives the state again, so a buffer is a list exactly if it is the picture of a state in order. Part by part: the
 -- blocks are cut out as they were put in; put one by one into a row, the standing cells numbered i and more are those of the row; the
 -- free cells are distinct, so each leads to the next; the last word of the path is the position, since only equal keys share all
 -- coordinates.
@@ -57,7 +57,7 @@ pub entry-read : (b D c : ℕ) (x : Place) → x .entry .cell ≡ c → not (eqb
 unfolding standingWords
 entry-read b D c x e o = λ i. record { cell = sym e i; key = x .entry .key; value = x .entry .value; live = mark-live (x .entry .live) i; owes = o i }
 
--- a cell owes just if its owed word is not 0
+-- a cell owes exactly if its owed word is not 0
 pub owes-told : (owes : Bool) (c : ℕ) → (owes ≡ true → 0 < c) → not (eqb (cond owes c 0) 0) ≡ owes
 owes-told true c f = rw (ne-eqb c 0 (λ e. let h = f refl in omega arith)) refl
 owes-told false c f = refl

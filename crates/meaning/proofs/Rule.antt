@@ -1,5 +1,5 @@
--- The rule for looked, put by the key before: a key is met just if the one before it is below k and shares as many coordinates with k as
--- with it. Up to k the rule counts just the keys met; above k at most the least key is counted, by either half of the rule, just if met.
+-- The rule for looked, put by the key before: a key is met exactly if the one before it is below k and shares as many coordinates with k as
+-- with it. Up to k the rule counts just the keys met; above k at most the least key is counted, by either half of the rule, exactly if met.
 use mathlib.Core.Path.{_≡_, refl, _∙_, ap}
 use mathlib.Core.Bool.{Bool, true, false, cond, _&&_, not, and-true}
 use mathlib.Core.List.{List, [], _∷_, _++_, map}
@@ -118,7 +118,7 @@ module _ (b D k : ℕ) (pos : 0 < b) (some : 0 < D) (kfits : k < b ^ D) where
       go true e ih = absurd (let l = meets-facts b D k a (x .key) (counted-met a (x .key) (asc .0) (fits .0) e) in omega arith)
       go false e ih = rw e ih
 
-  -- the least key above k is met just if it shares as many coordinates with k as the key before does
+  -- the least key above k is met exactly if it shares as many coordinates with k as the key before does
   above-met : (a x : ℕ) → a ≤ k → k < x → meets b D k a x ≡ leb (shared b D a k) (shared b D x k)
   above-met a x h l = go (ℕ-discrete a k) (decLe (shared b D a k) (shared b D x k))
     where

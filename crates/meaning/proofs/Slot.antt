@@ -116,13 +116,13 @@ dimensions-positive s v = let h = v .ranges .dimensions-least in omega arith
 -- What has the slot
 
 -- the next larger entry's cell, if that entry shares at least p coordinates with the key
-abbrev pub slotCell : ℕ → ℕ → ℕ → ℕ → List Entry → ℕ
-slotCell b D key p [] = 0
-slotCell b D key p (x ∷ later) = cond (leb p (shared b D key (x .key))) (x .cell) 0
+abbrev pub cellAfter : ℕ → ℕ → ℕ → ℕ → List Entry → ℕ
+cellAfter b D key p [] = 0
+cellAfter b D key p (x ∷ later) = cond (leb p (shared b D key (x .key))) (x .cell) 0
 
 module _ (b D : ℕ) (pos : 0 < b) (deep : 0 < D) where
   -- of what is above the key, the first that shares just p with y, if y shares more than p with the entry before the key, whose key is a
-  slot-next : (y a key : ℕ) (post : List Entry) → y ≤ a → a < key → Asc key post → shared b D a key < shared b D y a → firstSharing b D y (shared b D a key) post ≡ slotCell b D key (shared b D a key) post
+  slot-next : (y a key : ℕ) (post : List Entry) → y ≤ a → a < key → Asc key post → shared b D a key < shared b D y a → firstSharing b D y (shared b D a key) post ≡ cellAfter b D key (shared b D a key) post
   slot-next y a key [] k l c h = sharing-none b D y (shared b D a key) [] tt
   slot-next y a key (x ∷ later) k l c h = at (decLe p (shared b D key (x .key)))
     where
@@ -145,7 +145,7 @@ module _ (b D : ℕ) (pos : 0 < b) (deep : 0 < D) where
   slot-held :
       (y : Entry) (between post : List Entry) (key : ℕ) → Asc (y .key) between → lastFrom y between .key < key → Asc key post →
       dimensionAfter b D y between key < shared b D (y .key) (lastFrom y between .key) →
-      firstSharing b D (y .key) (dimensionAfter b D y between key) (between ++ post) ≡ slotCell b D key (dimensionAfter b D y between key) post
+      firstSharing b D (y .key) (dimensionAfter b D y between key) (between ++ post) ≡ cellAfter b D key (dimensionAfter b D y between key) post
   slot-held y between post key a l g h =
       sharing-skips b D (y .key) (dimensionAfter b D y between key) between post (all-map (λ z n. omega arith) between (near b D pos deep y between a))
       ∙ slot-next (y .key) (lastFrom y between .key) key post (last-least y between a) l g h
@@ -153,16 +153,16 @@ module _ (b D : ℕ) (pos : 0 < b) (deep : 0 < D) where
   -- link p of the parent's place, before the key stands
   pub slot-of :
       (a : Entry) (key : ℕ) (post : List Entry) (p : Place) → ParentPlace b D (shared b D (a .key) key) a post p → a .key < key → Asc key post →
-      settledLink b D p (shared b D (a .key) key) ≡ slotCell b D key (shared b D (a .key) key) post
+      settledLink b D p (shared b D (a .key) key) ≡ cellAfter b D key (shared b D (a .key) key) post
   slot-of a key post p h l g =
       rw (le-leb (p .dimension) (shared b D (a .key) key) (h .low))
       (ap (firstSharing b D (p .entry .key) (shared b D (a .key) key)) (h .later-is)
-      ∙ subst (λ z. z .key < key → shared b D (z .key) key < shared b D (p .entry .key) (z .key) → firstSharing b D (p .entry .key) (shared b D (z .key) key) (h .between ++ post) ≡ slotCell b D key (shared b D (z .key) key) post) (h .last-is)
+      ∙ subst (λ z. z .key < key → shared b D (z .key) key < shared b D (p .entry .key) (z .key) → firstSharing b D (p .entry .key) (shared b D (z .key) key) (h .between ++ post) ≡ cellAfter b D key (shared b D (z .key) key) post) (h .last-is)
       (λ m n. slot-held (p .entry) (h .between) post key (h .ascends) m g n) l (h .shares))
 
   pub slot-c :
       (key : ℕ) (pre post : List Entry) → 0 < key → Asc 0 pre → Apart (headEntry ∷ pre) → All (λ y. y .key < key) pre → Asc key post →
-      settledLinkAt b D (dimensionAfter b D headEntry pre key) (placeOf (parentAfter b D headEntry pre key) (places b D (pre ++ post))) ≡ slotCell b D key (dimensionAfter b D headEntry pre key) post
+      settledLinkAt b D (dimensionAfter b D headEntry pre key) (placeOf (parentAfter b D headEntry pre key) (places b D (pre ++ post))) ≡ cellAfter b D key (dimensionAfter b D headEntry pre key) post
   unfolding settledLinkAt places
   slot-c key pre post h a o l g =
       let A = lastFrom headEntry pre in
@@ -172,7 +172,7 @@ module _ (b D : ℕ) (pos : 0 < b) (deep : 0 < D) where
       ap (settledLinkAt b D (shared b D (A .key) key)) (t .1) ∙ slot-of A key post (t .0) (t .2) low g
 
 -- its key is the next larger entry's
-slot-key : (b D key p : ℕ) (pre post : List Entry) → Apart (pre ++ post) → (slotCell b D key p post ≡ 0 → ⊥) → keyOf (slotCell b D key p post) (pre ++ post) ≡ firstOf post .key
+slot-key : (b D key p : ℕ) (pre post : List Entry) → Apart (pre ++ post) → (cellAfter b D key p post ≡ 0 → ⊥) → keyOf (cellAfter b D key p post) (pre ++ post) ≡ firstOf post .key
 slot-key b D key p pre [] o n = absurd (n refl)
 slot-key b D key p pre (x ∷ post) o n = at (decLe p (shared b D key (x .key))) n
   where
@@ -187,7 +187,7 @@ pub record SlotIs (s : State) (key : ℕ) (pre post : List Entry) (t : Slot) : T
   pub n-is : t .n ≡ firstNumber (s .free)
   pub p-is : t .p ≡ dimensionAfter (s .settings .base) (s .settings .dimensions) headEntry pre key
   pub parent-is : t .parent ≡ parentAfter (s .settings .base) (s .settings .dimensions) headEntry pre key
-  pub c-is : t .c ≡ slotCell (s .settings .base) (s .settings .dimensions) key (dimensionAfter (s .settings .base) (s .settings .dimensions) headEntry pre key) post
+  pub c-is : t .c ≡ cellAfter (s .settings .base) (s .settings .dimensions) key (dimensionAfter (s .settings .base) (s .settings .dimensions) headEntry pre key) post
   pub q-is : (t .c ≡ 0 → ⊥) → t .q ≡ shared (s .settings .base) (s .settings .dimensions) key (firstOf post .key)
 
 pub slot-is : (s : State) → Sound s → (key : ℕ) → 0 < key → (g : Gap key (s .row)) → 0 < length (s .free) → SlotIs s key (g .pre) (g .post) (slotFor s key)
@@ -232,7 +232,7 @@ slot-is s v key h g f =
         ap (parentIn s (x .cell)) (put-gap x (s .row) g)
         ∙ parent-is s (g .pre) x (g .post) pos deep (asc-put 0 x (g .pre) (g .post) h a (g .below) (g .above)) (apart-put headEntry x (g .pre) (g .post) o new)
 
-    c-is : settledLinkAt b D (dimensionAt (placeOf (x .cell) (places b D (put x (s .row))))) (placeOf (parentIn s (x .cell) (put x (s .row))) (places b D (s .row))) ≡ slotCell b D key p (g .post)
+    c-is : settledLinkAt b D (dimensionAt (placeOf (x .cell) (places b D (put x (s .row))))) (placeOf (parentIn s (x .cell) (put x (s .row))) (places b D (s .row))) ≡ cellAfter b D key p (g .post)
     c-is =
         ap₂ (λ d c. settledLinkAt b D d (placeOf c (places b D (s .row)))) p-is parent
         ∙ ap (λ r. settledLinkAt b D p (placeOf (parentAfter b D headEntry (g .pre) key) (places b D r))) (g .splits)

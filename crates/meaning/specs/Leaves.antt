@@ -65,7 +65,7 @@ pub record Inserted (ws us : List ℕ) (k v : ℕ) (t : Slot) : Type 0 where
   pub other : (x j : ℕ) → x < getD ws 2 0 → j < cellWords (getD ws 0 0) → (x ≡ t .n → ⊥) → (x ≡ t .parent → j ≡ linkField (getD ws 0 0) (t .p) → ⊥) →
       Unmoved ws (t .parent) x j → Unmoved ws (t .c) x j → wordAt us x j ≡ wordAt ws x j
 
--- A take, or a revived key, on cell x: its value and mark are written, and the path. "Links are untouched"; "no link changed and nothing
+-- A take, or a revival, of key k: value and mark of its cell are written, and the path. "Links are untouched"; "no link changed and nothing
 -- finished".
 pub record Marked (ws us : List ℕ) (k value mark : ℕ) : Type 0 where
   pub cell : ℕ

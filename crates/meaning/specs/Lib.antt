@@ -17,7 +17,8 @@ pub mod Leaves
 pub mod Book
 pub mod Promises
 -- The layer between the meaning and the code: what is written, word by word, and how paths are followed. Contracts of inner functions cite it.
--- Nothing of it has to be believed, since it is proved to come to the same as the meaning.
+-- No contract of an exported function rests on it, since it is proved to come to the same as the meaning; only the promises of what a call
+-- writes are put in its words.
 pub mod Paths
 pub mod Stores
 pub mod SweepStores

@@ -52,7 +52,7 @@ setUpOut D K C ws =
 
 -- Finishing.
 
--- the entry with its debt finished
+-- the entry with its debt finished: "paid" in what follows
 abbrev pub paid : Entry → Entry
 paid x = record { cell = x .cell; key = x .key; value = x .value; live = x .live; owes = false }
 
@@ -129,6 +129,7 @@ revived s x value =
 
 -- A key that does not stand gets "a new cell n in the first free cell, as link p of its parent in the new settled shape. If a cell c
 -- had that slot in the settled shape before, c becomes link q of n, where n and c share exactly q coordinates."
+-- Where there is no c, q says nothing.
 pub record Slot : Type 0 where
   pub n : ℕ
   pub parent : ℕ

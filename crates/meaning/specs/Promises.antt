@@ -64,13 +64,13 @@ SharedMeansLeading =
 abbrev pub ListMeansSentences : Type 0
 ListMeansSentences = (ws : List ℕ) → (isList ws ≡ true) ↔ AList ws
 
--- 4. Walk and rule agree on every list and key: the keys of the cells gone to are the rule's, each once, in one order; they are at most
--- D(b-1).
+-- 4. Walk and rule agree on every list and key: the keys of the cells gone to are the rule's, each once, in one order;
 abbrev pub WalkIsRule : Type 0
 WalkIsRule =
     (ws : List ℕ) → isList ws ≡ true → (k : ℕ) → 1 ≤ k → k ≤ largestAt ws
     → map (keyAt ws) (walk ws k) ≡ rule (baseAt ws) (dimensionsAt ws) (standingKeys ws) k
 
+-- .. they are at most D(b-1);
 abbrev pub WalkBounded : Type 0
 WalkBounded =
     (ws : List ℕ) → isList ws ≡ true → (k : ℕ) → 1 ≤ k → k ≤ largestAt ws
@@ -126,7 +126,7 @@ takes (suc n) ws =
 abbrev pub TakesInTurn : Type 0
 TakesInTurn = (ws : List ℕ) → isList ws ≡ true → (n : ℕ) → length (livePairs ws) ≤ n → takes n ws ≡ livePairs ws
 
--- .. the next take after them answers 7.
+-- .. and a take answers 7 exactly if nothing is live.
 abbrev pub TakesEnd : Type 0
 TakesEnd = (ws : List ℕ) → isList ws ≡ true → (takeOut ws .answered .refusal ≡ 7) ↔ (livePairs ws ≡ [])
 

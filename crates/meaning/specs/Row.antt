@@ -6,7 +6,8 @@ use Prim.Native.Nat.{ℕ}
 use lib.Dec.{eqb, leb, ltb}
 use Rattle.meaning.specs.Keys.{shared}
 
--- A standing cell: its number, key and value, whether it is live (or dead), whether it owes.
+-- A standing cell: its number, key and value, whether it is live (or dead), whether it owes. (Document 01's entries, class and unit, are those
+-- of crate lines.)
 pub record Entry : Type 0 where
   pub cell : ℕ
   pub key : ℕ
@@ -56,7 +57,7 @@ places b D row = headPlace row ∷ placesAfter b D headEntry 0 row
 abbrev pub settledLink : ℕ → ℕ → Place → ℕ → ℕ
 settledLink b D x d = cond (leb (x .dimension) d) (firstSharing b D (x .entry .key) d (x .later)) 0
 
--- "its owed cell c is the standing cell of next larger key, .. low is n's dimension, high is the number of coordinates n and c
+-- A debt is what a cell owes, as its words owed, low and high say it: "its owed cell c is the standing cell of next larger key, .. low is n's dimension, high is the number of coordinates n and c
 -- share"; "A cell that owes nothing has owed, low and high 0."
 abbrev pub owed : Place → ℕ
 owed n = cond (n .entry .owes) (firstOf (n .later) .cell) 0
@@ -67,6 +68,7 @@ low n = cond (n .entry .owes) (n .dimension) 0
 abbrev pub high : ℕ → ℕ → Place → ℕ
 high b D n = cond (n .entry .owes) (shared b D (n .entry .key) (firstOf (n .later) .key)) 0
 
+-- d is at least the first number and below the second
 abbrev pub between : ℕ → ℕ → ℕ → Bool
 between least above d = leb least d && ltb d above
 

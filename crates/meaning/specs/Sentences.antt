@@ -99,7 +99,7 @@ pub record FreeChain (ws : List ℕ) : Type 0 where
   pub once : (x : ℕ) → Free ws x → occurrences x chain ≡ 1
   pub no-other : (x : ℕ) → 0 < occurrences x chain → Free ws x
 
--- link d of x is one that some cell owes, or is owed by x itself
+-- cell n owes, and link d is one of those that it is due: low to high-1
 pub record Owing (ws : List ℕ) (n d : ℕ) : Type 0 where
   pub standing : Standing ws n
   pub owes : 0 < owedAt ws n

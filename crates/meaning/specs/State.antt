@@ -80,6 +80,6 @@ positionHolds s =
 unfoldable pub tests : State → List Bool
 tests s = settingsHold s ∷ keysHold s ∷ cellsHold s ∷ valuesHold s ∷ debtsHold s ∷ positionHolds s ∷ []
 
--- the state is in order: each of the tests above holds
+-- the state is in order: each of the tests above holds (as facts: Sound in proofs/State.antt)
 unfoldable pub valid : State → Bool
 valid s = every (λ t. t) (tests s)

@@ -42,16 +42,24 @@ writePath ws path = sets ws headerWords path
 abbrev pub writeEntry : ℕ → List ℕ → ℕ → ℕ → ℕ → List ℕ
 writeEntry D ws x value mark = sets ws (place D x 1) (value ∷ mark ∷ [])
 
+-- the links of a new cell: "c becomes link q of n" where there is a c, every other link 0
+abbrev pub newLinks : ℕ → ℕ → ℕ → List ℕ
+newLinks D q c = cond (eqb c 0) (replicate D 0) (set (replicate D 0) q c)
+
 -- the words of a new cell: live, its key's coordinates, link q to c where there is a c, every other link 0; its debt if it owes
 unfoldable pub newWords : ℕ → ℕ → ℕ → ℕ → Slot → List ℕ
 newWords b D key value t =
     key ∷ value ∷ 1 ∷ cond (slotOwes t) (t .c) 0 ∷ cond (slotOwes t) (t .p) 0 ∷ cond (slotOwes t) (t .q) 0
-    ∷ (coordinates b D key ++ cond (eqb (t .c) 0) (replicate D 0) (set (replicate D 0) (t .q) (t .c)))
+    ∷ (coordinates b D key ++ newLinks D (t .q) (t .c))
+
+-- "an insert finishes what the parent owes, then what c owes", where there is a c
+abbrev pub paidWords : ℕ → List ℕ → ℕ → ℕ → List ℕ
+paidWords D ws parent c = cond (eqb c 0) (finishWords D ws parent) (finishWords D (finishWords D ws parent) c)
 
 -- An insert of a key that does not stand, but for the path: the parent's debt and then c's finished, the first free cell taken off its
 -- chain and written, and link p of the parent set to it.
 unfoldable pub insertWords : ℕ → ℕ → List ℕ → ℕ → ℕ → Slot → List ℕ
 insertWords b D ws key value t =
-    let paid = cond (eqb (t .c) 0) (finishWords D ws (t .parent)) (finishWords D (finishWords D ws (t .parent)) (t .c)) in
+    let paid = paidWords D ws (t .parent) (t .c) in
     let off = set paid 4 (getD paid (place D (t .n) 0) 0) in
     store D (sets off (place D (t .n) 0) (newWords b D key value t)) (t .parent) (linkField D (t .p)) (t .n)

@@ -4,7 +4,7 @@ use Prim.Native.Nat.{ℕ, _+_, _*_}
 use lib.ListN.{getD}
 use Rattle.settings.specs.Numbers.{headerWords, fieldsBeforeCoordinates, cellWords}
 
--- where word j of cell x stands
+-- where word j of cell x stands: a number (a Place of Row.antt is a standing cell among the others)
 abbrev pub place : ℕ → ℕ → ℕ → ℕ
 place D x j = headerWords + D + x * cellWords D + j
 

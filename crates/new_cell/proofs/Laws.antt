@@ -16,12 +16,12 @@ use Rattle.settings.specs.Numbers.{fieldsBeforeCoordinates}
 use Rattle.settings.specs.declared.Settings.{Settings}
 use Rattle.meaning.specs.Keys.{coordinates}
 use Rattle.meaning.specs.Words.{place}
-use Rattle.meaning.specs.Stores.{store, linkField, newWords}
+use Rattle.meaning.specs.Stores.{store, linkField, newWords, newLinks}
 use Rattle.meaning.proofs.Keys.{coordinates-length}
 use Rattle.words.specs.Shaped.{Shaped}
 use Rattle.words.proofs.Laws.{part-inside, part-written}
 use Rattle.search.specs.declared.Found.{Found}
-use Rattle.new_cell.specs.NewCell.{slotOf, entryWords, linkWords}
+use Rattle.new_cell.specs.NewCell.{slotOf, fieldWords}
 
 -- Runs of stores
 
@@ -49,23 +49,23 @@ six-written D ws n key value mark owed low high =
     rw (second, third, fourth) refl
 
 pub owing-written : (D : ℕ) (ws : List ℕ) (n key value : ℕ) (f : Found) → f .p < f .q →
-    sets (store D (store D (store D ws n 0 key) n 1 value) n 2 1) (place D n 3) (f .c ∷ f .p ∷ f .q ∷ []) ≡ sets ws (place D n 0) (entryWords key value f)
+    sets (store D (store D (store D ws n 0 key) n 1 value) n 2 1) (place D n 3) (f .c ∷ f .p ∷ f .q ∷ []) ≡ sets ws (place D n 0) (fieldWords key value f)
 owing-written D ws n key value f h = rw (lt-ltb (f .p) (f .q) h) (six-written D ws n key value 1 (f .c) (f .p) (f .q))
 
 pub settled-written : (D : ℕ) (ws : List ℕ) (n key value : ℕ) (f : Found) → f .q ≤ f .p →
-    sets (store D (store D (store D ws n 0 key) n 1 value) n 2 1) (place D n 3) (0 ∷ 0 ∷ 0 ∷ []) ≡ sets ws (place D n 0) (entryWords key value f)
+    sets (store D (store D (store D ws n 0 key) n 1 value) n 2 1) (place D n 3) (0 ∷ 0 ∷ 0 ∷ []) ≡ sets ws (place D n 0) (fieldWords key value f)
 settled-written D ws n key value f h = rw (le-ltb (f .p) (f .q) h) (six-written D ws n key value 1 0 0 0)
 
 -- Links
 
-pub links-none : (D q c : ℕ) → c ≡ 0 → replicate D 0 ≡ linkWords D q c
+pub links-none : (D q c : ℕ) → c ≡ 0 → replicate D 0 ≡ newLinks D q c
 links-none D q c e = rw (eq-eqb c 0 e) refl
 
-pub links-one : (D q c : ℕ) → (c ≡ 0 → ⊥) → set (replicate D 0) q c ≡ linkWords D q c
+pub links-one : (D q c : ℕ) → (c ≡ 0 → ⊥) → set (replicate D 0) q c ≡ newLinks D q c
 links-one D q c ne = rw (ne-eqb c 0 ne) refl
 
-linkWords-length : (D q c : ℕ) → length (linkWords D q c) ≡ D
-linkWords-length D q c = at (eqb c 0)
+newLinks-length : (D q c : ℕ) → length (newLinks D q c) ≡ D
+newLinks-length D q c = at (eqb c 0)
   where
     at : (r : Bool) → length (cond r (replicate D 0) (set (replicate D 0) q c)) ≡ D
     at true = length-replicate {A = ℕ} D 0
@@ -80,34 +80,34 @@ module _ {ws : List ℕ} {s : Settings} (h : Shaped ws s) {n : ℕ} (cell : n < 
   pub links-long : length (midOf start (end - start) ws) ≡ s .dimensions
   links-long = omega (arith, mid-len start end ws links-inside)
 
-  pub links-written : (q c : ℕ) {ys : List ℕ} → ys ≡ linkWords (length (midOf start (end - start) ws)) q c →
-      putMid start (end - start) ws ys ≡ sets ws (place (s .dimensions) n (linkField (s .dimensions) 0)) (linkWords (s .dimensions) q c)
+  pub links-written : (q c : ℕ) {ys : List ℕ} → ys ≡ newLinks (length (midOf start (end - start) ws)) q c →
+      putMid start (end - start) ws ys ≡ sets ws (place (s .dimensions) n (linkField (s .dimensions) 0)) (newLinks (s .dimensions) q c)
   links-written q c is =
       let D = s .dimensions in
-      let same = is ∙ ap (λ m. linkWords m q c) links-long in
-      rw same (part-written ws (linkWords D q c) D n (linkField D 0) D (omega arith) to links-inside (linkWords-length D q c))
+      let same = is ∙ ap (λ m. newLinks m q c) links-long in
+      rw same (part-written ws (newLinks D q c) D n (linkField D 0) D (omega arith) to links-inside (newLinks-length D q c))
 
 -- A cell
 
 -- the three parts are the definition's words: without a c there is no debt either
 new-words : (b D n key value : ℕ) (f : Found) → (f .c ≡ 0 → f .q ≡ 0) →
-    entryWords key value f ++ (coordinates b D key ++ linkWords D (f .q) (f .c)) ≡ newWords b D key value (slotOf n f)
+    fieldWords key value f ++ (coordinates b D key ++ newLinks D (f .q) (f .c)) ≡ newWords b D key value (slotOf n f)
 unfolding newWords
 new-words b D n key value f none = at (ℕ-discrete (f .c) 0)
   where
-    at : Dec (f .c ≡ 0) → entryWords key value f ++ (coordinates b D key ++ linkWords D (f .q) (f .c)) ≡ newWords b D key value (slotOf n f)
+    at : Dec (f .c ≡ 0) → fieldWords key value f ++ (coordinates b D key ++ newLinks D (f .q) (f .c)) ≡ newWords b D key value (slotOf n f)
     at (yes z) =
         let settled : ltb (f .p) (f .q) ≡ false = le-ltb (f .p) (f .q) (omega (arith, none z)) in
         rw (settled, eq-eqb (f .c) 0 z) refl
     at (no ne) = rw (ne-eqb (f .c) 0 ne) refl
 
 pub cell-written : (b D : ℕ) (ws : List ℕ) (n key value : ℕ) (f : Found) → (f .c ≡ 0 → f .q ≡ 0) →
-    sets (sets (sets ws (place D n 0) (entryWords key value f)) (place D n fieldsBeforeCoordinates) (coordinates b D key))
-    (place D n (linkField D 0)) (linkWords D (f .q) (f .c))
+    sets (sets (sets ws (place D n 0) (fieldWords key value f)) (place D n fieldsBeforeCoordinates) (coordinates b D key))
+    (place D n (linkField D 0)) (newLinks D (f .q) (f .c))
     ≡ sets ws (place D n 0) (newWords b D key value (slotOf n f))
 cell-written b D ws n key value f none =
-    let entry = entryWords key value f in
-    let links = linkWords D (f .q) (f .c) in
+    let entry = fieldWords key value f in
+    let links = newLinks D (f .q) (f .c) in
     sets-both (sets ws (place D n 0) entry) (coordinates b D key) links (place D n fieldsBeforeCoordinates) (place D n (linkField D 0))
     (omega (arith, coordinates-length b D key))
     ∙ sets-both ws entry (coordinates b D key ++ links) (place D n 0) (place D n fieldsBeforeCoordinates) (omega arith)

@@ -3,8 +3,7 @@ use mathlib.Core.Path.{_≡_}
 use mathlib.Core.Bool.{cond}
 use mathlib.Core.List.{List, [], _∷_}
 use Prim.Native.Nat.{ℕ, _<_}
-use lib.Dec.{eqb, ltb}
-use lib.ListN.{set, replicate}
+use lib.Dec.{ltb}
 use Rattle.settings.specs.declared.Settings.{Settings}
 use Rattle.meaning.specs.Operations.{Slot}
 use Rattle.search.specs.declared.Found.{Found}
@@ -20,10 +19,6 @@ pub record Fits (s : Settings) (n : ℕ) (f : Found) : Type 0 where
   pub none : f .c ≡ 0 → f .q ≡ 0
 
 -- the six words of a new cell before its coordinates: live, "owed c, low p, high q" if p is below q
-abbrev pub entryWords : ℕ → ℕ → Found → List ℕ
-entryWords key value f =
+abbrev pub fieldWords : ℕ → ℕ → Found → List ℕ
+fieldWords key value f =
     key ∷ value ∷ 1 ∷ cond (ltb (f .p) (f .q)) (f .c) 0 ∷ cond (ltb (f .p) (f .q)) (f .p) 0 ∷ cond (ltb (f .p) (f .q)) (f .q) 0 ∷ []
-
--- its D links: "c becomes link q of n" where there is a c, every other link 0
-abbrev pub linkWords : ℕ → ℕ → ℕ → List ℕ
-linkWords D q c = cond (eqb c 0) (replicate D 0) (set (replicate D 0) q c)

@@ -17,8 +17,7 @@ mod answer; // answer.rt: the line printed
 ghost use mathlib.Core.Path.{_≡_};
 ghost use lib.ListN.{length};
 ghost use Rattle.text.specs.Lines.{mostBytes};
-ghost use Rattle.text.specs.Feeding.{Ready};
-ghost use Rattle.order.specs.Kept.{LineIn};
+ghost use Rattle.text.specs.Feeding.{Ready, LineIn};
 use text::feed::Feed;
 use text::feed::Told;
 

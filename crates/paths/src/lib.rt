@@ -1,5 +1,5 @@
 // Paths: "path word d is the least-key standing cell sharing the first d+1 coordinates" with a cell. The path of the position as the
-// words have it, the path of any standing cell, and the next standing cell in key order from a path (000's deletion stack).
+// words have it, the path of any standing cell, and the next standing cell in key order from a path (the deletion stack of the MDList paper).
 ghost use mathlib.Core.Path.{_≡_};
 ghost use mathlib.Core.Bool.{true};
 ghost use Prim.Native.Nat.{_*_, _≤_, _<_};
@@ -9,7 +9,7 @@ ghost use Rattle.meaning.specs.Keys.{coordinates};
 ghost use Rattle.meaning.specs.Words.{owedAt};
 ghost use Rattle.meaning.specs.Walk.{linkRead, ends};
 ghost use Rattle.meaning.specs.Paths.{pathAlong};
-ghost use Rattle.meaning.specs.Paths as along;
+ghost use Rattle.meaning.specs.Paths as definitions;
 ghost use Rattle.meaning.specs.Stores.{writePath};
 ghost use Rattle.words.specs.Shaped.{Shaped};
 ghost use Rattle.paths.specs.Paths.{pathOf, Formed, PathIn, Walkable, NextIs, Standing, CellPath};
@@ -43,7 +43,7 @@ pub fn head_path(s: Settings) -> Path
 // The path with cell y from word d on.
 pub fn onward(path: Path, d: u32, y: u32) -> Path
     requires { ⌜ Formed (path .used) path × (d ≤ path .used) ⌝ }
-    ensures { λ r. ⌜ (pathOf r ≡ along.onward (path .used) (pathOf path) d y) × Formed (path .used) r ⌝ }
+    ensures { λ r. ⌜ (pathOf r ≡ definitions.onward (path .used) (pathOf path) d y) × Formed (path .used) r ⌝ }
 {
     let mut next = path;
     let mut i = d as usize;

@@ -4,8 +4,6 @@ use mathlib.Core.Path.{_≡_}
 use Prim.Native.Nat.{ℕ, _≤_}
 use lib.ListN.{length}
 use Rattle.text.specs.Feeding.{Ready}
-use Rattle.text.specs.declared.feed.Told.{Told}
-use Rattle.text.specs.declared.feed.Told.the-variants.{Line}
 use Rattle.replay.specs.declared.State.{State}
 use Rattle.replay.specs.declared.trace.Kind.{Kind}
 use Rattle.replay.specs.declared.trace.Kind.the-variants.{SetUp, Insert, Find, Finish, Take, Sweep, Put, Length, Unreadable}
@@ -30,10 +28,6 @@ lengthIn Unreadable = 0
 pub record Held (words : List ℕ) (used : ℕ) : Type 0 where
   pub room : length words ≡ mostWords
   pub within : used ≤ mostWords
-
--- A line that is told of lies within the bytes that the feed was lent.
-pub record LineIn (line : List ℕ) (ended : Told) : Type 0 where
-  pub fits : (n : ℕ) → ended ≡ Line n → n ≤ length line
 
 pub record Kept (words line : List ℕ) (state : State) : Type 0 where
   pub held : Held words (state .used)

@@ -1,5 +1,5 @@
--- What the replay prints for a line: "refusal, key, value, count and the checksum of the buffer afterwards, with one space between. For P
--- and L: `- - - -` and the checksum."
+-- What the replay prints for a line: refusal, key, value, count and the checksum of the buffer afterwards, with one space between; for P
+-- and L `- - - -` and the checksum.
 use mathlib.Core.List.{List, [], _∷_, _++_}
 use Prim.Native.Nat.{ℕ}
 use Rattle.text.specs.Fields.{space}

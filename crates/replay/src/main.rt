@@ -14,7 +14,8 @@
 // the line feed; a last line without line feed counts. Before the first U the buffer has no words.
 //
 // A call prints refusal, key, value, count and the checksum of the buffer afterwards; P and L print `- - - -` and the checksum. A line that
-// is none of these, or empty, or longer, prints `10 0 0 0` and the checksum, and nothing is done.
+// is none of these, or empty, or longer, prints `10 0 0 0` and the checksum, and nothing is done. The checksum h starts at the number of words;
+// for each word in order h becomes (h x 1,000,003 + word) mod 2,147,483,647.
 //
 // The file stdout has the answers of the separate ordered set: compare/ordered_set/target/release/ordered_set replay < stdin > stdout
 mod trace; // trace.rt: the kinds of line
@@ -25,7 +26,8 @@ ghost use mathlib.Core.Path.{_≡_};
 ghost use Prim.Native.Nat.{_≤_};
 ghost use lib.ListN.{length};
 ghost use Rattle.text.specs.Lines.{mostBytes};
-ghost use Rattle.replay.specs.Kept.{mostWords, lengthIn, Held, LineIn, Kept};
+ghost use Rattle.text.specs.Feeding.{LineIn};
+ghost use Rattle.replay.specs.Kept.{mostWords, lengthIn, Held, Kept};
 use text::feed::Feed;
 use text::feed::Told;
 use trace::Kind;

@@ -40,11 +40,11 @@ pub record Put (before : List ℕ) (at : ℕ) (bytes after : List ℕ) (r : ℕ)
   pub is : after ≡ sets before at bytes
   pub end : r ≡ at + length bytes
 
--- "for each word in order h becomes (h x 1,000,003 + word) mod 2,147,483,647"
+-- The checksum of a buffer's words, as the replay has it: for each word in order h becomes (h x 1,000,003 + word) mod 2,147,483,647, ..
 unfoldable pub checksumFrom : ℕ → List ℕ → ℕ
 checksumFrom h [] = h
 checksumFrom h (w ∷ ws) = checksumFrom ((h * 1000003 + w) % 2147483647) ws
 
--- "The checksum h starts at the number of words"
+-- .. and h starts at the number of words
 abbrev pub checksumOf : List ℕ → ℕ
 checksumOf ws = checksumFrom (length ws) ws

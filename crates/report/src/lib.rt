@@ -56,7 +56,7 @@ pub fn put_answer(out: &mut [u8], at: usize, a: Answer, after: u8) -> usize
     put_number(out, count, a.count as u64, after)
 }
 
-// "The checksum h starts at the number of words; for each word in order h becomes (h x 1,000,003 + word) mod 2,147,483,647."
+// The checksum h starts at the number of words; for each word in order h becomes (h x 1,000,003 + word) mod 2,147,483,647.
 pub fn checksum(part: &[u32]) -> u64
     ensures { λ r. ⌜ r ≡ checksumOf (now (part .entry)) ⌝ }
 {

@@ -1,3 +1,3 @@
--- Sample buffers, made by calls, and what is printed of a fresh list.
+-- Sample buffers, made by calls, and what is printed for a row of the edges.
 pub mod Samples
 pub mod Printed

@@ -56,7 +56,7 @@ present-is s k present parent p c q n =
 
 -- the entry of next larger key, where its cell is the one that has the slot
 next-is :
-    (b D k d : ℕ) (pre post : List Entry) (to : Place) → Apart (headEntry ∷ (pre ++ post)) → 0 < to .entry .cell → slot.slotCell b D k d post ≡ to .entry .cell →
+    (b D k d : ℕ) (pre post : List Entry) (to : Place) → Apart (headEntry ∷ (pre ++ post)) → 0 < to .entry .cell → slot.cellAfter b D k d post ≡ to .entry .cell →
     placeOf (to .entry .cell) (places b D (pre ++ post)) ≡ some to → firstOf post .key ≡ to .entry .key
 unfolding places
 next-is b D k d pre [] to o nz c found = absurd (omega arith)

@@ -98,7 +98,7 @@ pub record SlotAt (s : State) (k : ℕ) (pre post : List Entry) : Type 0 where
   pub number : slotNumber s k ≡ dimensionAfter (s .settings .base) (s .settings .dimensions) headEntry pre k
   pub parent : slotParent s k ≡ parentAfter (s .settings .base) (s .settings .dimensions) headEntry pre k
   pub shares : slotShared s k ≡ shared (s .settings .base) (s .settings .dimensions) k (firstOf post .key)
-  pub cell : slotCell s k ≡ slot.slotCell (s .settings .base) (s .settings .dimensions) k (dimensionAfter (s .settings .base) (s .settings .dimensions) headEntry pre k) post
+  pub cell : slotCell s k ≡ slot.cellAfter (s .settings .base) (s .settings .dimensions) k (dimensionAfter (s .settings .base) (s .settings .dimensions) headEntry pre k) post
 
 -- the last entry below k shares less with k than with itself
 pub last-below : (b D k : ℕ) (pre : List Entry) → 0 < D → 0 < k → All (λ y. y .key < k) pre →
@@ -134,7 +134,7 @@ slot-at s v k h {pre} {middle} {post} g =
     none-held true = refl
     none-held false = refl
 
-    held : (p : ℕ) (post : List Entry) → cond (leb p (shared b D k (firstOf post .key))) (firstOf post .cell) 0 ≡ slot.slotCell b D k p post
+    held : (p : ℕ) (post : List Entry) → cond (leb p (shared b D k (firstOf post .key))) (firstOf post .cell) 0 ≡ slot.cellAfter b D k p post
     held p [] = none-held (leb p (shared b D k 0))
     held p (x ∷ post) = refl
 

@@ -1,4 +1,5 @@
--- What the search for a key answers on a list, over the standing keys.
+-- What the search for a key answers on a list, over the standing keys. The slot is put by the next smaller and the next larger key, as the
+-- walk finds it; that it is the meaning's own (slotFor) is found-slot in proofs/Slots.antt. Where there is no c, q is 0.
 use mathlib.Core.Bool.{true, false, cond}
 use mathlib.Core.List.{List, _∷_}
 use mathlib.Core.Option.{Option, none, some}

@@ -17,7 +17,7 @@ pub struct Found {
     // the parent of k, and the number of the link by which k hangs from it, or would hang
     pub parent: u32,
     pub p: u32,
-    // the cell that has that slot, 0 if none has: k's own cell if k stands; and how many coordinates k shares with it
+    // the cell that has that slot, 0 if none has: k's own cell if k stands; and how many coordinates k shares with it, 0 if none has
     pub c: u32,
     pub q: u32,
     // how many cells the walk went to

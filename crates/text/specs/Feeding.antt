@@ -87,3 +87,7 @@ pub record Stepped (before after : List ℕ) (feed : Feed) (byte : ℕ) (r : Fed
 pub record Finished (feed : Feed) (r : Told) : Type 0 where
   pub told : (buffer : List ℕ) → length buffer ≡ mostBytes → toldIn buffer r ≡ handedAtEnd (begunIn buffer feed)
   pub line-fits : (n : ℕ) → r ≡ Line n → n ≤ mostBytes
+
+-- a line that is told of lies within the bytes that the feed was lent
+pub record LineIn (line : List ℕ) (ended : Told) : Type 0 where
+  pub fits : (n : ℕ) → ended ≡ Line n → n ≤ length line

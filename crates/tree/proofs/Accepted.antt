@@ -36,7 +36,7 @@ record Checked (ws : List ℕ) : Type 0 where
   head : Head ws
   begins : atHead ws .right ≡ true
   run : Run ws 0 0 (atHead ws) (seenAll ws)
-  passed : seenAll ws .passed ≡ true
+  reached : seenAll ws .reached ≡ true
   chain : chainRight ws (seenAll ws .left) (getD ws 4 0) ≡ true
 
 checked : (ws : List ℕ) → accepts ws ≡ true → Checked ws
@@ -47,15 +47,15 @@ checked ws e = at (headerRight ws) refl e
     tree = atHead ws .right && seenAll ws .right
 
     rest : Bool
-    rest = seenAll ws .passed && chainRight ws (seenAll ws .left) (getD ws 4 0)
+    rest = seenAll ws .reached && chainRight ws (seenAll ws .left) (getD ws 4 0)
 
     at : (t : Bool) → headerRight ws ≡ t → elim t [ true ↦ headRight ws && (tree && rest) | false ↦ false ] ≡ true → Checked ws
     at true q h =
         let t = both (headRight ws) (tree && rest) h in
         let u = both tree rest (t .1) in
         let v = both (atHead ws .right) (seenAll ws .right) (u .0) in
-        let w = both (seenAll ws .passed) (chainRight ws (seenAll ws .left) (getD ws 4 0)) (u .1) in
-        record { header = header-right ws q; head = head-right ws (t .0); begins = v .0; run = head-run ws (v .1); passed = w .0; chain = w .1 }
+        let w = both (seenAll ws .reached) (chainRight ws (seenAll ws .left) (getD ws 4 0)) (u .1) in
+        record { header = header-right ws q; head = head-right ws (t .0); begins = v .0; run = head-run ws (v .1); reached = w .0; chain = w .1 }
     at false q h = absurd (false≢true h)
 
 -- the state that the buffer shows
@@ -64,7 +64,7 @@ stateOf ws k =
     record { settings = settingsAt ws; row = rowIn ws (k .run .met); free = chainCells ws (seenAll ws .left) (getD ws 4 0); position = positionWord ws }
 
 module _ (ws : List ℕ) (k : Checked ws) where
-  levels : All (λ m. m .level < getD ws 0 0) (k .run .met)
+  levels : All (λ m. m .linkNumber < getD ws 0 0) (k .run .met)
   levels = all-map (λ m h. h .1) (k .run .met) (k .run .levels)
 
   rises : Rising ws 0 (k .run .met)
@@ -75,7 +75,7 @@ module _ (ws : List ℕ) (k : Checked ws) where
   standing = standing-places ws (k .header) (k .head) (k .run .met) (k .run .trace) (k .run .links) rises (k .run .cells) levels (k .run .linked)
 
   position-is : (positionWord ws ≡ 0) ⊎ Occurs ws (positionWord ws) (k .run .met)
-  position-is = position-met ws (k .run .met) (ap (λ t. t .passed) (sym (k .run .ends)) ∙ k .passed)
+  position-is = position-met ws (k .run .met) (ap (λ t. t .reached) (sym (k .run .ends)) ∙ k .reached)
 
   -- The state is in order
 

@@ -56,6 +56,6 @@ pub marked-met : (ws : List ℕ) (s : Seen) (met : List Met) → Trace ws s met 
 marked-met ws s [] t = tt
 marked-met ws s (m ∷ met) t = (at (t .0 .entry), marked-met ws (seen ws m s) met (t .1))
   where
-    at : ((markAt ws (m .cell) ≡ 2) × (valueAt ws (m .cell) ≡ 0)) ⊎ ((markAt ws (m .cell) ≡ 1) × (s .passed ≡ true)) → 0 < markAt ws (m .cell)
+    at : ((markAt ws (m .cell) ≡ 2) × (valueAt ws (m .cell) ≡ 0)) ⊎ ((markAt ws (m .cell) ≡ 1) × (s .reached ≡ true)) → 0 < markAt ws (m .cell)
     at (inl d) = let e = d .0 in omega arith
     at (inr l) = let e = l .0 in omega arith

@@ -95,20 +95,20 @@ rowIn ws met = map (λ m. entryIn ws (m .cell)) met
 -- cells met after cell x: each has a larger key than the one before, and shares with it what the number says by which it was met
 abbrev pub Rising : List ℕ → ℕ → List Met → Type 0
 Rising ws x [] = Unit {0}
-Rising ws x (m ∷ met) = ((keyAt ws x < keyAt ws (m .cell)) × (shared (getD ws 3 0) (getD ws 0 0) (keyAt ws x) (keyAt ws (m .cell)) ≡ m .level)) × Rising ws (m .cell) met
+Rising ws x (m ∷ met) = ((keyAt ws x < keyAt ws (m .cell)) × (shared (getD ws 3 0) (getD ws 0 0) (keyAt ws x) (keyAt ws (m .cell)) ≡ m .linkNumber)) × Rising ws (m .cell) met
 
 pub row-asc : (ws : List ℕ) (x : ℕ) (met : List Met) → Rising ws x met → Asc (keyAt ws x) (rowIn ws met)
 row-asc ws x [] r = tt
 row-asc ws x (m ∷ met) r = (r .0 .0, row-asc ws (m .cell) met (r .1))
 
-pub rising : (ws : List ℕ) → Header ws → (s : Seen) (met : List Met) → Keyed ws (s .last) → Trace ws s met → All (λ m. m .level < getD ws 0 0) met → Rising ws (s .last) met
+pub rising : (ws : List ℕ) → Header ws → (s : Seen) (met : List Met) → Keyed ws (s .last) → Trace ws s met → All (λ m. m .linkNumber < getD ws 0 0) met → Rising ws (s .last) met
 rising ws header s [] keyed t levels = tt
 rising ws header s (m ∷ met) keyed t levels =
     let b = getD ws 3 0 in
     let D = getD ws 0 0 in
     let x = s .last in
     let y = m .cell in
-    let e = m .level in
+    let e = m .linkNumber in
     let own = cell-keyed ws header y (t .0 .inside) (t .0 .writes) in
     let less : coordinate b D (keyAt ws x) e < coordinate b D (keyAt ws y) e =
     (let p = keyed .coordinate e (levels .0) in let q = own .coordinate e (levels .0) in let h = t .0 .larger in omega arith) in (
@@ -126,7 +126,7 @@ module _ (ws : List ℕ) (pos : 0 < getD ws 3 0) where
   unfolding firstSharing next
   sharing-next x p d [] r h l = refl
   sharing-next x p d (m ∷ met) r h l =
-      at (decLt d (m .level)) (ℕ-discrete (m .level) d) (r .0 .1) (ultra b D (keyAt ws x) (keyAt ws p) (keyAt ws (m .cell)) pos h (let k = r .0 .0 in omega arith))
+      at (decLt d (m .linkNumber)) (ℕ-discrete (m .linkNumber) d) (r .0 .1) (ultra b D (keyAt ws x) (keyAt ws p) (keyAt ws (m .cell)) pos h (let k = r .0 .0 in omega arith))
       (λ k. sharing-next x (m .cell) d met (r .1) (let i = r .0 .0 in omega arith) k)
     where
       b : ℕ
@@ -135,7 +135,7 @@ module _ (ws : List ℕ) (pos : 0 < getD ws 3 0) where
       D : ℕ
       D = getD ws 0 0
 
-      at : Dec (d < m .level) → Dec (m .level ≡ d) → shared b D (keyAt ws p) (keyAt ws (m .cell)) ≡ m .level →
+      at : Dec (d < m .linkNumber) → Dec (m .linkNumber ≡ d) → shared b D (keyAt ws p) (keyAt ws (m .cell)) ≡ m .linkNumber →
           shared b D (keyAt ws x) (keyAt ws (m .cell)) ≡ min (shared b D (keyAt ws x) (keyAt ws p)) (shared b D (keyAt ws p) (keyAt ws (m .cell))) →
           (d < shared b D (keyAt ws x) (keyAt ws (m .cell)) → firstSharing b D (keyAt ws x) d (rowIn ws met) ≡ next d met) →
           firstSharing b D (keyAt ws x) d (entryIn ws (m .cell) ∷ rowIn ws met) ≡ next d (m ∷ met)

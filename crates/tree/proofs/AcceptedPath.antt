@@ -44,7 +44,7 @@ occurs-cases ws c m met o = at (ℕ-discrete (m .cell) c)
     at (no ne) = inr (ne, omega (arith, o, occurrences-past c (m .cell) (map (λ x. x .cell) (rowIn ws met)) ne))
 
 -- the position has been read: before, or it is one of those met
-pub passed-occurs : (ws : List ℕ) (s : Seen) (met : List Met) → seenAfter ws s met .passed ≡ true → s .passed ≡ false → Occurs ws (positionWord ws) met
+pub passed-occurs : (ws : List ℕ) (s : Seen) (met : List Met) → seenAfter ws s met .reached ≡ true → s .reached ≡ false → Occurs ws (positionWord ws) met
 unfolding seenAfter
 passed-occurs ws s [] e n = absurd (false≢true (sym n ∙ e))
 passed-occurs ws s (m ∷ met) e n = at (eqb (m .cell) (positionWord ws)) refl (passed-occurs ws (seen ws m s) met e)
@@ -52,7 +52,7 @@ passed-occurs ws s (m ∷ met) e n = at (eqb (m .cell) (positionWord ws)) refl (
     rest : List ℕ
     rest = map (λ x. x .cell) (rowIn ws met)
 
-    at : (t : Bool) → eqb (m .cell) (positionWord ws) ≡ t → ((s .passed || eqb (m .cell) (positionWord ws)) ≡ false → Occurs ws (positionWord ws) met) →
+    at : (t : Bool) → eqb (m .cell) (positionWord ws) ≡ t → ((s .reached || eqb (m .cell) (positionWord ws)) ≡ false → Occurs ws (positionWord ws) met) →
         Occurs ws (positionWord ws) (m ∷ met)
     at true q more = omega (arith, occurrences-here (positionWord ws) (m .cell) rest (eqb-true (m .cell) (positionWord ws) q))
     at false q more =
@@ -110,7 +110,7 @@ path-met : (ws : List ℕ) → 0 < getD ws 3 0 → (s : Seen) (met : List Met) (
 unfolding firstWith occurrences
 path-met ws pos s [] way t r o a d l = absurd (omega arith)
 path-met ws pos s (m ∷ met) way t r o a d l =
-    at (occurs-cases ws (positionWord ws) m met o) (λ later. path-met ws pos (seen ws m s) met (onward way (m .cell) (m .level)) (t .1) (r .1) later (agreed-onward ws way (m .cell) (m .level) (s .agreed) a) d l)
+    at (occurs-cases ws (positionWord ws) m met o) (λ later. path-met ws pos (seen ws m s) met (onward way (m .cell) (m .linkNumber)) (t .1) (r .1) later (agreed-onward ws way (m .cell) (m .linkNumber) (s .agreed) a) d l)
   where
     b : ℕ
     b = getD ws 3 0
@@ -134,33 +134,33 @@ path-met ws pos s (m ∷ met) way t r o a d l =
     later-first = firstWith b D k (suc d) (rowIn ws met)
 
     -- the position is a later one
-    past : shared b D x y ≡ m .level → shared b D x k ≡ min (shared b D x y) (shared b D y k) →
-        word ≡ cond (ltb d (shared b D y k)) (onward way (m .cell) (m .level) d) later-first →
+    past : shared b D x y ≡ m .linkNumber → shared b D x k ≡ min (shared b D x y) (shared b D y k) →
+        word ≡ cond (ltb d (shared b D y k)) (onward way (m .cell) (m .linkNumber) d) later-first →
         word ≡ cond (ltb d (shared b D x k)) (way d) (cond (ltb (shared b D y k) (suc d)) later-first (m .cell))
-    past is u more = go (decLt d (shared b D y k)) (decLt d (m .level))
+    past is u more = go (decLt d (shared b D y k)) (decLt d (m .linkNumber))
       where
-        go : Dec (d < shared b D y k) → Dec (d < m .level) → word ≡ cond (ltb d (shared b D x k)) (way d) (cond (ltb (shared b D y k) (suc d)) later-first (m .cell))
+        go : Dec (d < shared b D y k) → Dec (d < m .linkNumber) → word ≡ cond (ltb d (shared b D x k)) (way d) (cond (ltb (shared b D y k) (suc d)) later-first (m .cell))
         go (yes h) (yes i) =
-            rw (lt-ltb d (shared b D x k) (omega arith)) (rw (lt-ltb d (shared b D y k) h, lt-ltb d (m .level) i) at more)
+            rw (lt-ltb d (shared b D x k) (omega arith)) (rw (lt-ltb d (shared b D y k) h, lt-ltb d (m .linkNumber) i) at more)
         go (yes h) (no i) =
-            rw (le-ltb d (shared b D x k) (omega arith), le-ltb (shared b D y k) (suc d) (omega arith)) (rw (lt-ltb d (shared b D y k) h, le-ltb d (m .level) (omega arith)) at more)
+            rw (le-ltb d (shared b D x k) (omega arith), le-ltb (shared b D y k) (suc d) (omega arith)) (rw (lt-ltb d (shared b D y k) h, le-ltb d (m .linkNumber) (omega arith)) at more)
         go (no h) i =
             rw (le-ltb d (shared b D x k) (omega arith), lt-ltb (shared b D y k) (suc d) (omega arith)) (rw (le-ltb d (shared b D y k) (omega arith)) at more)
 
     at : (m .cell ≡ positionWord ws) ⊎ ((m .cell ≡ positionWord ws → ⊥) × Occurs ws (positionWord ws) met) →
-        (Occurs ws (positionWord ws) met → word ≡ cond (ltb d (shared b D y k)) (onward way (m .cell) (m .level) d) later-first) →
+        (Occurs ws (positionWord ws) met → word ≡ cond (ltb d (shared b D y k)) (onward way (m .cell) (m .linkNumber) d) later-first) →
         word ≡ cond (ltb d (shared b D x k)) (way d) (cond (ltb (shared b D y k) (suc d)) later-first (m .cell))
     at (inl e) more =
         let q : k ≡ y = ap (keyAt ws) (sym e) in
         let all : shared b D y k ≡ D = ap (shared b D y) q ∙ shared-same b D y in
-        let level : shared b D x k ≡ m .level = ap (shared b D x) q ∙ r .0 .1 in
-        rw (le-ltb (shared b D y k) (suc d) (omega arith), level)
-        (agreed-onward ws way (m .cell) (m .level) (s .agreed) a d (let n = t .0 .path e in omega arith))
+        let linkNumber : shared b D x k ≡ m .linkNumber = ap (shared b D x) q ∙ r .0 .1 in
+        rw (le-ltb (shared b D y k) (suc d) (omega arith), linkNumber)
+        (agreed-onward ws way (m .cell) (m .linkNumber) (s .agreed) a d (let n = t .0 .path e in omega arith))
     at (inr n) more =
         past (r .0 .1) (ultra b D x y k pos (let h = r .0 .0 in omega arith) (let h = occurs-above ws (m .cell) (positionWord ws) met (r .1) (n .1) in omega arith)) (more (n .1))
 
 -- the position is the head, or one of the cells met
-pub position-met : (ws : List ℕ) (met : List Met) → seenAfter ws (atHead ws) met .passed ≡ true → (positionWord ws ≡ 0) ⊎ Occurs ws (positionWord ws) met
+pub position-met : (ws : List ℕ) (met : List Met) → seenAfter ws (atHead ws) met .reached ≡ true → (positionWord ws ≡ 0) ⊎ Occurs ws (positionWord ws) met
 position-met ws met e = at (eqb (positionWord ws) 0) refl
   where
     at : (t : Bool) → eqb (positionWord ws) 0 ≡ t → (positionWord ws ≡ 0) ⊎ Occurs ws (positionWord ws) met
@@ -214,21 +214,21 @@ position-key ws head met rises (inr o) =
 -- Marks
 
 -- a cell read up to the position is dead
-pub dead-met : (ws : List ℕ) (s : Seen) (met : List Met) → Trace ws s met → Rising ws (s .last) met → (s .passed ≡ true → keyAt ws (positionWord ws) ≤ keyAt ws (s .last)) →
+pub dead-met : (ws : List ℕ) (s : Seen) (met : List Met) → Trace ws s met → Rising ws (s .last) met → (s .reached ≡ true → keyAt ws (positionWord ws) ≤ keyAt ws (s .last)) →
     All (λ x. x .key ≤ keyAt ws (positionWord ws) → x .live ≡ false) (rowIn ws met)
-dead-met ws s [] t r passed = tt
-dead-met ws s (m ∷ met) t r passed = (
+dead-met ws s [] t r reached = tt
+dead-met ws s (m ∷ met) t r reached = (
   at (t .0 .entry),
-  dead-met ws (seen ws m s) met (t .1) (r .1) (λ e. later (either (s .passed) (eqb (m .cell) (positionWord ws)) e)),
+  dead-met ws (seen ws m s) met (t .1) (r .1) (λ e. later (either (s .reached) (eqb (m .cell) (positionWord ws)) e)),
 )
   where
-    at : ((markAt ws (m .cell) ≡ 2) × (valueAt ws (m .cell) ≡ 0)) ⊎ ((markAt ws (m .cell) ≡ 1) × (s .passed ≡ true)) →
+    at : ((markAt ws (m .cell) ≡ 2) × (valueAt ws (m .cell) ≡ 0)) ⊎ ((markAt ws (m .cell) ≡ 1) × (s .reached ≡ true)) →
         keyAt ws (m .cell) ≤ keyAt ws (positionWord ws) → eqb (markAt ws (m .cell)) 1 ≡ false
     at (inl d) h = ap (λ n. eqb n 1) (d .0)
-    at (inr l) h = absurd (let k = passed (l .1) in let i = r .0 .0 in omega arith)
+    at (inr l) h = absurd (let k = reached (l .1) in let i = r .0 .0 in omega arith)
 
-    later : (s .passed ≡ true) ⊎ (eqb (m .cell) (positionWord ws) ≡ true) → keyAt ws (positionWord ws) ≤ keyAt ws (m .cell)
-    later (inl e) = let k = passed e in let i = r .0 .0 in omega arith
+    later : (s .reached ≡ true) ⊎ (eqb (m .cell) (positionWord ws) ≡ true) → keyAt ws (positionWord ws) ≤ keyAt ws (m .cell)
+    later (inl e) = let k = reached e in let i = r .0 .0 in omega arith
     later (inr e) = omega (arith, ap (keyAt ws) (eqb-true (m .cell) (positionWord ws) e))
 
 -- "A dead cell's value is 0."
@@ -236,7 +236,7 @@ pub values-met : (ws : List ℕ) (s : Seen) (met : List Met) → Trace ws s met 
 values-met ws s [] t = tt
 values-met ws s (m ∷ met) t = (at (t .0 .entry), values-met ws (seen ws m s) met (t .1))
   where
-    at : ((markAt ws (m .cell) ≡ 2) × (valueAt ws (m .cell) ≡ 0)) ⊎ ((markAt ws (m .cell) ≡ 1) × (s .passed ≡ true)) →
+    at : ((markAt ws (m .cell) ≡ 2) × (valueAt ws (m .cell) ≡ 0)) ⊎ ((markAt ws (m .cell) ≡ 1) × (s .reached ≡ true)) →
         eqb (markAt ws (m .cell)) 1 ≡ false → valueAt ws (m .cell) ≡ 0
     at (inl d) h = d .1
     at (inr l) h = absurd (false≢true (sym h ∙ ap (λ n. eqb n 1) (l .0)))

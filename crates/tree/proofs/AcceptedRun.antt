@@ -20,42 +20,42 @@ use Rattle.tree.proofs.AcceptedTests.{Right, cell-right}
 -- A cell that has been read, and the number of the link that led to it.
 pub record Met : Type 0 where
   pub cell : ℕ
-  pub level : ℕ
+  pub linkNumber : ℕ
 
 -- What the lists of cells met say
 
 -- of the cells met, the first by a number of at most d: that cell if the number is d, else 0
 unfoldable pub next : ℕ → List Met → ℕ
 next d [] = 0
-next d (m ∷ later) = cond (leb (m .level) d) (cond (eqb (m .level) d) (m .cell) 0) (next d later)
+next d (m ∷ later) = cond (leb (m .linkNumber) d) (cond (eqb (m .linkNumber) d) (m .cell) 0) (next d later)
 
-pub next-past : (d : ℕ) (m : Met) (later : List Met) → d < m .level → next d (m ∷ later) ≡ next d later
+pub next-past : (d : ℕ) (m : Met) (later : List Met) → d < m .linkNumber → next d (m ∷ later) ≡ next d later
 unfolding next
-next-past d m later h = rw (lt-leb (m .level) d h) refl
+next-past d m later h = rw (lt-leb (m .linkNumber) d h) refl
 
-pub next-here : (d : ℕ) (m : Met) (later : List Met) → m .level ≡ d → next d (m ∷ later) ≡ m .cell
+pub next-here : (d : ℕ) (m : Met) (later : List Met) → m .linkNumber ≡ d → next d (m ∷ later) ≡ m .cell
 unfolding next
-next-here d m later e = rw (le-leb (m .level) d (omega arith), eq-eqb (m .level) d e) refl
+next-here d m later e = rw (le-leb (m .linkNumber) d (omega arith), eq-eqb (m .linkNumber) d e) refl
 
-pub next-none : (d : ℕ) (m : Met) (later : List Met) → m .level < d → next d (m ∷ later) ≡ 0
+pub next-none : (d : ℕ) (m : Met) (later : List Met) → m .linkNumber < d → next d (m ∷ later) ≡ 0
 unfolding next
-next-none d m later h = rw (le-leb (m .level) d (omega arith), ne-eqb (m .level) d (λ e. omega arith)) refl
+next-none d m later h = rw (le-leb (m .linkNumber) d (omega arith), ne-eqb (m .linkNumber) d (λ e. omega arith)) refl
 
 -- cells met by higher numbers are passed over
-next-behind : (d : ℕ) (front later : List Met) → All (λ m. d < m .level) front → next d (front ++ later) ≡ next d later
+next-behind : (d : ℕ) (front later : List Met) → All (λ m. d < m .linkNumber) front → next d (front ++ later) ≡ next d later
 next-behind d [] later a = refl
 next-behind d (m ∷ front) later a = next-past d m (front ++ later) (a .0) ∙ next-behind d front later (a .1)
 
-next-of-higher : (d : ℕ) (met : List Met) → All (λ m. d < m .level) met → next d met ≡ 0
+next-of-higher : (d : ℕ) (met : List Met) → All (λ m. d < m .linkNumber) met → next d met ≡ 0
 unfolding next
 next-of-higher d [] a = refl
 next-of-higher d (m ∷ met) a = next-past d m met (a .0) ∙ next-of-higher d met (a .1)
 
 -- a cell met by a lower number ends the search
-next-before : (d : ℕ) (front : List Met) (m : Met) (later : List Met) → m .level < d → next d (front ++ (m ∷ later)) ≡ next d front
+next-before : (d : ℕ) (front : List Met) (m : Met) (later : List Met) → m .linkNumber < d → next d (front ++ (m ∷ later)) ≡ next d front
 unfolding next
 next-before d [] m later h = next-none d m later h
-next-before d (n ∷ front) m later h = ap (λ r. cond (leb (n .level) d) (cond (eqb (n .level) d) (n .cell) 0) r) (next-before d front m later h)
+next-before d (n ∷ front) m later h = ap (λ r. cond (leb (n .linkNumber) d) (cond (eqb (n .linkNumber) d) (n .cell) 0) r) (next-before d front m later h)
 
 -- the links of x of number e and more, read through what is owed, lead to the cells met after x
 abbrev pub Linked : List ℕ → ℕ → ℕ → List Met → Type 0
@@ -64,9 +64,9 @@ Linked ws x e met = (d : ℕ) → e ≤ d → d < getD ws 0 0 → linkRead ws x 
 -- and so for each cell met, from the number on that it was met by
 abbrev pub Links : List ℕ → List Met → Type 0
 Links ws [] = Unit {0}
-Links ws (m ∷ met) = Linked ws (m .cell) (m .level) met × Links ws met
+Links ws (m ∷ met) = Linked ws (m .cell) (m .linkNumber) met × Links ws met
 
-links-append : (ws : List ℕ) (front : List Met) (m : Met) (later : List Met) → All (λ n. m .level < n .level) front → Links ws front → Links ws (m ∷ later) →
+links-append : (ws : List ℕ) (front : List Met) (m : Met) (later : List Met) → All (λ n. m .linkNumber < n .linkNumber) front → Links ws front → Links ws (m ∷ later) →
     Links ws (front ++ (m ∷ later))
 links-append ws [] m later a front-links links = links
 links-append ws (n ∷ front) m later a front-links links = (
@@ -76,7 +76,7 @@ links-append ws (n ∷ front) m later a front-links links = (
 
 -- what has been seen once a cell is read
 abbrev pub seen : List ℕ → Met → Seen → Seen
-seen ws m s = record { right = true; left = s .left - 1; last = m .cell; agreed = agreedAt ws (m .cell) (m .level) (s .agreed); passed = s .passed || eqb (m .cell) (positionWord ws) }
+seen ws m s = record { right = true; left = s .left - 1; last = m .cell; agreed = agreedAt ws (m .cell) (m .linkNumber) (s .agreed); reached = s .reached || eqb (m .cell) (positionWord ws) }
 
 unfoldable pub seenAfter : List ℕ → Seen → List Met → Seen
 seenAfter ws s [] = s
@@ -85,7 +85,7 @@ seenAfter ws s (m ∷ met) = seenAfter ws (seen ws m s) met
 -- each cell met is right after what had been seen
 abbrev pub Trace : List ℕ → Seen → List Met → Type 0
 Trace ws s [] = Unit {0}
-Trace ws s (m ∷ met) = Right ws s (m .cell) (m .level) × Trace ws (seen ws m s) met
+Trace ws s (m ∷ met) = Right ws s (m .cell) (m .linkNumber) × Trace ws (seen ws m s) met
 
 seen-append : (ws : List ℕ) (s : Seen) (front later : List Met) → seenAfter ws s (front ++ later) ≡ seenAfter ws (seenAfter ws s front) later
 unfolding seenAfter
@@ -102,7 +102,7 @@ pub record Run (ws : List ℕ) (e x : ℕ) (s t : Seen) : Type 0 where
   pub met : List Met
   pub trace : Trace ws s met
   pub ends : t ≡ seenAfter ws s met
-  pub levels : All (λ m. (e ≤ m .level) × (m .level < getD ws 0 0)) met
+  pub levels : All (λ m. (e ≤ m .linkNumber) × (m .linkNumber < getD ws 0 0)) met
   pub cells : All (λ m. 0 < m .cell) met
   pub linked : Linked ws x e met
   pub links : Links ws met
@@ -127,23 +127,23 @@ run-none ws e x s t none r =
 
 -- x has a link e, to y
 run-more : (ws : List ℕ) (e x y : ℕ) (s t u : Seen) → e < getD ws 0 0 → linkRead ws x e ≡ y → 0 < y → Run ws (suc e) x s t →
-    Right ws t y e → Run ws e y (seen ws (record { cell = y; level = e }) t) u → Run ws e x s u
+    Right ws t y e → Run ws e y (seen ws (record { cell = y; linkNumber = e }) t) u → Run ws e x s u
 unfolding seenAfter
 run-more ws e x y s t u inside leads pos r right more =
     record {
       met = r .met ++ (m ∷ more .met);
       trace = trace-append ws s (r .met) (m ∷ more .met) (r .trace) (subst (λ z. Trace ws z (m ∷ more .met)) (r .ends) (right, more .trace));
       ends = more .ends ∙ ap (λ z. seenAfter ws z (m ∷ more .met)) (r .ends) ∙ sym (seen-append ws s (r .met) (m ∷ more .met));
-      levels = all-append (λ n. (e ≤ n .level) × (n .level < getD ws 0 0)) (r .met) (m ∷ more .met) (all-map (λ n h. (let k = h .0 in omega arith, h .1)) (r .met) (r .levels)) ((omega arith, inside), more .levels);
+      levels = all-append (λ n. (e ≤ n .linkNumber) × (n .linkNumber < getD ws 0 0)) (r .met) (m ∷ more .met) (all-map (λ n h. (let k = h .0 in omega arith, h .1)) (r .met) (r .levels)) ((omega arith, inside), more .levels);
       cells = all-append (λ n. 0 < n .cell) (r .met) (m ∷ more .met) (r .cells) (pos, more .cells);
       linked = λ d h l. at d l (ℕ-discrete e d) h;
       links = links-append ws (r .met) m (more .met) higher (r .links) (more .linked, more .links);
     }
   where
     m : Met
-    m = record { cell = y; level = e }
+    m = record { cell = y; linkNumber = e }
 
-    higher : All (λ n. e < n .level) (r .met)
+    higher : All (λ n. e < n .linkNumber) (r .met)
     higher = all-map (λ n h. h .0) (r .met) (r .levels)
 
     at : (d : ℕ) → d < getD ws 0 0 → Dec (e ≡ d) → e ≤ d → linkRead ws x d ≡ next d (r .met ++ (m ∷ more .met))
@@ -171,10 +171,10 @@ along-run higher ws e inside runs (suc fuel) x s right = at-higher (t .right) re
 
     at-cell : (0 < y) → t .right ≡ true → (q : Bool) → cellRight ws y e t ≡ q →
         ((z : ℕ) (u : Seen) → along higher ws e fuel z u .right ≡ true → Run ws e z u (along higher ws e fuel z u)) →
-        onward (cond q (seen ws (record { cell = y; level = e }) t) (wrong t)) .right ≡ true →
-        Run ws e x s (onward (cond q (seen ws (record { cell = y; level = e }) t) (wrong t)))
+        onward (cond q (seen ws (record { cell = y; linkNumber = e }) t) (wrong t)) .right ≡ true →
+        Run ws e x s (onward (cond q (seen ws (record { cell = y; linkNumber = e }) t) (wrong t)))
     at-cell pos rt true c more h =
-        let u = seen ws (record { cell = y; level = e }) t in
+        let u = seen ws (record { cell = y; linkNumber = e }) t in
         run-more ws e x y s t (along higher ws e fuel y u) inside refl pos (runs x s rt) (cell-right ws y e t c) (more y u h)
     at-cell pos rt false c more h = absurd (false≢true h)
 

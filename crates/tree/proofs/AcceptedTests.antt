@@ -63,7 +63,7 @@ pub record Right (ws : List ℕ) (s : Seen) (y e : ℕ) : Type 0 where
   pub larger : coordinateAt ws (s .last) e < coordinateAt ws y e
   pub writes : writesKey ws y ≡ true
   pub key : keyAt ws y ≤ getD ws 1 0
-  pub entry : ((markAt ws y ≡ 2) × (valueAt ws y ≡ 0)) ⊎ ((markAt ws y ≡ 1) × (s .passed ≡ true))
+  pub entry : ((markAt ws y ≡ 2) × (valueAt ws y ≡ 0)) ⊎ ((markAt ws y ≡ 1) × (s .reached ≡ true))
   pub below : (d : ℕ) → d < e → (linkAt ws y d ≡ 0) ⊎ (dueTo ws (s .last) d ≡ true)
   pub unowing : owedAt ws y ≡ 0 → (lowAt ws y ≡ 0) × (highAt ws y ≡ 0)
   pub owing : (owedAt ws y ≡ 0 → ⊥) → Owing ws (s .last) y e
@@ -91,19 +91,19 @@ unowing-right ws x y e h q =
     let t = both (eqb (lowAt ws y) 0) (eqb (highAt ws y) 0) (rw (eq-eqb (owedAt ws y) 0 q) at h) in
     (eqb-true (lowAt ws y) 0 (t .0), eqb-true (highAt ws y) 0 (t .1))
 
-entry-right : (ws : List ℕ) (y : ℕ) (passed : Bool) → entryRight ws y passed ≡ true →
-    (keyAt ws y ≤ getD ws 1 0) × (((markAt ws y ≡ 2) × (valueAt ws y ≡ 0)) ⊎ ((markAt ws y ≡ 1) × (passed ≡ true)))
+entry-right : (ws : List ℕ) (y : ℕ) (reached : Bool) → entryRight ws y reached ≡ true →
+    (keyAt ws y ≤ getD ws 1 0) × (((markAt ws y ≡ 2) × (valueAt ws y ≡ 0)) ⊎ ((markAt ws y ≡ 1) × (reached ≡ true)))
 unfolding entryRight
-entry-right ws y passed h =
+entry-right ws y reached h =
     let dead = eqb (markAt ws y) 2 && eqb (valueAt ws y) 0 in
-    let live = eqb (markAt ws y) 1 && passed in
+    let live = eqb (markAt ws y) 1 && reached in
     let t = both (leb (keyAt ws y) (getD ws 1 0)) (dead || live) h in
     (leb-true (keyAt ws y) (getD ws 1 0) (t .0), at (either dead live (t .1)))
   where
-    at : ((eqb (markAt ws y) 2 && eqb (valueAt ws y) 0) ≡ true) ⊎ ((eqb (markAt ws y) 1 && passed) ≡ true) →
-        ((markAt ws y ≡ 2) × (valueAt ws y ≡ 0)) ⊎ ((markAt ws y ≡ 1) × (passed ≡ true))
+    at : ((eqb (markAt ws y) 2 && eqb (valueAt ws y) 0) ≡ true) ⊎ ((eqb (markAt ws y) 1 && reached) ≡ true) →
+        ((markAt ws y ≡ 2) × (valueAt ws y ≡ 0)) ⊎ ((markAt ws y ≡ 1) × (reached ≡ true))
     at (inl d) = let u = both (eqb (markAt ws y) 2) (eqb (valueAt ws y) 0) d in inl (eqb-true (markAt ws y) 2 (u .0), eqb-true (valueAt ws y) 0 (u .1))
-    at (inr l) = let u = both (eqb (markAt ws y) 1) passed l in inr (eqb-true (markAt ws y) 1 (u .0), u .1)
+    at (inr l) = let u = both (eqb (markAt ws y) 1) reached l in inr (eqb-true (markAt ws y) 1 (u .0), u .1)
 
 below-right : (ws : List ℕ) (x y e : ℕ) → linksBelow ws x y e ≡ true → (d : ℕ) → d < e → (linkAt ws y d ≡ 0) ⊎ (dueTo ws x d ≡ true)
 unfolding linksBelow
@@ -120,10 +120,10 @@ cell-right ws y e s h =
     let agreed = agreedAt ws y e (s .agreed) in
     let alike : ℕ → Bool = λ d. eqb (coordinateAt ws y d) (coordinateAt ws x d) in
     let p = both (cellAloneRight ws y e s) (not (eqb y (positionWord ws)) || eqb agreed (getD ws 0 0)) h in
-    let t = joined-all (ltb 0 (s .left) ∷ ltb y (getD ws 2 0) ∷ follows ws x y e ∷ writesKey ws y ∷ entryRight ws y (s .passed) ∷
+    let t = joined-all (ltb 0 (s .left) ∷ ltb y (getD ws 2 0) ∷ follows ws x y e ∷ writesKey ws y ∷ entryRight ws y (s .reached) ∷
     linksBelow ws x y e ∷ debtRight ws x y e ∷ []) (p .0) in
     let f = both (allFrom alike 0 e) (ltb (coordinateAt ws x e) (coordinateAt ws y e)) (t .1 .1 .0) in
-    let entry = entry-right ws y (s .passed) (t .1 .1 .1 .1 .0) in
+    let entry = entry-right ws y (s .reached) (t .1 .1 .1 .1 .0) in
     record {
       left = ltb-true 0 (s .left) (t .0);
       inside = ltb-true y (getD ws 2 0) (t .1 .0);

@@ -59,8 +59,8 @@ pub record OwesTo (ws : List ℕ) (x e : ℕ) (m : Met) : Type 0 where
   pub owes : owedAt ws x ≡ 0 → ⊥
   pub owed : owedAt ws x ≡ m .cell
   pub low : lowAt ws x ≡ e
-  pub high : highAt ws x ≡ m .level
-  pub lower : e < m .level
+  pub high : highAt ws x ≡ m .linkNumber
+  pub lower : e < m .linkNumber
 
 -- x owes nothing, or the cell met next
 abbrev pub OwesNext : List ℕ → ℕ → ℕ → List Met → Type 0
@@ -84,24 +84,24 @@ module _ (ws : List ℕ) (x y e : ℕ) (o : Owing ws x y e) where
 
   -- so that is the cell met next
   owing-next : (owedAt ws y ≡ 0 → ⊥) → (later : List Met) → Linked ws y e later →
-      All (λ m. 0 < m .cell) later → All (λ m. m .level < getD ws 0 0) later → OwesNext ws y e later
+      All (λ m. 0 < m .cell) later → All (λ m. m .linkNumber < getD ws 0 0) later → OwesNext ws y e later
   unfolding next
   owing-next ne [] linked cells levels = absurd (ne (sym owing-link ∙ linked (highAt ws y) (let h = o .high in omega arith) (o .inside)))
-  owing-next ne (m ∷ later) linked cells levels = at (decLt (highAt ws y) (m .level)) (ℕ-discrete (m .level) (highAt ws y))
+  owing-next ne (m ∷ later) linked cells levels = at (decLt (highAt ws y) (m .linkNumber)) (ℕ-discrete (m .linkNumber) (highAt ws y))
     where
       leads : owedAt ws y ≡ next (highAt ws y) (m ∷ later)
       leads = sym owing-link ∙ linked (highAt ws y) (let h = o .high in omega arith) (o .inside)
 
-      at : Dec (highAt ws y < m .level) → Dec (m .level ≡ highAt ws y) → Clear ws y ⊎ OwesTo ws y e m
+      at : Dec (highAt ws y < m .linkNumber) → Dec (m .linkNumber ≡ highAt ws y) → Clear ws y ⊎ OwesTo ws y e m
       at (yes h) q =
-          let z : 0 ≡ m .cell = sym (owing-none (m .level) (levels .0) h) ∙ linked (m .level) (let k = o .high in omega arith) (levels .0) ∙ next-here (m .level) m later refl in
+          let z : 0 ≡ m .cell = sym (owing-none (m .linkNumber) (levels .0) h) ∙ linked (m .linkNumber) (let k = o .high in omega arith) (levels .0) ∙ next-here (m .linkNumber) m later refl in
           absurd (let p = cells .0 in omega arith)
       at (no h) (yes q) =
           inr (record { owes = ne; owed = leads ∙ next-here (highAt ws y) m later q; low = o .low; high = sym q; lower = let k = o .high in omega arith })
       at (no h) (no q) = absurd (ne (leads ∙ next-none (highAt ws y) m later (omega arith)))
 
 owes-next : (ws : List ℕ) (s : Seen) (y e : ℕ) (later : List Met) → Right ws s y e → Linked ws y e later → All (λ m. 0 < m .cell) later →
-    All (λ m. m .level < getD ws 0 0) later → OwesNext ws y e later
+    All (λ m. m .linkNumber < getD ws 0 0) later → OwesNext ws y e later
 owes-next ws s y e later r linked cells levels = at (ℕ-discrete (owedAt ws y) 0)
   where
     at : Dec (owedAt ws y ≡ 0) → OwesNext ws y e later
@@ -150,7 +150,7 @@ module _ (ws : List ℕ) (a ea y e dim : ℕ) (same : dim ≡ e) where
   due-own later r owes d = ap₂ (λ l h. entryIn ws y .owes && between l h d) (debt-low later owes) (debt-high later r owes)
 
   -- and those that the cell before owes
-  due-before : Clear ws a ⊎ OwesTo ws a ea (record { cell = y; level = e }) → (d : ℕ) → dueTo ws a d ≡ (entryIn ws a .owes && between ea dim d)
+  due-before : Clear ws a ⊎ OwesTo ws a ea (record { cell = y; linkNumber = e }) → (d : ℕ) → dueTo ws a d ≡ (entryIn ws a .owes && between ea dim d)
   due-before (inl c) d =
       ap (λ t. t && between (lowAt ws a) (highAt ws a) d) (owes-not ws a (c .owed)) ∙ sym (ap (λ t. t && between ea dim d) (owes-not ws a (c .owed)))
   due-before (inr o) d = ap₂ (λ l h. entryIn ws a .owes && between l h d) (o .low) (o .high ∙ sym same)
@@ -172,9 +172,9 @@ module _ (ws : List ℕ) (a ea y e dim : ℕ) (same : dim ≡ e) where
       at (no ne) = absurd (owes .owes (ap (owedAt ws) (sym is) ∙ t .0 .owing ne .before))
 
 -- Link d of a cell that is met after another, of dimension ea.
-module _ (ws : List ℕ) (pos : 0 < getD ws 3 0) (s : Seen) (ea : ℕ) (m : Met) (later : List Met) (right : Right ws s (m .cell) (m .level))
+module _ (ws : List ℕ) (pos : 0 < getD ws 3 0) (s : Seen) (ea : ℕ) (m : Met) (later : List Met) (right : Right ws s (m .cell) (m .linkNumber))
     (before : Linked ws (s .last) ea (m ∷ later)) (before-owes : Clear ws (s .last) ⊎ OwesTo ws (s .last) ea m)
-    (rises : Rising ws (s .last) (m ∷ later)) (linked : Linked ws (m .cell) (m .level) later) (owes : OwesNext ws (m .cell) (m .level) later)
+    (rises : Rising ws (s .last) (m ∷ later)) (linked : Linked ws (m .cell) (m .linkNumber) later) (owes : OwesNext ws (m .cell) (m .linkNumber) later)
     (d : ℕ) (inside : d < getD ws 0 0) where
   -- one that the cell before owes
   link-due : dueTo ws (s .last) d ≡ true →
@@ -199,7 +199,7 @@ module _ (ws : List ℕ) (pos : 0 < getD ws 3 0) (s : Seen) (ea : ℕ) (m : Met)
       ∙ ap (λ q. cond q (owedAt ws (m .cell)) 0) (ne-eqb d (highAt ws (m .cell)) (λ q. let h = due .above in omega arith))
 
   -- any other is settled
-  link-own : (dim : ℕ) → dim ≡ m .level → dueTo ws (s .last) d ≡ false → dueTo ws (m .cell) d ≡ false →
+  link-own : (dim : ℕ) → dim ≡ m .linkNumber → dueTo ws (s .last) d ≡ false → dueTo ws (m .cell) d ≡ false →
       linkAt ws (m .cell) d ≡ settledLink (getD ws 3 0) (getD ws 0 0) (placeIn ws (s .last) ea (m .cell) dim later) d
   link-own dim same t u = at (decLe dim d)
     where
@@ -213,11 +213,11 @@ module _ (ws : List ℕ) (pos : 0 < getD ws 3 0) (s : Seen) (ea : ℕ) (m : Met)
           (sym (read-own ws (m .cell) d u) ∙ linked d (omega arith) inside ∙ sym (sharing-is-next ws pos (m .cell) d later (rises .1) inside))
       at (no h) = rw (lt-leb dim d (omega arith)) (lower (right .below d (omega arith)))
 
-  link-word : (dim : ℕ) → dim ≡ m .level → linkAt ws (m .cell) d ≡ link (getD ws 3 0) (getD ws 0 0) (placeIn ws (s .last) ea (m .cell) dim later) d
+  link-word : (dim : ℕ) → dim ≡ m .linkNumber → linkAt ws (m .cell) d ≡ link (getD ws 3 0) (getD ws 0 0) (placeIn ws (s .last) ea (m .cell) dim later) d
   link-word dim same =
       at (dueTo ws (s .last) d) (dueTo ws (m .cell) d) refl refl
-      ∙ sym (link-tested b D p d (sym (due-before ws (s .last) ea (m .cell) (m .level) dim same before-owes d))
-      (sym (due-own ws (s .last) ea (m .cell) (m .level) dim same later (rises .1) owes d)))
+      ∙ sym (link-tested b D p d (sym (due-before ws (s .last) ea (m .cell) (m .linkNumber) dim same before-owes d))
+      (sym (due-own ws (s .last) ea (m .cell) (m .linkNumber) dim same later (rises .1) owes d)))
     where
       b : ℕ
       b = getD ws 3 0
@@ -239,12 +239,12 @@ module _ (ws : List ℕ) (pos : 0 < getD ws 3 0) (s : Seen) (ea : ℕ) (m : Met)
 mark-word : (ws : List ℕ) (s : Seen) (y e : ℕ) → Right ws s y e → markAt ws y ≡ mark (eqb (markAt ws y) 1)
 mark-word ws s y e r = at (r .entry)
   where
-    at : ((markAt ws y ≡ 2) × (valueAt ws y ≡ 0)) ⊎ ((markAt ws y ≡ 1) × (s .passed ≡ true)) → markAt ws y ≡ mark (eqb (markAt ws y) 1)
+    at : ((markAt ws y ≡ 2) × (valueAt ws y ≡ 0)) ⊎ ((markAt ws y ≡ 1) × (s .reached ≡ true)) → markAt ws y ≡ mark (eqb (markAt ws y) 1)
     at (inl t) = t .0 ∙ sym (ap (λ n. mark (eqb n 1)) (t .0))
     at (inr t) = t .0 ∙ sym (ap (λ n. mark (eqb n 1)) (t .0))
 
 pub standing-after : (ws : List ℕ) → Header ws → (s : Seen) (ea : ℕ) (met : List Met) → Trace ws s met → Links ws met → Rising ws (s .last) met →
-    All (λ m. 0 < m .cell) met → All (λ m. m .level < getD ws 0 0) met → Linked ws (s .last) ea met → OwesNext ws (s .last) ea met →
+    All (λ m. 0 < m .cell) met → All (λ m. m .linkNumber < getD ws 0 0) met → Linked ws (s .last) ea met → OwesNext ws (s .last) ea met →
     All (Standing ws (getD ws 3 0) (getD ws 0 0)) (placesAfter (getD ws 3 0) (getD ws 0 0) (entryIn ws (s .last)) ea (rowIn ws met))
 unfolding placesAfter
 standing-after ws header s ea [] trace links rises cells levels before before-owes = tt
@@ -253,14 +253,14 @@ standing-after ws header s ea (m ∷ met) trace links rises cells levels before 
     held = record {
       key = refl;
       value = refl;
-      mark = mark-word ws s (m .cell) (m .level) (trace .0);
-      owed = debt-owed ws (s .last) ea (m .cell) (m .level) dim (rises .0 .1) met owes;
-      low = debt-low ws (s .last) ea (m .cell) (m .level) dim (rises .0 .1) met owes;
-      high = debt-high ws (s .last) ea (m .cell) (m .level) dim (rises .0 .1) met (rises .1) owes;
+      mark = mark-word ws s (m .cell) (m .linkNumber) (trace .0);
+      owed = debt-owed ws (s .last) ea (m .cell) (m .linkNumber) dim (rises .0 .1) met owes;
+      low = debt-low ws (s .last) ea (m .cell) (m .linkNumber) dim (rises .0 .1) met owes;
+      high = debt-high ws (s .last) ea (m .cell) (m .linkNumber) dim (rises .0 .1) met (rises .1) owes;
       coordinate = cell-keyed ws header (m .cell) (trace .0 .inside) (trace .0 .writes) .coordinate;
       link = λ d l. link-word ws (header .positive) s ea m met (trace .0) before before-owes rises (links .0) owes d l dim (rises .0 .1);
     };
-    debt = debt-allowed ws (s .last) ea (m .cell) (m .level) dim (rises .0 .1) (seen ws m s) met refl (trace .1) (rises .1) owes;
+    debt = debt-allowed ws (s .last) ea (m .cell) (m .linkNumber) dim (rises .0 .1) (seen ws m s) met refl (trace .1) (rises .1) owes;
   },
   standing-after ws header (seen ws m s) dim met (trace .1) (links .1) (rises .1) (cells .1) (levels .1)
       (subst (λ e. Linked ws (m .cell) e met) (sym (rises .0 .1)) (links .0)) (subst (λ e. OwesNext ws (m .cell) e met) (sym (rises .0 .1)) owes),
@@ -269,8 +269,8 @@ standing-after ws header s ea (m ∷ met) trace links rises cells levels before 
     dim : ℕ
     dim = shared (getD ws 3 0) (getD ws 0 0) (keyAt ws (s .last)) (keyAt ws (m .cell))
 
-    owes : OwesNext ws (m .cell) (m .level) met
-    owes = owes-next ws s (m .cell) (m .level) met (trace .0) (links .0) (cells .1) (levels .1)
+    owes : OwesNext ws (m .cell) (m .linkNumber) met
+    owes = owes-next ws s (m .cell) (m .linkNumber) met (trace .0) (links .0) (cells .1) (levels .1)
 
 -- The head's place
 
@@ -303,7 +303,7 @@ standing-head ws pos head met rises linked =
 
 -- all places, from a run over all children of the head
 pub standing-places : (ws : List ℕ) → Header ws → Head ws → (met : List Met) → Trace ws (atHead ws) met → Links ws met → Rising ws 0 met →
-    All (λ m. 0 < m .cell) met → All (λ m. m .level < getD ws 0 0) met → Linked ws 0 0 met →
+    All (λ m. 0 < m .cell) met → All (λ m. m .linkNumber < getD ws 0 0) met → Linked ws 0 0 met →
     All (Standing ws (getD ws 3 0) (getD ws 0 0)) (places (getD ws 3 0) (getD ws 0 0) (rowIn ws met))
 unfolding places atHead
 standing-places ws header head met trace links rises cells levels linked = (

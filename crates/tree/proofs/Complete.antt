@@ -35,7 +35,7 @@ use Rattle.tree.proofs.CompleteShown.{position-stands, places-shown}
 
 -- The position among the standing cells
 
--- a key has been passed at x, or stands later
+-- a key has been reached at x, or stands later
 abbrev Ahead : ℕ → Entry → List Entry → Type 0
 Ahead key x later = (key ≤ x .key) ⊎ Stands key later
 
@@ -61,7 +61,7 @@ ahead-next key x y later h (inr (inr stands)) = inr stands
 abbrev Passing : ℕ → Place → Type 0
 Passing key p = Asc (p .entry .key) (p .later) × Ahead key (p .entry) (p .later)
 
--- at the end of the row the position has been passed
+-- at the end of the row the position has been reached
 passed-last : (b D key : ℕ) (p : Place) → Passing key p → leb key (lastBelow b D 0 p .entry .key) ≡ true
 passed-last b D key p ahead =
     le-leb key (last .entry .key)
@@ -113,7 +113,7 @@ module _ (ws : List ℕ) (key free : ℕ) (row : List Entry) (some : 0 < getD ws
   -- what has been seen at the head
   head-seen : getD ws 2 0 - 1 ≡ length row + free → atHead ws ≡ seenAt (getD ws 3 0) (getD ws 0 0) key free (headPlace row)
   unfolding atHead
-  head-seen left = λ i. record { right = right i; left = left i; last = 0; agreed = head-agreed i; passed = passed i }
+  head-seen left = λ i. record { right = right i; left = left i; last = 0; agreed = head-agreed i; reached = reached i }
     where
       b : ℕ
       b = getD ws 3 0
@@ -137,8 +137,8 @@ module _ (ws : List ℕ) (key free : ℕ) (row : List Entry) (some : 0 < getD ws
           at (no ne) =
               or-left (not (eqb (positionWord ws) 0)) (eqb (pathRun ws 0 0 D) D) (ap not (ne-eqb (positionWord ws) 0 (apart ne)))
 
-      passed : eqb (positionWord ws) 0 ≡ leb key 0
-      passed = at (ℕ-discrete 0 key)
+      reached : eqb (positionWord ws) 0 ≡ leb key 0
+      reached = at (ℕ-discrete 0 key)
         where
           at : Dec (0 ≡ key) → eqb (positionWord ws) 0 ≡ leb key 0
           at (yes e) = eq-eqb (positionWord ws) 0 (here e) ∙ sym (le-leb key 0 (omega arith))
@@ -244,9 +244,9 @@ module _ (s : State) (v : Sound s) where
       let end = ap length (last-any b D 0 headEntry 0 headEntry 0 (s .row)) in
       ap (λ t. t .left) picture-seen ∙ omega arith
 
-  seen-all-passed : seenAll (picture s) .passed ≡ true
+  seen-all-passed : seenAll (picture s) .reached ≡ true
   seen-all-passed =
-      ap (λ t. t .passed) picture-seen
+      ap (λ t. t .reached) picture-seen
       ∙ passed-last (s .settings .base) (s .settings .dimensions) (positionKey s) (headPlace (s .row))
       (v .ascends, head-ahead (positionKey s) (s .row) (position-stands s v))
 

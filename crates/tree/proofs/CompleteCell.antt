@@ -351,6 +351,6 @@ module _ (ws : List ℕ) (key : ℕ) (x : Entry) (e : ℕ) (a : Entry) (f : ℕ)
       let D = getD ws 0 0 in
       let fewer : suc (length later) + free - 1 ≡ length later + free = omega arith in
       let agreed = agreed-is ws b key second (t .path) pos (x .key) refl in
-      let passed = passed-next some s t gap in
+      let reached = passed-next some s t gap in
       rw (cell-right free pos some s t gap)
-      (λ i. record { right = true; left = fewer i; last = y .cell; agreed = agreed i; passed = passed i })
+      (λ i. record { right = true; left = fewer i; last = y .cell; agreed = agreed i; reached = reached i })

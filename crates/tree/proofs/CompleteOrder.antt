@@ -163,7 +163,7 @@ module _ (b D : ℕ) (pos : 0 < b) where
 
 -- what has been seen when the row has been read up to x and `left` cells are left, with the position's key
 abbrev pub seenWith : ℕ → ℕ → ℕ → Entry → ℕ → Seen
-seenWith b D key x left = record { right = true; left = left; last = x .cell; agreed = shared b D (x .key) key; passed = leb key (x .key) }
+seenWith b D key x left = record { right = true; left = left; last = x .cell; agreed = shared b D (x .key) key; reached = leb key (x .key) }
 
 -- the same at a place, and before it; `free` cells are free
 abbrev pub seenAt : ℕ → ℕ → ℕ → ℕ → Place → Seen

@@ -1,4 +1,4 @@
--- The path words and the way down: from a cell's dimension on, the way down to it is that cell, and a path word is that cell just if
+-- The path words and the way down: from a cell's dimension on, the way down to it is that cell, and a path word is that cell exactly if
 -- the cell shares more coordinates with the position than the word's number. So the path words agree with the way down to a cell in
 -- as many leading ones as the cell shares coordinates with the position.
 use mathlib.Core.Path.{_≡_, refl, sym, _∙_, ap}
@@ -184,7 +184,7 @@ module _ (ws : List ℕ) (b key : ℕ) (p : Place) (on : OnPath ws b key p) wher
           rw (le-ltb (shared b D x key) (p .dimension) (omega (arith, l)))
           (run-agreed (p .dimension) (omega arith) (omega (arith, l, is, triangle b D y x key pos, shared-sym b D x y)))
 
-  -- p is the position just if its key is the position's
+  -- p is the position exactly if its key is the position's
   pub position-here : 0 < getD ws 0 0 → p .dimension < getD ws 0 0 → p .entry .key ≡ key → p .entry .cell ≡ positionWord ws
   position-here some h e =
       let D = getD ws 0 0 in

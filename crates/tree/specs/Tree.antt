@@ -1,4 +1,4 @@
--- The check for refusal 3 as a walk over the words: "reads the list cell by cell, each child's own children in turn". The children of
+-- The check for refusal 3 as a reading of the words: "reads the list cell by cell, each child's own children in turn". The children of
 -- a cell are met by its links from D-1 down, so the cells are read in ascending order of keys, and each is compared with the one read
 -- before it.
 use mathlib.Core.Bool.{Bool, true, false, cond, _&&_, _||_, not}
@@ -41,8 +41,8 @@ follows ws x y e =
 
 -- key at most K; live or dead, dead as long as the position has not been read; a dead cell's value is 0
 unfoldable pub entryRight : List ℕ → ℕ → Bool → Bool
-entryRight ws y passed =
-    leb (keyAt ws y) (getD ws 1 0) && ((eqb (markAt ws y) 2 && eqb (valueAt ws y) 0) || (eqb (markAt ws y) 1 && passed))
+entryRight ws y reached =
+    leb (keyAt ws y) (getD ws 1 0) && ((eqb (markAt ws y) 2 && eqb (valueAt ws y) 0) || (eqb (markAt ws y) 1 && reached))
 
 -- link d of y is one that x, read before y, owes
 abbrev pub dueTo : List ℕ → ℕ → ℕ → Bool
@@ -85,7 +85,7 @@ cellAloneRight ws y e s =
     && (ltb y (getD ws 2 0)
     && (follows ws (s .last) y e
     && (writesKey ws y
-    && (entryRight ws y (s .passed)
+    && (entryRight ws y (s .reached)
     && (linksBelow ws (s .last) y e
     && debtRight ws (s .last) y e)))))
 
@@ -95,13 +95,13 @@ cellRight ws y e s =
     cellAloneRight ws y e s && (not (eqb y (positionWord ws)) || eqb (agreedAt ws y e (s .agreed)) (getD ws 0 0))
 
 abbrev pub wrong : Seen → Seen
-wrong s = record { right = false; left = s .left; last = s .last; agreed = s .agreed; passed = s .passed }
+wrong s = record { right = false; left = s .left; last = s .last; agreed = s .agreed; reached = s .reached }
 
 -- what has been seen once cell y is read, met by link e
 unfoldable pub entered : List ℕ → ℕ → ℕ → Seen → Seen
 entered ws y e s =
     cond (cellRight ws y e s)
-    (record { right = true; left = s .left - 1; last = y; agreed = agreedAt ws y e (s .agreed); passed = s .passed || eqb y (positionWord ws) })
+    (record { right = true; left = s .left - 1; last = y; agreed = agreedAt ws y e (s .agreed); reached = s .reached || eqb y (positionWord ws) })
     (wrong s)
 
 -- The cells that hang from x by links of number e, one from the other, each after the children by higher links (`higher`) of the one
@@ -139,7 +139,7 @@ atHead ws =
       left = getD ws 2 0 - 1;
       last = 0;
       agreed = agreed;
-      passed = eqb (positionWord ws) 0;
+      reached = eqb (positionWord ws) 0;
     }
 
 -- a free cell's words after the first are 0
@@ -168,6 +168,6 @@ seenAll ws = children (getD ws 2 0) ws (getD ws 0 0) 0 (atHead ws)
 unfoldable pub accepts : List ℕ → Bool
 accepts ws =
     elim (headerRight ws) [
-      | true ↦ headRight ws && ((atHead ws .right && seenAll ws .right) && (seenAll ws .passed && chainRight ws (seenAll ws .left) (getD ws 4 0)))
+      | true ↦ headRight ws && ((atHead ws .right && seenAll ws .right) && (seenAll ws .reached && chainRight ws (seenAll ws .left) (getD ws 4 0)))
       | false ↦ false
     ]

@@ -12,5 +12,5 @@ pub struct Seen {
     // how many leading path words are the cells of the way down to the cell read last
     pub agreed: u32,
     // the position has been read
-    pub passed: bool,
+    pub reached: bool,
 }

@@ -8,7 +8,7 @@ ghost use Rattle.settings.specs.Numbers.{mostDimensions, mostCells};
 ghost use Rattle.meaning.specs.Keys.{coordinates};
 ghost use Rattle.meaning.specs.Words.{wordAt, owedAt, coordinateAt, linkAt};
 ghost use Rattle.meaning.specs.Walk.{linkRead, stepAt};
-ghost use Rattle.meaning.specs.Words as words;
+ghost use Rattle.meaning.specs.Words as definitions;
 ghost use Rattle.meaning.specs.Stores as stores;
 ghost use Rattle.words.specs.Shaped.{Shaped, Within};
 use meaning::Step;
@@ -32,10 +32,10 @@ pub const HIGH: u32 = 5;
 
 pub const COORDINATES: u32 = 6;
 
-// Where word j of cell x stands.
+// Where word j of cell x stands; below 2 to the power 30, so that what callers add to it does not wrap.
 pub fn place(s: Settings, x: u32, j: u32) -> usize
     requires { ⌜ (s .dimensions ≤ mostDimensions) × ((s .cells ≤ mostCells) × Within s x j) ⌝ }
-    ensures { λ r. ⌜ (r ≡ words.place (s .dimensions) x j) × (r < 1073741824) ⌝ }
+    ensures { λ r. ⌜ (r ≡ definitions.place (s .dimensions) x j) × (r < 1073741824) ⌝ }
 {
     let d = s.dimensions as usize;
     HEADER_WORDS + d + (x as usize) * (COORDINATES as usize + 2 * d) + j as usize

@@ -84,7 +84,7 @@ returns-4 c =
 returns-5 : tie.Need-returns-5
 returns-5 c =
     let l = c .before .before .before .before .before .before .before .before .before .before .before .before .before .before .before .args .list .now in
-    refuse l (λ a. fails (ap (λ (t : Seen). t .passed) (seen-at (c .before .before .before .before))) (c .if4 .taken) (a .passed))
+    refuse l (λ a. fails (ap (λ (t : Seen). t .reached) (seen-at (c .before .before .before .before))) (c .if4 .taken) (a .reached))
 
 shared-slice-read-chain-right : tie.Need-shared-slice-read-chain-right
 shared-slice-read-chain-right c =
@@ -110,7 +110,7 @@ returns-7 c =
       head = head-at (c .before .before .before .before .before .before .before .before .before .before .before);
       start = holds (ap (λ (t : Seen). t .right) start) (c .before .before .before .before .before .before .before .before .if2 .left);
       right = holds (ap (λ (t : Seen). t .right) is) (c .before .before .before .before .before .if3 .left);
-      passed = holds (ap (λ (t : Seen). t .passed) is) (c .before .before .before .if4 .left);
+      reached = holds (ap (λ (t : Seen). t .reached) is) (c .before .before .before .if4 .left);
       chain = holds (chain-at (c .before)) (c .if5 .left);
     })
 

@@ -1,9 +1,8 @@
 -- `new_cell::put_links` meets its contract: the part lent is the cell's links.
 use mathlib.Core.Path.{refl}
 use borrow.Author.Needs.{needs}
-use Rattle.meaning.specs.Stores.{linkField}
+use Rattle.meaning.specs.Stores.{linkField, newLinks}
 use Rattle.words.proofs.Laws.{stores-shaped}
-use Rattle.new_cell.specs.NewCell.{linkWords}
 use Rattle.new_cell.proofs.Laws.{links-inside, links-long, links-written}
 use Rattle.new_cell.proofs.put_links.Statement.{statement}
 use Rattle.new_cell.proofs.put_links.Tie as tie
@@ -47,7 +46,7 @@ returns c =
     let a = c .before .before .before .before .before .before .before .before .args in
     let pre = c .before .before .before .before .before .before .before .before .pre in
     rw (links-written (pre .0) (pre .1 .0) (c .before .before .before .before .before .place .ensures .0) refl (a .q) (a .c) (c .before .before .write-links .ensures))
-    (refl, stores-shaped (pre .0) (a .n) (linkField (a .s .dimensions) 0) (linkWords (a .s .dimensions) (a .q) (a .c)))
+    (refl, stores-shaped (pre .0) (a .n) (linkField (a .s .dimensions) 0) (newLinks (a .s .dimensions) (a .q) (a .c)))
 
 pub put-links-spec : {M : Type 1} → statement M
 put-links-spec =

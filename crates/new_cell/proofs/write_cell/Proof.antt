@@ -4,8 +4,8 @@ use Rattle.new_cell.proofs.Laws.{cell-written}
 use Rattle.new_cell.proofs.write_cell.Statement.{statement}
 use Rattle.new_cell.proofs.write_cell.Tie as tie
 
-write-entry-requires : tie.Need-write-entry-requires
-write-entry-requires c κs = search needs
+write-fields-requires : tie.Need-write-fields-requires
+write-fields-requires c κs = search needs
 
 put-coordinates-requires : tie.Need-put-coordinates-requires
 put-coordinates-requires c κs = search needs
@@ -21,7 +21,7 @@ returns c =
     let s = c .before .before .before .before .before .before .before .before .before .before .before .before .before in
     let a = s .args in
     let links = c .before .before .put-links .ensures in (
-      rw (links .0, c .before .before .before .before .before .before .put-coordinates .ensures .0, c .before .before .before .before .before .before .before .before .before .before .write-entry .ensures .0)
+      rw (links .0, c .before .before .before .before .before .before .put-coordinates .ensures .0, c .before .before .before .before .before .before .before .before .before .before .write-fields .ensures .0)
           (cell-written (a .s .base) (a .s .dimensions) (a .list .now) (a .n) (a .key) (a .value) (a .f) (s .pre .1 .1 .none)),
       links .1,
     )
@@ -29,4 +29,4 @@ returns c =
 pub write-cell-spec : {M : Type 1} → statement M
 write-cell-spec =
     tie.close
-    (tie.spec write-entry-requires put-coordinates-requires put-links-requires same-length returns)
+    (tie.spec write-fields-requires put-coordinates-requires put-links-requires same-length returns)

@@ -14,7 +14,7 @@ returns : tie.Need-returns
 returns c =
     let s = c .before .before .before .before in
     let a = s .args in
-    sym (entry-high (a .list .now) (a .y) (a .passed) (omega (arith, shaped-largest (s .pre .0))))
+    sym (entry-high (a .list .now) (a .y) (a .reached) (omega (arith, shaped-largest (s .pre .0))))
 
 word-requires-2 : tie.Need-word-requires-2
 word-requires-2 c κs = search needs
@@ -26,19 +26,19 @@ returns-2 : tie.Need-returns-2
 returns-2 c =
     let s = c .before .before .before .before .before .before .before in
     let a = s .args in
-    rw (entry-dead (a .list .now) (a .y) (a .passed) (omega (arith, shaped-largest (s .pre .0))) (omega arith), ← c .word3 .ensures)
+    rw (entry-dead (a .list .now) (a .y) (a .reached) (omega (arith, shaped-largest (s .pre .0))) (omega arith), ← c .word3 .ensures)
     refl
 
 returns-3 : tie.Need-returns-3
 returns-3 c =
     let s = c .before .before .before .before .before .before .before in
     let a = s .args in
-    sym (entry-live (a .list .now) (a .y) (a .passed) (omega (arith, shaped-largest (s .pre .0))) (omega arith))
+    sym (entry-live (a .list .now) (a .y) (a .reached) (omega (arith, shaped-largest (s .pre .0))) (omega arith))
 
 returns-4 : tie.Need-returns-4
 returns-4 c =
     let a = c .before .before .before .before .before .before .before .args in
-    sym (entry-neither (a .list .now) (a .y) (a .passed) (λ e. omega arith) (λ e. omega arith))
+    sym (entry-neither (a .list .now) (a .y) (a .reached) (λ e. omega arith) (λ e. omega arith))
 
 pub entry-right-spec : {M : Type 1} → statement M
 entry-right-spec =

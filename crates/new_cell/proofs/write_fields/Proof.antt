@@ -1,9 +1,9 @@
--- `new_cell::write_entry` meets its contract: three stores and the debt in a row are a run of six words, with the debt by p and q.
+-- `new_cell::write_fields` meets its contract: three stores and the debt in a row are a run of six words, with the debt by p and q.
 use native.Mathlib.Omega.{arith}
 use borrow.Author.Needs.{needs}
 use Rattle.new_cell.proofs.Laws.{owing-written, settled-written}
-use Rattle.new_cell.proofs.write_entry.Statement.{statement}
-use Rattle.new_cell.proofs.write_entry.Tie as tie
+use Rattle.new_cell.proofs.write_fields.Statement.{statement}
+use Rattle.new_cell.proofs.write_fields.Tie as tie
 
 store-requires : tie.Need-store-requires
 store-requires c κs = search needs
@@ -44,8 +44,8 @@ returns-2 c =
     let first = c .before .before .before .before .before .before .before .before .before .before .before .before .before .before .before .before .store .ensures in
     (rw (debt .0, third .0, second .0, first .0) (settled-written (a .s .dimensions) (a .list .now) (a .n) (a .key) (a .value) (a .f) (omega arith)), debt .1)
 
-pub write-entry-spec : {M : Type 1} → statement M
-write-entry-spec =
+pub write-fields-spec : {M : Type 1} → statement M
+write-fields-spec =
     tie.close
     (tie.spec
     store-requires

@@ -1,2 +1,0 @@
--- What the order program keeps to, so that it is safe.
-pub mod Kept
