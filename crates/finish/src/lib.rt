@@ -2,7 +2,7 @@
 ghost use mathlib.Core.Path.{_≡_};
 ghost use Prim.Native.Nat.{_-_, _≤_, _<_};
 ghost use Rattle.meaning.specs.Reading.{Listed};
-ghost use Rattle.meaning.specs.Refusals.{Meets};
+ghost use Rattle.meaning.specs.Refusals.{owedNotStanding, answerOf, Meets};
 ghost use Rattle.meaning.specs.Operations.{owesFromFree, finishOut};
 ghost use Rattle.meaning.specs.Stores.{moveLinks, clearDebt, finishWords};
 ghost use Rattle.words.specs.Shaped.{Shaped};
@@ -23,6 +23,13 @@ pub fn owes_from_free(list: &[u32], s: Settings, x: u32) -> bool
         return true;
     }
     words::word(list, s, owed, words::MARK) == 0
+}
+
+// Refusal 9, for the operations that finish what is owed. On a list a cell owed from stands, so none of them gets here.
+pub fn owed_not_standing() -> Answer
+    ensures { λ r. ⌜ r ≡ answerOf owedNotStanding ⌝ }
+{
+    meaning::refused(9)
 }
 
 // Links low to high-1 move from cell c to cell n.
@@ -81,7 +88,7 @@ pub fn finish(list: &mut [u32], s: Settings, key: u32) -> Answer
         return meaning::refused_at(8, key, 0);
     }
     if owes_from_free(list, s, f.c) {
-        return meaning::refused(9);
+        return owed_not_standing();
     }
     let moved = words::word(list, s, f.c, words::HIGH) - words::word(list, s, f.c, words::LOW);
     finish_cell(list, s, f.c);

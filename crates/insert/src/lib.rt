@@ -110,7 +110,7 @@ fn insert_new(list: &mut [u32], s: Settings, f: Found, key: u32, value: u32) -> 
         return meaning::refused_at(6, key, f.looked);
     }
     if slot_owes_from_free(list, s, f) {
-        return meaning::refused(9);
+        return finish::owed_not_standing();
     }
     add(list, s, n, f, key, value);
     meaning::accepted(key, 0, f.looked)

@@ -2,12 +2,14 @@
 use mathlib.Core.Path.{_≡_, refl}
 use mathlib.Core.Bool.{Bool, true, false, cond}
 use mathlib.Core.List.{List}
+use mathlib.Core.Option.{none, some}
 use Prim.Native.Nat.{ℕ, _-_}
 use native.Mathlib.Omega.{arith}
 use Rattle.settings.specs.declared.Settings.{Settings}
 use Rattle.meaning.specs.Reading.{settingsAt, isList, Listed}
+use Rattle.meaning.specs.Refusals.{notAList}
 use Rattle.is_list.specs.declared.Reading.the-variants as variants
-use Rattle.is_list.specs.Reading.{readingOf}
+use Rattle.is_list.specs.Reading.{readingOf, refusalOf}
 
 -- What the answer says
 
@@ -26,3 +28,12 @@ reading-none ws e = at (isList ws) e
     at : (t : Bool) → cond t (variants.List (settingsAt ws)) variants.NotAList ≡ variants.NotAList → t ≡ false
     at true e = absurd (let z : _≡_ {A = ℕ} 0 1 = cc in omega arith)
     at false e = refl
+
+-- the check refuses exactly what is not a list, by number 3
+pub reading-refusal : (ws : List ℕ) → refusalOf (readingOf ws) ≡ cond (isList ws) none (some notAList)
+unfolding readingOf
+reading-refusal ws = at (isList ws)
+  where
+    at : (t : Bool) → refusalOf (cond t (variants.List (settingsAt ws)) variants.NotAList) ≡ cond t none (some notAList)
+    at true = refl
+    at false = refl

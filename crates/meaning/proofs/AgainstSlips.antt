@@ -1,20 +1,20 @@
--- Four of document 01's five "Slips that look right", each shut out by a law of its own; the fifth, an owing cell freed in a sweep, cannot be
--- made in a definition that computes every link. They say it at the definition itself, so that a definition that slips is refused here first.
+-- Document 01's "Slips that look right", each shut out by a law of its own. The theorems of specs/Promises.antt shut them out too; these
+-- say it at the definition itself, so that a definition that slips is refused here first.
 use mathlib.Core.Path.{_≡_, refl, ap}
-use mathlib.Core.Bool.{false, cond}
-use mathlib.Core.List.{List, [], _∷_}
+use mathlib.Core.Bool.{true, false, cond, not}
+use mathlib.Core.List.{List, [], _∷_, _++_, map}
 use mathlib.Core.Option.{some}
 use Prim.Native.Nat.{ℕ, _≤_, _<_}
 use native.Mathlib.Decide.{ℕ-discrete}
 use native.Mathlib.Omega.{arith}
 use borrow.Author.Tests.{eq-eqb, ne-eqb, le-leb, lt-ltb}
-use Rattle.meaning.specs.Row.{Entry, entryAt}
+use Rattle.meaning.specs.Row.{Entry, entryAt, every}
 use Rattle.meaning.specs.State.{State, positionKey}
 use Rattle.meaning.specs.Picture.{picture}
 use Rattle.meaning.specs.Refusals.{accepted, keyLive, refused}
 use Rattle.meaning.specs.Words.{owedAt, lowAt, highAt, linkAt}
 use Rattle.meaning.specs.Walk.{linkRead}
-use Rattle.meaning.specs.Operations.{looked, parentIn, positionAfter, revived, insertAt}
+use Rattle.meaning.specs.Operations.{looked, paid, parentIn, positionAfter, revived, insertAt, deadFront, fromLive, lastAlone, swept}
 
 -- "Taking a key for present when only some leading coordinates agree": the entry found for a key has that same key.
 pub present-is-that-key : (key : ℕ) (x : Entry) (row : List Entry) → entryAt key row ≡ some x → x .key ≡ key
@@ -41,3 +41,13 @@ pub dead-key-is-revived : (ws : List ℕ) (s : State) (key value : ℕ) (x : Ent
 unfolding insertAt
 dead-key-is-revived ws s key value x e =
     ap (λ t. cond t (refused (keyLive key (looked s key)) ws) (accepted key 0 (looked s key) (picture (revived s x value)))) e
+
+-- "Freeing an owing cell in a sweep and reading its empty links as its own: a branch is lost": what stands after a sweep owes nothing.
+paid-owes-nothing : (row : List Entry) → every (λ x. not (x .owes)) (map paid row) ≡ true
+unfolding every
+paid-owes-nothing [] = refl
+paid-owes-nothing (x ∷ row) = paid-owes-nothing row
+
+pub swept-owes-nothing : (s : State) → every (λ x. not (x .owes)) (swept s .row) ≡ true
+unfolding swept
+swept-owes-nothing s = paid-owes-nothing (lastAlone (deadFront (s .row)) ++ fromLive (s .row))

@@ -43,6 +43,8 @@ pub data Refusal : Type 0 where
   keyNotStanding : (key : ℕ) → Refusal
   -- insert, finish, sweep: a cell owed from is not standing
   owedNotStanding : Refusal
+  -- program: line not readable
+  lineNotReadable : Refusal
 
 -- the table's numbers, and the answers after the number
 abbrev pub answerOf : Refusal → Answer
@@ -56,6 +58,7 @@ answerOf (nothingLive above) = answer 7 0 0 above
 answerOf (keyNotLive key looked) = answer 8 key 0 looked
 answerOf (keyNotStanding key) = answer 8 key 0 0
 answerOf owedNotStanding = answer 9 0 0 0
+answerOf lineNotReadable = answer 10 0 0 0
 
 -- "No refusal is given otherwise and none changes a word."
 abbrev pub refused : Refusal → List ℕ → Outcome

@@ -2,7 +2,7 @@
 use mathlib.Core.List.{List}
 use Prim.Native.Nat.{ℕ}
 use Rattle.text.specs.Lines.{Handed, line, tooLong}
-use Rattle.meaning.specs.Refusals.{Outcome, answer}
+use Rattle.meaning.specs.Refusals.{Outcome, lineNotReadable, refused}
 use Rattle.meaning.specs.Calls.{Call, insert-key, find-key, finish-key, take-least, sweep-dead, outcome}
 use Rattle.lines.specs.Grammar.{keyOf, parsedOf}
 use Rattle.lines.specs.declared.Kind.{Kind}
@@ -20,7 +20,7 @@ callOf Sweep = sweep-dead
 
 -- "10: program: line not readable"; "10 is given before the list is called"
 abbrev pub unreadable : List ℕ → Outcome
-unreadable ws = record { answered = answer 10 0 0 0; words = ws }
+unreadable ws = refused lineNotReadable ws
 
 abbrev pub parsedOutcome : Parsed → List ℕ → Outcome
 parsedOutcome (Readable l) ws = outcome (callOf (l .kind)) ws

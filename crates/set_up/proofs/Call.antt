@@ -2,6 +2,7 @@
 use mathlib.Core.Path.{_≡_, refl, sym, _∙_}
 use mathlib.Core.Bool.{Bool, true, false, cond}
 use mathlib.Core.List.{List}
+use mathlib.Core.Option.{none, some}
 use Prim.Native.Nat.{ℕ, _≤_}
 use native.Mathlib.Omega.{arith}
 use lib.ListN.{length}
@@ -13,10 +14,20 @@ use Rattle.settings.specs.declared.Checked.{Checked}
 use Rattle.settings.specs.declared.Checked.the-variants.{Accepted, OutOfRange}
 use Rattle.settings.proofs.Laws.{ranges}
 use Rattle.meaning.specs.declared.Answer.{Answer}
-use Rattle.meaning.specs.Refusals.{answer, Meets}
+use Rattle.meaning.specs.Refusals.{answer, outOfRange, Meets}
 use Rattle.meaning.specs.Operations.{setUpOut}
 use Rattle.set_up.specs.Fresh.{freshList}
+use Rattle.set_up.specs.Refusal.{refusalOf}
 use Rattle.set_up.proofs.Fresh.{fresh-picture}
+
+-- the checked constructor refuses exactly the numbers out of range, by number 1
+pub checked-refusal : (D K C : ℕ) → refusalOf (checkedOf D K C) ≡ cond (inRange D K C) none (some outOfRange)
+unfolding checkedOf
+checked-refusal D K C = at (inRange D K C)
+  where
+    at : (t : Bool) → refusalOf (cond t (Accepted (settingsOf D K C)) OutOfRange) ≡ cond t none (some outOfRange)
+    at true = refl
+    at false = refl
 
 module _ (D K C : ℕ) (checked : Checked) (is : checked ≡ checkedOf D K C) where
   not-in-range : checked ≡ OutOfRange → inRange D K C ≡ false

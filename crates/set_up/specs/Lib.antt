@@ -1,2 +1,3 @@
--- What the code of set up writes, word by word.
+-- What the code of set up writes, word by word, and what it refuses.
 pub mod Fresh
+pub mod Refusal

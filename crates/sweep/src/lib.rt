@@ -76,7 +76,7 @@ pub fn sweep(list: &mut [u32], s: Settings) -> Answer
     ensures { λ r. ⌜ Meets (sweepOut (now (list .entry))) r (now (list .exit)) ⌝ }
 {
     if some_owes_from_free(list, s) {
-        return meaning::refused(9);
+        return finish::owed_not_standing();
     }
     finish_all(list, s);
     let t = seek_target(list, s);

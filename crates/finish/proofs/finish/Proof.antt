@@ -62,8 +62,8 @@ owes-from-free-requires c κs =
     let e = c .before in
     (listed-shaped (e .before .before .before .before .before .before .before .before .pre), cell e)
 
-refused-requires-3 : tie.Need-refused-requires-3
-refused-requires-3 c κs = search needs
+owed-not-standing-requires : tie.Need-owed-not-standing-requires
+owed-not-standing-requires c κs = search needs
 
 same-length-2 : tie.Need-same-length-2
 same-length-2 c = search needs
@@ -125,7 +125,7 @@ finish-spec =
     same-length
     returns-3
     owes-from-free-requires
-    refused-requires-3
+    owed-not-standing-requires
     same-length-2
     returns-4
     word-requires

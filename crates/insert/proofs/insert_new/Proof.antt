@@ -24,8 +24,8 @@ slot-owes-from-free-requires c κs =
     let pre = c .before .before .before .before .pre in
     (listed-shaped (pre .0 .list), (parent-cell (pre .0) (pre .1), c-cell (pre .0) (pre .1)))
 
-refused-requires : tie.Need-refused-requires
-refused-requires c κs = search needs
+owed-not-standing-requires : tie.Need-owed-not-standing-requires
+owed-not-standing-requires c κs = search needs
 
 same-length : tie.Need-same-length
 same-length c = search needs
@@ -59,7 +59,7 @@ insert-new-spec =
     refused-at-requires
     returns
     slot-owes-from-free-requires
-    refused-requires
+    owed-not-standing-requires
     same-length
     returns-2
     add-requires

@@ -10,8 +10,8 @@ use Rattle.sweep.proofs.sweep.Tie as tie
 some-owes-from-free-requires : tie.Need-some-owes-from-free-requires
 some-owes-from-free-requires c κs = listed-shaped (c .before .before .pre)
 
-refused-requires : tie.Need-refused-requires
-refused-requires c κs = search needs
+owed-not-standing-requires : tie.Need-owed-not-standing-requires
+owed-not-standing-requires c κs = search needs
 
 same-length : tie.Need-same-length
 same-length c = search needs
@@ -70,7 +70,7 @@ sweep-spec =
     tie.close
     (tie.spec
     some-owes-from-free-requires
-    refused-requires
+    owed-not-standing-requires
     same-length
     returns
     finish-all-requires
