@@ -126,9 +126,9 @@ fn free_cell(list: &mut [u32], s: Settings, x: u32)
     requires { ⌜ Shaped (now list) s × (x < s .cells) ⌝ }
     ensures { λ r. ⌜ (now (list .exit) ≡ freeCell (s .dimensions) (now (list .entry)) x) × Shaped (now (list .exit)) s ⌝ }
 {
-    let next = list[4];
+    let next = list[words::FIRST_FREE];
     store_before_zeros(list, s, x, words::KEY, next);
-    list[4] = x;
+    list[words::FIRST_FREE] = x;
 }
 
 // Frees the chained cells, in ascending order of their keys.

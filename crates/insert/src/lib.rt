@@ -69,7 +69,7 @@ fn add(list: &mut [u32], s: Settings, n: u32, f: Found, key: u32, value: u32)
     let top = position_key(list, s);
     finish_neighbours(list, s, f);
     // as any free cell's, n's first word holds the next free cell
-    list[4] = words::word(list, s, n, words::KEY);
+    list[words::FIRST_FREE] = words::word(list, s, n, words::KEY);
     new_cell::write_cell(list, s, n, f, key, value);
     let parent = f.parent;
     let link = words::COORDINATES + s.dimensions + f.p;
@@ -105,7 +105,7 @@ fn insert_new(list: &mut [u32], s: Settings, f: Found, key: u32, value: u32) -> 
     requires { ⌜ Sought (now list) s key f × (f .standing ≡ false) ⌝ }
     ensures { λ r. ⌜ Meets (insertOut (now (list .entry)) key value) r (now (list .exit)) ⌝ }
 {
-    let n = list[4];
+    let n = list[words::FIRST_FREE];
     if n == 0 {
         return meaning::refused_at(6, key, f.looked);
     }

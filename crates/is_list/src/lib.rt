@@ -20,7 +20,7 @@ pub enum Reading {
 fn header(list: &[u32]) -> Reading
     ensures { λ r. ⌜ r ≡ headerOf (now (list .entry)) ⌝ }
 {
-    if list.len() < 5 {
+    if list.len() < words::HEADER_WORDS {
         return Reading::NotAList;
     }
     let s = Settings {
@@ -62,7 +62,7 @@ pub fn is_list(list: &[u32]) -> Reading
     if !seen.reached {
         return Reading::NotAList;
     }
-    if !free::chain_right(list, s, seen.left, list[4]) {
+    if !free::chain_right(list, s, seen.left, list[words::FIRST_FREE]) {
         return Reading::NotAList;
     }
     Reading::List(s)

@@ -12,7 +12,7 @@ pub fn path_run(list: &[u32], s: Settings, y: u32, d: u32) -> u32
 {
     let mut i = d;
     while i < s.dimensions {
-        if list[5 + i as usize] != y {
+        if list[words::HEADER_WORDS + i as usize] != y {
             return i;
         }
         i += 1;

@@ -12,10 +12,11 @@ use lib.ListN.{length, getD, set, drop, replicate, length-set, length-replicate,
 use lib.Seq.{getD-set-same, getD-set-other}
 use borrow.Author.Tests.{eq-eqb, ne-eqb, le-leb, lt-leb, le-ltb}
 use Rattle.meaning.specs.Keys.{shared}
-use Rattle.meaning.specs.Row.{Entry, headEntry, firstOf, Place, headPlace, places, placeOf}
+use Rattle.meaning.specs.Row.{Entry, headEntry, firstOf, firstSharing, Place, headPlace, places, placeOf, settledLink}
 use Rattle.meaning.specs.State.{State, occurrences}
 use Rattle.meaning.specs.Picture.{firstNumber, nextFree, picture}
 use Rattle.meaning.specs.Words.{wordAt}
+use Rattle.meaning.specs.Sentences.{Settled}
 use Rattle.meaning.specs.Stores.{newLinks}
 use Rattle.meaning.specs.Operations.{withRow, Slot, newEntry, slotOwes}
 use Rattle.meaning.proofs.Order.{All, Asc, all-left, all-right, all-append}
@@ -25,9 +26,10 @@ use Rattle.meaning.proofs.Cells.{occurrences-here, free-range}
 use Rattle.meaning.proofs.Picture.{first-has, free-found}
 use Rattle.meaning.proofs.Places.{all-splits, asc-left, lastFrom, Keeping, firstOf-changed}
 use Rattle.meaning.proofs.Keeps.{cells-positive, cell-stands}
-use Rattle.meaning.proofs.Parent.{dimensionAfter, Without, Apart, all-last, apart-left, first-place}
+use Rattle.meaning.proofs.Parent.{dimensionAfter, parentAfter, Without, Apart, ParentPlace, all-last, asc-last, apart-left, first-place, settled-leads}
 use Rattle.meaning.proofs.Slot.{Gap, sound-apart, first-free-all, dimensions-positive, cellAfter, SlotIs, last-changed, parent-changed, gap-last, first-free-apart}
 use Rattle.meaning.proofs.SentencesCells.{placesIn, Placed, placed-entry, placed-cell, head-placed, occurs-placed, free-cell-first}
+use Rattle.meaning.proofs.SentencesShape.{placed-ascends, place-settled}
 use Rattle.meaning.proofs.KeepsInsert.{slot-first, owing-parent}
 use Rattle.meaning.proofs.InsertLinks.{newOwes, newLink, NextUnowing, Cleared}
 
@@ -142,6 +144,38 @@ first-next : (free : List ℕ) → nextFree (firstNumber free) free ≡ firstNum
 unfolding nextFree
 first-next [] = refl
 first-next (n ∷ free) = ap (λ t. cond t (firstNumber free) (nextFree n free)) (eq-eqb n n refl)
+
+-- a settled link leads from an entry's parent to it, and the link's number is the entry's dimension
+pub parent-leads : (s : State) → Sound s → (pre : List Entry) (x : Entry) (post : List Entry) → s .row ≡ pre ++ x ∷ post →
+    Settled (picture s) (parentAfter (s .settings .base) (s .settings .dimensions) headEntry pre (x .key)) (dimensionAfter (s .settings .base) (s .settings .dimensions) headEntry pre (x .key)) (x .cell)
+unfolding places
+parent-leads s v pre x post split =
+    let ascends = subst (Asc 0) split (v .ascends) in
+    let (p, found, is) =
+    first-place b D (base-positive s v) (dimensions-positive s v) d headEntry 0 headEntry 0 pre (x ∷ post) (asc-left 0 pre (x ∷ post) ascends)
+    (apart-left (headEntry ∷ pre) (x ∷ post) (subst (λ r. Apart (headEntry ∷ r)) split (sound-apart s v)))
+    (shared-less b D (lastFrom headEntry pre .key) (x .key) (dimensions-positive s v) (let h = asc-last headEntry pre (x ∷ post) ascends .0 in omega arith)) (λ q. omega arith) in
+    let here : Placed s (parentAfter b D headEntry pre (x .key)) p = record { found = ap (λ r. placeOf (parentAfter b D headEntry pre (x .key)) (places b D r)) split ∙ found } in
+    subst (Settled (picture s) (parentAfter b D headEntry pre (x .key)) d) (leads p is (placed-ascends v here)) (place-settled v here d)
+  where
+    b : ℕ
+    b = s .settings .base
+
+    D : ℕ
+    D = s .settings .dimensions
+
+    d : ℕ
+    d = dimensionAfter b D headEntry pre (x .key)
+
+    leads : (p : Place) → ParentPlace b D d (lastFrom headEntry pre) (x ∷ post) p → Asc (p .entry .key) (p .later) → settledLink b D p d ≡ x .cell
+    leads p is up =
+        let number : dimensionAfter b D (p .entry) (is .between) (x .key) ≡ d = ap (λ y. shared b D (y .key) (x .key)) (is .last-is) in
+        let last = ap (λ y. shared b D (p .entry .key) (y .key)) (is .last-is) in
+        let low = is .low in
+        let more = is .shares in
+        ap (λ r. cond (leb (p .dimension) d) (firstSharing b D (p .entry .key) d r) 0) (is .later-is)
+        ∙ ap (λ n. cond (leb (p .dimension) n) (firstSharing b D (p .entry .key) n (is .between ++ x ∷ post)) 0) (sym number)
+        ∙ settled-leads b D (base-positive s v) (dimensions-positive s v) (p .entry) (p .dimension) (is .between) x post (subst (Asc (p .entry .key)) (is .later-is) up) (omega (arith, more, number, last)) (omega (arith, low, number))
 
 -- The slot in a state in order
 

@@ -1,7 +1,7 @@
 -- What an insert of a key that does not stand writes, word by word: the words after the debts of the parent and of c are finished, with
 -- the new cell written, taken off the free chain and set as link p of the parent. Finishing does not move the slot, so the new entry
 -- comes into the row of the state with both debts paid, where it changes only those words.
-use mathlib.Core.Path.{_≡_, refl, sym, _∙_, ap, subst}
+use mathlib.Core.Path.{_≡_, refl, sym, _∙_, ap, subst, subst₂}
 use mathlib.Core.Bool.{Bool, true, false, cond, _&&_, not, and-false}
 use mathlib.Core.List.{_∷_, map}
 use mathlib.Core.Option.{none}
@@ -12,25 +12,29 @@ use lib.Dec.{eqb, ltb}
 use lib.ListN.{length, getD, drop}
 use borrow.Author.Tests.{eq-eqb, ne-eqb, lt-ltb, le-ltb, le-leb, lt-leb}
 use Rattle.settings.specs.Numbers.{fieldsBeforeCoordinates, cellWords}
-use Rattle.meaning.specs.Row.{Entry, Place, entryAt}
+use Rattle.meaning.specs.Keys.{shared}
+use Rattle.meaning.specs.Row.{Entry, headEntry, Place, entryAt}
 use Rattle.meaning.specs.State.{State, occurrences, positionKey}
 use Rattle.meaning.specs.Picture.{path, picture}
-use Rattle.meaning.specs.Operations.{paid, finished, withRow, Slot, newEntry, slotFor, slotOwes, added}
+use Rattle.meaning.specs.Operations.{paid, finished, withRow, Slot, newEntry, slotFor, slotOwes, added, settledLinkAt}
 use Rattle.meaning.specs.Leaves.{Unmoved, OwesNothing, OwesSame, Inserted}
-use Rattle.meaning.specs.Words.{wordAt, owedAt, lowAt, highAt, linkAt}
+use Rattle.meaning.specs.Words.{wordAt, keyAt, owedAt, lowAt, highAt, linkAt}
+use Rattle.meaning.specs.Sentences.{Settled}
 use Rattle.meaning.specs.Stores.{linkField, finishWords, writePath, newWords, insertWords}
 use Rattle.meaning.proofs.Order.{All, and-both, all-map}
 use Rattle.meaning.proofs.State.{Sound}
 use Rattle.meaning.proofs.Cells.{all-each}
-use Rattle.meaning.proofs.Places.{all-mapped, cells-changed, keys-changed, onCell, onCell-cases}
+use Rattle.meaning.proofs.Places.{all-mapped, cells-changed, keys-changed, onCell, onCell-cases, keyOf-other}
 use Rattle.meaning.proofs.KeepsFinish.{paid-keeping, finished-sound}
 use Rattle.meaning.proofs.Slot.{Gap, gap, SlotIs, slot-is, gap-changed}
 use Rattle.meaning.proofs.KeepsInsert.{added-row, added-position, added-sound-at, parentPaid, bothPaid, both-sound, both-gap, both-position}
-use Rattle.meaning.proofs.SentencesCells.{Placed, head-placed, placed-below, place-word, place-key, place-value, place-mark, place-owed, place-coordinate, place-link}
+use Rattle.meaning.proofs.SentencesCells.{Placed, head-placed, placed-keyOf, placed-below, place-standing, place-word, place-key, place-value, place-mark, place-owed, place-coordinate, place-link}
 use Rattle.meaning.proofs.Stores.{finishWords-none}
-use Rattle.meaning.proofs.Changed.{path-unmoved}
+use Rattle.meaning.proofs.SentencesShape.{place-settled}
+use Rattle.meaning.proofs.Sentences.{position-is, position-key-is}
+use Rattle.meaning.proofs.Changed.{path-unmoved, picture-path-word}
 use Rattle.meaning.proofs.FinishWords.{finish-words, finish-own, finish-others, finish-finished, finish-nothing}
-use Rattle.meaning.proofs.InsertSlot.{slot-changed, slotLinks, slotLinks-none, slotLinks-other, slotLinks-here, placed-occurs, slot-new, slot-parent-placed, slot-apart, slot-next, slot-c-placed, slot-c-apart, slot-shares}
+use Rattle.meaning.proofs.InsertSlot.{parent-leads, slot-changed, slotLinks, slotLinks-none, slotLinks-other, slotLinks-here, placed-occurs, slot-new, slot-parent-placed, slot-apart, slot-next, slot-c-placed, slot-c-apart, slot-shares}
 use Rattle.meaning.proofs.InsertPut.{withNew, newPlace, writeNew, put-new, put-link, put-new-words, put-elsewhere, put-parent, put-words}
 use Rattle.meaning.proofs.InsertPath.{put-path}
 
@@ -247,9 +251,14 @@ module _ (s : State) (v : Sound s) (key value : ℕ) (positive : 0 < key) (g : G
       new-word 5 (omega arith) ∙ ap (λ r. cond r (t .q) 0) e,
     )
 
-    now-inserted : Inserted (picture s) (picture now) key value t
+    now-settled : Settled (picture now) (t .parent) (t .p) (t .n)
+    now-settled =
+        subst₂ (λ y d. Settled (picture now) y d (t .n)) (sym (two-slot .parent-is)) (sym (two-slot .p-is))
+        (parent-leads now now-sound (two-gap .pre) (newEntry (t .n) key value (slotOwes t)) (two-gap .post) refl)
+
+    now-inserted : Settled (picture s) (t .parent) (t .p) (t .c) → ((t .c ≡ 0 → ⊥) → t .q ≡ shared b D key (keyAt (picture s) (t .c))) → Inserted (picture s) (picture now) key value t
     unfolding picture
-    now-inserted =
+    now-inserted held shares =
         record {
           free = i .n-is;
           next-free = sym (slot-next s v key positive g f t i);
@@ -257,6 +266,10 @@ module _ (s : State) (v : Sound s) (key value : ℕ) (positive : 0 < key) (g : G
           value = place-value now-sound here;
           live = place-mark now-sound here;
           coordinates = λ d h. place-coordinate now-sound here d h;
+          standing = place-standing v (slot-parent-placed s v key positive g f t i .1);
+          settled = now-settled;
+          held = held;
+          shares = shares;
           parent = put-parent two two-sound key value positive two-gap f t two-slot parent-unowing c-unowing (added s key value t .position) now-sound;
           given = λ held. let inside = slot-shares s v key positive g f t i held in new-link (t .q) inside ∙ slotLinks-here D (t .q) t inside held refl;
           other-links = λ d h other. new-link d h ∙ other-link d h other (ℕ-discrete (t .c) 0);
@@ -270,6 +283,10 @@ module _ (s : State) (v : Sound s) (key value : ℕ) (positive : 0 < key) (g : G
               (now-same .0 ∙ two-same .0, now-same .1 ∙ two-same .1, now-same .2 ∙ two-same .2);
           header = header;
           other = λ x j below h not-n not-link parent c. elsewhere x j below h not-n not-link ∙ two-unmoved x j h parent c;
+          path-kept = λ above d h.
+              let kept = ap path (sym added-is) ∙ added-path-at (subst (λ n. n < key) (position-key-is v) above) in
+              picture-path-word now d h ∙ ap (λ words. getD words d 0) kept ∙ sym (picture-path-word s d h);
+          position-lowered = λ low. position-is now-sound ∙ added-position-lowered (subst (λ n. key ≤ n) (position-key-is v) low);
         }
       where
         other-link : (d : ℕ) → d < D → (d ≡ t .q → t .c ≡ 0) → Dec (t .c ≡ 0) → getD (slotLinks D t) d 0 ≡ 0
@@ -287,8 +304,8 @@ module _ (s : State) (v : Sound s) (key value : ℕ) (positive : 0 < key) (g : G
         header (suc (suc (suc zero))) h = refl
         header (suc (suc (suc (suc k)))) h = absurd (omega arith)
 
-    pub added-inserted-at : Inserted (picture s) (picture (added s key value t)) key value t
-    added-inserted-at = subst (λ z. Inserted (picture s) (picture z) key value t) (sym added-is) now-inserted
+    pub added-inserted-at : Settled (picture s) (t .parent) (t .p) (t .c) → ((t .c ≡ 0 → ⊥) → t .q ≡ shared (s .settings .base) (s .settings .dimensions) key (keyAt (picture s) (t .c))) → Inserted (picture s) (picture (added s key value t)) key value t
+    added-inserted-at held shares = subst (λ z. Inserted (picture s) (picture z) key value t) (sym added-is) (now-inserted held shares)
 
 -- A key that does not stand, and a free cell
 
@@ -305,9 +322,23 @@ module _ (s : State) (v : Sound s) (key value : ℕ) (positive : 1 ≤ key) (mos
       ≡ writePath (insertWords (s .settings .base) (s .settings .dimensions) (picture s) key value (slotFor s key)) (path (added s key value (slotFor s key)))
   added-words = added-words-at s v key value positive around f (slotFor s key) slot most
 
+  -- c had that slot before, and q is what n and c share
+  slot-held : Settled (picture s) (slotFor s key .parent) (slotFor s key .p) (slotFor s key .c)
+  unfolding slotFor settledLinkAt
+  slot-held =
+      let (q, here) = slot-parent-placed s v key positive around f (slotFor s key) slot in
+      subst (Settled (picture s) (slotFor s key .parent) (slotFor s key .p)) (sym (ap (settledLinkAt (s .settings .base) (s .settings .dimensions) (slotFor s key .p)) (here .found)))
+      (place-settled v here (slotFor s key .p))
+
+  slot-shared : (slotFor s key .c ≡ 0 → ⊥) → slotFor s key .q ≡ shared (s .settings .base) (s .settings .dimensions) key (keyAt (picture s) (slotFor s key .c))
+  unfolding slotFor
+  slot-shared held =
+      let (q, here) = slot-c-placed s v key positive around f (slotFor s key) slot in
+      ap (shared (s .settings .base) (s .settings .dimensions) key) (sym (keyOf-other (slotFor s key .c) headEntry (s .row) (λ e. held (sym e))) ∙ placed-keyOf here ∙ sym (place-key v here))
+
   -- which words change, and which cells owe
   pub added-inserted : Inserted (picture s) (picture (added s key value (slotFor s key))) key value (slotFor s key)
-  added-inserted = added-inserted-at s v key value positive around f (slotFor s key) slot most
+  added-inserted = added-inserted-at s v key value positive around f (slotFor s key) slot most slot-held slot-shared
 
   -- a key above the position's leaves the path, and any other makes the parent the position
   pub added-path : positionKey s < key → path (added s key value (slotFor s key)) ≡ path s

@@ -1,34 +1,46 @@
 -- What a call leaves alone, carried from states to lists.
-use mathlib.Core.Path.{_≡_, refl, _∙_, sym, ap, subst}
-use mathlib.Core.List.{List, [], _∷_, map}
+use mathlib.Core.Path.{_≡_, refl, _∙_, sym, ap, ap₂, subst, subst₂}
+use mathlib.Core.Bool.{true, false, cond, true≢false}
+use mathlib.Core.List.{List, [], _∷_, map, map-append}
 use mathlib.Core.Option.{none, some}
-use Prim.Native.Nat.{ℕ, _<_}
-use Rattle.meaning.specs.Row.{Entry, entryAt, placeOf}
-use Rattle.meaning.specs.State.{State, occurrences}
-use Rattle.meaning.specs.Picture.{picture, path}
+use Prim.Native.Nat.{ℕ, _≤_, _<_}
+use native.Mathlib.Omega.{arith}
+use lib.ListN.{getD}
+use borrow.Author.Tests.{le-leb}
+use Rattle.meaning.specs.Row.{Entry, headEntry, entryAt, placeOf}
+use Rattle.meaning.specs.State.{State, occurrences, positionKey}
+use Rattle.meaning.specs.Picture.{mark, picture, path}
 use Rattle.meaning.specs.Refusals.{Outcome, refused, badKey, keyLive, nothingLive, keyNotStanding}
-use Rattle.meaning.specs.Words.{keyAt}
-use Rattle.meaning.specs.Operations.{looked, insertOut, finishOut, takeOut, sweepOut, deadFront, fromLive, taken, revived, slotFor, finished, withRow, due, placesOf, keysAbove}
+use Rattle.meaning.specs.Words.{keyAt, markAt}
+use Rattle.meaning.specs.Operations.{looked, insertOut, finishOut, takeOut, sweepOut, deadFront, fromLive, taken, revived, revivedEntry, parentIn, positionAfter, slotFor, finished, withRow, due, placesOf, keysAbove}
 use Rattle.meaning.specs.Calls.{outcome}
-use Rattle.meaning.specs.Leaves.{OwesNothing, Inserted, Marked}
+use Rattle.meaning.specs.Leaves.{Parent, Inserted, Taken, Revived, Swept}
 use Rattle.meaning.specs.SweepStores.{sweepWords}
-use Rattle.meaning.specs.Sentences.{countAt}
+use Rattle.meaning.specs.Sentences.{Standing, Settled, positionAt}
 use Rattle.meaning.specs.Promises.{FindWritesNothing, TakeWrites, ReviveWrites, InsertWrites, Finishes, FinishWrites, SweepWrites}
-use Rattle.meaning.proofs.Order.{All}
-use Rattle.meaning.proofs.State.{Sound}
+use Rattle.meaning.proofs.Order.{All, Asc, all-map, all-append, asc-above}
+use Rattle.meaning.proofs.State.{Sound, base-positive}
 use Rattle.meaning.proofs.Picture.{path-length}
-use Rattle.meaning.proofs.Cells.{row-range}
-use Rattle.meaning.proofs.Places.{all-at}
-use Rattle.meaning.proofs.Keeps.{live-split, cell-stands}
+use Rattle.meaning.proofs.Reading.{read-of-picture}
+use Rattle.meaning.proofs.Changed.{picture-path-word}
+use Rattle.meaning.proofs.Places.{all-at, asc-right, Found, onCell}
+use Rattle.meaning.proofs.Parent.{dimensionAfter, parentAfter, Apart, parent-is}
+use Rattle.meaning.proofs.Slot.{sound-apart, dimensions-positive}
+use Rattle.meaning.proofs.InsertSlot.{parent-leads}
+use Rattle.meaning.proofs.Keeps.{live-split, deadFront-dead, fromLive-live, cell-stands}
+use Rattle.meaning.proofs.KeepsTake.{taken-sound}
+use Rattle.meaning.proofs.SentencesCells.{placed-entry, cell-standing, place-key, place-mark, place-standing}
+use Rattle.meaning.proofs.SentencesShape.{HasPlace, row-placed}
+use Rattle.meaning.proofs.Sentences.{position-is, position-key-is, position-standing}
 use Rattle.meaning.proofs.WalkRead.{row-key-read}
 use Rattle.meaning.proofs.BookRow.{entry-has, entry-key}
-use Rattle.meaning.proofs.KeepsInsert.{entry-split}
+use Rattle.meaning.proofs.KeepsInsert.{entry-split, revived-keeping, revived-sound}
 use Rattle.meaning.proofs.FinishWords.{finish-moved, finish-own, finish-others, finish-nothing, finish-finished}
-use Rattle.meaning.proofs.TakeWords.{taken-words, revived-words}
+use Rattle.meaning.proofs.TakeWords.{taken-words, revived-words, revived-path}
 use Rattle.meaning.proofs.InsertWords.{added-inserted}
 use Rattle.meaning.proofs.Outcomes.{on-read-lists, find-writes-nothing, take-outcome-none, take-outcome-first, insert-outcome-bad-key, insert-outcome-live, insert-outcome-dead, insert-outcome-new, finish-outcome-bad-key, finish-outcome-absent, finish-outcome-standing, sweep-outcome, key-cases, live-cases}
 use Rattle.meaning.proofs.SweepTarget.{sweep-words}
-use Rattle.meaning.proofs.SweepSentences.{swept-owes-nothing}
+use Rattle.meaning.proofs.SweepSentences.{live-marked, swept-leaves}
 use Rattle.meaning.proofs.Serves.{refused-not, new-accepted}
 
 pub find-writes : FindWritesNothing
@@ -39,31 +51,110 @@ find-writes = find-writes-nothing
 at-live : (P : Entry → Type 0) (row : List Entry) (x : Entry) (later : List Entry) → fromLive row ≡ x ∷ later → All P row → P x
 at-live P row x later e a = all-at P (deadFront row) x later (subst (All P) (live-split row x later e) a)
 
-take-marked : (s : State) → Sound s → takeOut (picture s) .answered .refusal ≡ 0 → Marked (picture s) (takeOut (picture s) .words) (takeOut (picture s) .answered .key) 0 2
+-- the first live entry has the least live key
+live-least : (s : State) → Sound s → (x : Entry) (later : List Entry) → fromLive (s .row) ≡ x ∷ later → All (λ y. y .live ≡ true → x .key ≤ y .key) (s .row)
+live-least s v x later e =
+    let front = deadFront (s .row) in
+    let split = live-split (s .row) x later e in
+    let up = asc-right 0 front (x ∷ later) (subst (Asc 0) split (v .ascends)) in
+    subst (All (λ y. y .live ≡ true → x .key ≤ y .key)) (sym split)
+    (all-append (λ y. y .live ≡ true → x .key ≤ y .key) front (x ∷ later)
+    (all-map (λ y dead live. absurd (true≢false (sym live ∙ dead))) front (deadFront-dead (s .row)))
+    (λ live. omega arith, all-map (λ y above live. omega arith) later (asc-above (x .key) later (up .1))))
+
+words-least : (s : State) → Sound s → (x : Entry) (later : List Entry) → fromLive (s .row) ≡ x ∷ later → (y : ℕ) → Standing (picture s) y → markAt (picture s) y ≡ 1 → x .key ≤ keyAt (picture s) y
+words-least s v x later e y stands live =
+    let (p, here) = cell-standing s y stands in
+    let least =
+    placed-entry here (λ z. z .live ≡ true → x .key ≤ z .key) (λ l. absurd (true≢false (sym l))) (live-least s v x later e)
+    (live-marked (p .entry .live) (sym (place-mark v here) ∙ live)) in
+    omega (arith, least, place-key v here)
+
+take-taken : (s : State) → Sound s → takeOut (picture s) .answered .refusal ≡ 0 → Taken (picture s) (takeOut (picture s) .words) (takeOut (picture s) .answered .key)
 unfolding picture taken
-take-marked s v z = go (fromLive (s .row)) refl
+take-taken s v z = go (fromLive (s .row)) refl
   where
-    go : (row : List Entry) → fromLive (s .row) ≡ row → Marked (picture s) (takeOut (picture s) .words) (takeOut (picture s) .answered .key) 0 2
+    go : (row : List Entry) → fromLive (s .row) ≡ row → Taken (picture s) (takeOut (picture s) .words) (takeOut (picture s) .answered .key)
     go [] e = absurd (refused-not (takeOut (picture s)) (refused (nothingLive (keysAbove _ (s .row))) (picture s)) 6 (take-outcome-none s v e) refl z)
     go (x ∷ later) e =
         let o = take-outcome-first s v x later e in
+        let here = at-live (HasPlace s) (s .row) x later e (row-placed v) in
         record {
-          cell = x .cell;
-          within = at-live (λ y. (0 < y .cell) × (y .cell < s .settings .cells)) (s .row) x later e (row-range s v) .1;
-          same = at-live (λ y. keyAt (picture s) (y .cell) ≡ y .key) (s .row) x later e (row-key-read s v) ∙ ap (λ (p : Outcome). p .answered .key) (sym o);
-          path = path (taken s x);
-          long = path-length (taken s x);
-          words = ap (λ (p : Outcome). p .words) o ∙ taken-words s x later v e;
+          marked =
+              record {
+                cell = x .cell;
+                standing = place-standing v (here .placed);
+                same = at-live (λ y. keyAt (picture s) (y .cell) ≡ y .key) (s .row) x later e (row-key-read s v) ∙ ap (λ (p : Outcome). p .answered .key) (sym o);
+                path = path (taken s x);
+                long = path-length (taken s x);
+                words = ap (λ (p : Outcome). p .words) o ∙ taken-words s x later v e;
+              };
+          live = place-mark v (here .placed) ∙ ap (λ (y : Entry). mark (y .live)) (here .entry) ∙ ap mark (fromLive-live (s .row) x later e);
+          least = λ y stands live. subst (λ (k : ℕ). k ≤ keyAt (picture s) y) (ap (λ (p : Outcome). p .answered .key) (sym o)) (words-least s v x later e y stands live);
+          position = ap (λ (p : Outcome). positionAt (p .words)) o ∙ position-is (taken-sound s x later v e);
         }
 
 pub take-writes : TakeWrites
 unfolding outcome
 take-writes =
-    on-read-lists (λ s ws. takeOut ws .answered .refusal ≡ 0 → Marked ws (takeOut ws .words) (takeOut ws .answered .key) 0 2) take-marked
+    on-read-lists (λ s ws. takeOut ws .answered .refusal ≡ 0 → Taken ws (takeOut ws .words) (takeOut ws .answered .key)) take-taken
 
-revive-marked : (s : State) → Sound s → (key value : ℕ) → (entryAt key (s .row) ≡ none → ⊥) → insertOut (picture s) key value .answered .refusal ≡ 0 → Marked (picture s) (insertOut (picture s) key value .words) key value 1
-unfolding picture revived
-revive-marked s v key value stands z =
+-- a standing cell's parent, where it is the position, on the words
+parent-found : (s : State) → Sound s → (c : ℕ) → Found c (s .row) → positionAt (picture s) ≡ parentIn s c (s .row) → Parent (picture s) c (positionAt (picture s))
+parent-found s v c t e =
+    let b = s .settings .base in
+    let D = s .settings .dimensions in
+    let x = t .entry in
+    let d = dimensionAfter b D headEntry (t .front) (x .key) in
+    let parent : positionAt (picture s) ≡ parentAfter b D headEntry (t .front) (x .key) =
+    e ∙ ap₂ (parentIn s) (sym (t .cell)) (t .split)
+    ∙ parent-is s (t .front) x (t .later) (base-positive s v) (dimensions-positive s v) (subst (Asc 0) (t .split) (v .ascends)) (subst (λ (r : List Entry). Apart (headEntry ∷ r)) (t .split) (sound-apart s v)) in
+    record {
+      standing = position-standing v;
+      number = d;
+      leads = subst₂ (λ (y n : ℕ). Settled (picture s) y d n) (sym parent) (t .cell) (parent-leads s v (t .front) x (t .later) (t .split));
+    }
+
+-- the words of a revival
+revived-leaves : (s : State) (x : Entry) (value : ℕ) → Sound s → entryAt (x .key) (s .row) ≡ some x → x .live ≡ false → Revived (picture s) (picture (revived s x value)) (x .key) value
+unfolding picture revived positionAfter parentIn
+revived-leaves s x value v a dead =
+    let after = revived s x value in
+    let sound = revived-sound s x value v a dead in
+    let here = entry-has (HasPlace s) (x .key) x (s .row) a (row-placed v) in
+    let lowered : x .key ≤ keyAt (picture s) (positionAt (picture s)) → positionAt (picture after) ≡ parentIn after (x .cell) (after .row) =
+    λ low. position-is sound ∙ ap (λ t. cond t (parentIn s (x .cell) (after .row)) (s .position)) (le-leb (x .key) (positionKey s) (subst (λ (n : ℕ). x .key ≤ n) (position-key-is v) low)) in
+    record {
+      marked =
+          record {
+            cell = x .cell;
+            standing = place-standing v (here .placed);
+            same = place-key v (here .placed) ∙ ap (λ (y : Entry). y .key) (here .entry);
+            path = path after;
+            long = path-length after;
+            words = revived-words s x value v a;
+          };
+      dead = place-mark v (here .placed) ∙ ap (λ (y : Entry). mark (y .live)) (here .entry) ∙ ap mark dead;
+      path-kept = λ above d h.
+          let kept = revived-path s x value v a (subst (λ (n : ℕ). n < x .key) (position-key-is v) above) in
+          picture-path-word after d h ∙ ap (λ (words : List ℕ). getD words d 0) kept ∙ sym (picture-path-word s d h);
+      position-lowered = λ low. lowered low ∙ ap (λ (t : State). parentIn t (x .cell) (t .row)) (sym (read-of-picture after sound));
+      position-parent = λ low.
+          let (pre, post, split) = entry-split (x .key) x (s .row) a in
+          let revive = onCell (x .cell) (revivedEntry value) in
+          let found : Found (x .cell) (after .row) =
+          record {
+            front = map revive pre;
+            entry = revive x;
+            later = map revive post;
+            split = ap (map revive) split ∙ map-append revive pre (x ∷ post);
+            cell = revived-keeping s x value v pre post split .cell x;
+          } in
+          parent-found after sound (x .cell) found (lowered low);
+    }
+
+revive-revived : (s : State) → Sound s → (key value : ℕ) → (entryAt key (s .row) ≡ none → ⊥) → insertOut (picture s) key value .answered .refusal ≡ 0 → Revived (picture s) (insertOut (picture s) key value .words) key value
+revive-revived s v key value stands z =
     key-cases s key
     (λ n. absurd (refused-not (insertOut (picture s) key value) (refused badKey (picture s)) 3 (insert-outcome-bad-key s v key value n) refl z))
     (λ h l a. absurd (stands a))
@@ -71,21 +162,16 @@ revive-marked s v key value stands z =
     (λ q. absurd (refused-not (insertOut (picture s) key value) (refused (keyLive key (looked s key)) (picture s)) 4 (insert-outcome-live s v key value h l x a q) refl z))
     (λ q.
     let k = entry-key key x (s .row) a in
-    record {
-      cell = x .cell;
-      within = entry-has (λ y. (0 < y .cell) × (y .cell < s .settings .cells)) key x (s .row) a (row-range s v) .1;
-      same = entry-has (λ y. keyAt (picture s) (y .cell) ≡ y .key) key x (s .row) a (row-key-read s v) ∙ k;
-      path = path (revived s x value);
-      long = path-length (revived s x value);
-      words = ap (λ (p : Outcome). p .words) (insert-outcome-dead s v key value h l x a q) ∙ revived-words s x value v (subst (λ (m : ℕ). entryAt m (s .row) ≡ some x) (sym k) a);
-    }))
+    let o = ap (λ (p : Outcome). p .words) (insert-outcome-dead s v key value h l x a q) in
+    subst₂ (λ (us : List ℕ) (m : ℕ). Revived (picture s) us m value) (sym o) k
+    (revived-leaves s x value v (subst (λ (m : ℕ). entryAt m (s .row) ≡ some x) (sym k) a) q)))
 
 pub revive-writes : ReviveWrites
 unfolding outcome
 revive-writes =
     on-read-lists
-    (λ s ws. (key value : ℕ) → (entryAt key (s .row) ≡ none → ⊥) → insertOut ws key value .answered .refusal ≡ 0 → Marked ws (insertOut ws key value .words) key value 1)
-    revive-marked
+    (λ s ws. (key value : ℕ) → (entryAt key (s .row) ≡ none → ⊥) → insertOut ws key value .answered .refusal ≡ 0 → Revived ws (insertOut ws key value .words) key value)
+    revive-revived
 
 insert-inserted : (s : State) → Sound s → (key value : ℕ) → entryAt key (s .row) ≡ none → insertOut (picture s) key value .answered .refusal ≡ 0 → Inserted (picture s) (insertOut (picture s) key value .words) key value (slotFor s key)
 insert-inserted s v key value a z =
@@ -115,6 +201,7 @@ finish-finishes s v key z =
         let n = entry-stands s key x a in
         record {
           cell = x .cell;
+          standing = place-standing v (entry-has (HasPlace s) key x (s .row) a (row-placed v) .placed);
           same = entry-has (λ y. keyAt (picture s) (y .cell) ≡ y .key) key x (s .row) a (row-key-read s v) ∙ entry-key key x (s .row) a;
           moved = finish-moved s v (x .cell) n;
           paid = finish-own s v (x .cell) n;
@@ -131,10 +218,10 @@ finish-writes =
     finish-finishes
 
 pub sweep-writes : SweepWrites
-unfolding outcome picture
+unfolding outcome
 sweep-writes =
     on-read-lists
-    (λ s ws. (sweepOut ws .words ≡ sweepWords ws) × ((x : ℕ) → x < countAt ws → OwesNothing (sweepOut ws .words) x))
+    (λ s ws. Swept ws (sweepOut ws .words) × (sweepOut ws .words ≡ sweepWords ws))
     (λ s v.
     let o = ap (λ (p : Outcome). p .words) (sweep-outcome s v) in
-    (o ∙ sweep-words s v, λ x h. subst (λ (us : List ℕ). OwesNothing us x) (sym o) (swept-owes-nothing s v x h)))
+    (subst (Swept (picture s)) (sym o) (swept-leaves s v), o ∙ sweep-words s v))

@@ -1,7 +1,7 @@
 -- Laws of rows and of their places under append and map, by induction on the row: members, how often a number occurs, the key of a
 -- cell, ascending keys, and places. An operation that changes only values, marks and debts is a map, and keeps cells, keys and
 -- dimensions.
-use mathlib.Core.Path.{_≡_, refl, sym, _∙_, ap, ap₂}
+use mathlib.Core.Path.{_≡_, refl, sym, _∙_, ap, ap₂, subst}
 use mathlib.Core.Bool.{Bool, true, false, cond}
 use mathlib.Core.List.{List, [], _∷_, _++_, map, reverseAux}
 use Prim.Native.Nat.{ℕ, suc, _+_, _≤_, _<_}
@@ -14,7 +14,7 @@ use Rattle.meaning.specs.Keys.{shared}
 use Rattle.meaning.specs.Row.{Entry, headEntry, firstOf, Place, headPlace, placesAfter, places}
 use Rattle.meaning.specs.State.{keyOf, occurrences}
 use Rattle.meaning.proofs.Order.{All, Asc, all-right, asc-weaken, asc-above, all-map}
-use Rattle.meaning.proofs.Cells.{occurrences-here, occurrences-past, occurrences-none}
+use Rattle.meaning.proofs.Cells.{Distinct, occurrences-here, occurrences-past, occurrences-none}
 
 -- Members
 
@@ -77,6 +77,18 @@ pub none-occurs : (c : ℕ) (xs : List ℕ) → All (λ x. c ≡ x → ⊥) xs �
 unfolding occurrences
 none-occurs c [] a = refl
 none-occurs c (x ∷ xs) a = occurrences-past c x xs (λ e. a .0 (sym e)) ∙ none-occurs c xs (a .1)
+
+-- distinct numbers occur at most once
+pub distinct-once : (c : ℕ) (xs : List ℕ) → Distinct xs → occurrences c xs ≤ 1
+unfolding occurrences
+distinct-once c [] d = omega arith
+distinct-once c (x ∷ xs) d = at-test (ℕ-discrete x c) (distinct-once c xs (d .1))
+  where
+    at-test : Dec (x ≡ c) → occurrences c xs ≤ 1 → occurrences c (x ∷ xs) ≤ 1
+    at-test (yes e) once =
+        let none = none-occurs c xs (subst (λ n. All (λ y. n ≡ y → ⊥) xs) e (d .0)) in
+        omega (arith, none, occurrences-here c x xs e)
+    at-test (no ne) once = omega (arith, once, occurrences-past c x xs ne)
 
 -- An entry with a cell, and the parts of the row before and after it.
 pub record Found (c : ℕ) (row : List Entry) : Type 0 where

@@ -235,6 +235,11 @@ module _ {s : State} (v : Sound s) where
   unfolding picture
   position-is = position-read s v
 
+  pub position-key-is : keyAt (picture s) (positionAt (picture s)) ≡ positionKey s
+  position-key-is =
+      let (p, here) = position-placed v in
+      ap (λ c. keyAt (picture s) c) position-is ∙ place-key v here ∙ sym (placed-keyOf here)
+
   -- "Path word d is the least-key standing cell sharing the first d+1 coordinates with the position."
   pub path-sentence : (d : ℕ) → d < s .settings .dimensions → OnPath (picture s) d
   path-sentence d h =
@@ -252,10 +257,8 @@ module _ {s : State} (v : Sound s) where
   -- "All standing cells with keys up to the position's are dead."
   pub passed-dead : {x : ℕ} {p : Place} → Placed s x p → keyAt (picture s) x ≤ keyAt (picture s) (positionAt (picture s)) → markAt (picture s) x ≡ 2
   passed-dead {x} {p} here h =
-      let (q, there) = position-placed v in
       let dead = placed-entry here (λ y. y .key ≤ positionKey s → y .live ≡ false) (λ k. refl) (v .dead) in
-      let key = ap (λ c. keyAt (picture s) c) position-is ∙ place-key v there ∙ sym (placed-keyOf there) in
-      place-mark v here ∙ ap mark (dead (omega (arith, place-key v here)))
+      place-mark v here ∙ ap mark (dead (omega (arith, h, place-key v here, position-key-is)))
 
   -- The free chain
 

@@ -1,28 +1,31 @@
 -- What document 01 says of a sweep, as laws of the swept state and its words: nobody owes, the freed cells are at the front of the free
--- chain, the one of greatest key first, and live entries stay as they are.
+-- chain, the one of greatest key first, live entries stay as they are, and the position is the greatest dead cell below every live key.
 use mathlib.Core.Path.{_≡_, refl, sym, ap, _∙_, subst}
-use mathlib.Core.Bool.{Bool, true, false, cond}
-use mathlib.Core.List.{List, [], _∷_, _++_, map, reverse, reverseAux}
+use mathlib.Core.Bool.{Bool, true, false, cond, true≢false}
+use mathlib.Core.List.{List, [], _∷_, _++_, map, reverse, reverseAux, dropLast}
+use mathlib.Core.Logic.{_⊎_, inl, inr}
 use mathlib.Core.Option.{Option, none, some}
-use Prim.Native.Nat.{ℕ, _≤_, _<_}
+use Prim.Native.Nat.{ℕ, zero, suc, _≤_, _<_}
+use native.Mathlib.Decide.{decLt}
 use native.Mathlib.Omega.{arith}
 use lib.ListN.{getD}
-use Rattle.meaning.specs.Row.{Entry, Place, placeOf, those}
+use Rattle.meaning.specs.Row.{Entry, headEntry, Place, headPlace, placeOf, those}
 use Rattle.meaning.specs.State.{State, occurrences}
 use Rattle.meaning.specs.Picture.{mark, firstNumber, picture}
-use Rattle.meaning.specs.Words.{keyAt, valueAt, markAt}
-use Rattle.meaning.specs.Operations.{paid, deadFront, lastAlone, freedBy, swept}
-use Rattle.meaning.specs.Sentences.{Free}
-use Rattle.meaning.specs.Leaves.{OwesNothing}
-use Rattle.meaning.proofs.Order.{All, Asc, all-map, all-append, all-left}
+use Rattle.meaning.specs.Words.{keyAt, valueAt, markAt, linkAt}
+use Rattle.meaning.specs.Operations.{paid, deadFront, fromLive, lastOf, lastAlone, freedBy, swept}
+use Rattle.meaning.specs.Sentences.{Free, Standing, Settled, Owing, positionAt}
+use Rattle.meaning.specs.Leaves.{OwesNothing, Swept}
+use Rattle.meaning.proofs.Order.{All, Asc, all-map, all-append, all-left, asc-above}
 use Rattle.meaning.proofs.State.{Sound}
-use Rattle.meaning.proofs.Cells.{all-of-map}
+use Rattle.meaning.proofs.Cells.{all-of-map, all-zip}
 use Rattle.meaning.proofs.Picture.{picture-free}
-use Rattle.meaning.proofs.Places.{occurrences-reverseAux, asc-left, all-occur}
-use Rattle.meaning.proofs.Keeps.{deadFront-dead, last-split}
-use Rattle.meaning.proofs.KeepsSweep.{keptBy, swept-split, swept-sound}
-use Rattle.meaning.proofs.SentencesCells.{placesIn, Placed, placed-entry, place-key, place-value, place-mark, free-cell-rest, free-cell, place-unowing}
+use Rattle.meaning.proofs.Places.{occurrences-reverseAux, asc-left, asc-right, all-occur, all-at}
+use Rattle.meaning.proofs.Keeps.{cells-positive, row-split, deadFront-dead, fromLive-live, live-split, last-split, last-cases}
+use Rattle.meaning.proofs.KeepsSweep.{keptBy, swept-split, kept-asc, swept-dead, swept-sound}
+use Rattle.meaning.proofs.SentencesCells.{placesIn, Placed, placed-entry, placed-cell, head-placed, place-key, place-value, place-mark, place-standing, free-cell-rest, cell-standing, cell-free, free-cell, place-unowing}
 use Rattle.meaning.proofs.SentencesShape.{HasPlace, row-placed}
+use Rattle.meaning.proofs.Sentences.{position-is, picture-sentences}
 use Rattle.meaning.proofs.SweepFinish.{paid-owes-nothing}
 
 -- "finishes all that is owed"
@@ -110,25 +113,230 @@ swept-live s =
     those-paid (keptBy (s .row))
     ∙ ap (map paid) (sym (those-past (freedBy (s .row)) (keptBy (s .row)) (freed-dead (s .row))) ∙ ap (those (λ x. x .live)) (sym (swept-split (s .row))))
 
--- a live entry of the row, on the words after the sweep
-pub record StaysLive (ws : List ℕ) (x : Entry) : Type 0 where
+-- "moves the position to the greatest dead cell below every live key"
+
+-- the last of some entries with ascending keys is above what is below the first, ..
+last-above : (low : ℕ) (x : Entry) (row : List Entry) → Asc low (x ∷ row) → low < lastOf (x ∷ row) .key
+unfolding lastOf
+last-above low x [] a = a .0
+last-above low x (y ∷ row) a = let more = last-above (x .key) y row (a .1) in let first = a .0 in omega arith
+
+-- .. not below any of them, ..
+last-most : (low : ℕ) (row : List Entry) → Asc low row → All (λ y. y .key ≤ lastOf row .key) row
+unfolding lastOf
+last-most low [] a = tt
+last-most low (x ∷ []) a = (omega arith, tt)
+last-most low (x ∷ y ∷ row) a = let above = last-above (x .key) y row (a .1) in (omega arith, last-most (x .key) (y ∷ row) (a .1))
+
+-- .. and above all but itself
+drop-below : (low : ℕ) (row : List Entry) → Asc low row → All (λ y. y .key < lastOf row .key) (dropLast row)
+unfolding lastOf
+drop-below low [] a = tt
+drop-below low (x ∷ []) a = tt
+drop-below low (x ∷ y ∷ row) a = (last-above (x .key) y row (a .1), drop-below (x .key) (y ∷ row) (a .1))
+
+-- the entry that becomes the position
+abbrev target : State → Entry
+target s = lastOf (deadFront (s .row))
+
+-- a cell of mark 1 is live
+pub live-marked : (live : Bool) → mark live ≡ 1 → live ≡ true
+live-marked true e = refl
+live-marked false e = absurd (omega arith)
+
+-- an entry on the words after the sweep, as it was
+pub record Stays (ws : List ℕ) (x : Entry) : Type 0 where
   pub key : keyAt ws (x .cell) ≡ x .key
   pub value : valueAt ws (x .cell) ≡ x .value
-  pub mark : markAt ws (x .cell) ≡ 1
+  pub same : markAt ws (x .cell) ≡ mark (x .live)
 
-pub swept-live-words : (s : State) → Sound s → All (λ x. x .live ≡ true → StaysLive (picture (swept s)) x) (s .row)
-unfolding swept
-swept-live-words s v =
-    subst (All (λ x. x .live ≡ true → StaysLive (picture (swept s)) x)) (sym (swept-split (s .row)))
-    (all-append (λ x. x .live ≡ true → StaysLive (picture (swept s)) x) (freedBy (s .row)) (keptBy (s .row))
-    (all-map (λ x dead live. absurd (let z : _≡_ {A = ℕ} 0 1 = cc in omega arith)) (freedBy (s .row)) (freed-dead (s .row)))
-    (all-map (λ x h live.
+module _ {s : State} (v : Sound s) where
+  sound : Sound (swept s)
+  sound = swept-sound s v
+
+  front-ascends : Asc 0 (deadFront (s .row))
+  front-ascends = asc-left 0 (deadFront (s .row)) (fromLive (s .row)) (subst (Asc 0) (sym (row-split (s .row))) (v .ascends))
+
+  freed-below : All (λ y. y .key < target s .key) (freedBy (s .row))
+  unfolding freedBy
+  freed-below = drop-below 0 (deadFront (s .row)) front-ascends
+
+  kept-above : All (λ y. target s .key ≤ y .key) (keptBy (s .row))
+  kept-above =
+      last-cases (λ z last. Asc 0 (last ++ later) → All (λ y. z .key ≤ y .key) (last ++ later)) (λ x. x .live ≡ false) (deadFront (s .row)) (deadFront-dead (s .row))
+      (λ up. all-map (λ y h. omega arith) later (asc-above 0 later up))
+      (λ z q up. (omega arith, all-map (λ y h. omega arith) later (asc-above (z .key) later (up .1))))
+      (kept-asc 0 (s .row) (v .ascends))
+    where
+      later : List Entry
+      later = fromLive (s .row)
+
+  target-dead : target s .live ≡ false
+  target-dead = last-cases (λ z last. z .live ≡ false) (λ x. x .live ≡ false) (deadFront (s .row)) (deadFront-dead (s .row)) refl (λ x h. h)
+
+  target-placed : HasPlace s (target s)
+  target-placed =
+      last-cases (λ z last. HasPlace s z) (HasPlace s) (deadFront (s .row))
+      (all-left (HasPlace s) (deadFront (s .row)) (fromLive (s .row)) (subst (All (HasPlace s)) (sym (row-split (s .row))) (row-placed v)))
+      (record { place = headPlace (s .row); placed = head-placed s; entry = refl })
+      (λ x h. h)
+
+  -- what holds of those freed and of those kept holds of the row
+  row-has : (P : Entry → Type 0) → All P (freedBy (s .row)) → All P (keptBy (s .row)) → All P (s .row)
+  row-has P freed kept = subst (All P) (sym (swept-split (s .row))) (all-append P (freedBy (s .row)) (keptBy (s .row)) freed kept)
+
+  live-above : All (λ y. y .live ≡ true → target s .key < y .key) (s .row)
+  live-above =
+      row-has (λ y. y .live ≡ true → target s .key < y .key)
+      (all-map (λ y dead live. absurd (true≢false (sym live ∙ dead))) (freedBy (s .row)) (freed-dead (s .row)))
+      (all-map (λ y dead live. at y dead live (decLt (target s .key) (y .key))) (keptBy (s .row)) (swept-dead (s .row) (v .ascends)))
+    where
+      at : (y : Entry) → (y .key ≤ target s .key → y .live ≡ false) → y .live ≡ true → Dec (target s .key < y .key) → target s .key < y .key
+      at y dead live (yes h) = h
+      at y dead live (no h) = absurd (true≢false (sym live ∙ dead (omega arith)))
+
+  -- y is below every live key
+  abbrev BelowLive : Entry → Type 0
+  BelowLive y = (z : Entry) → HasPlace s z → z .live ≡ true → y .key < z .key
+
+  dead-up-to : All (λ y. BelowLive y → y .key ≤ target s .key) (s .row)
+  dead-up-to =
+      subst (All UpTo) (row-split (s .row))
+      (all-append UpTo (deadFront (s .row)) (fromLive (s .row)) (all-map (λ y h below. h) (deadFront (s .row)) (last-most 0 (deadFront (s .row)) front-ascends))
+      (from (fromLive (s .row)) refl))
+    where
+      UpTo : Entry → Type 0
+      UpTo y = BelowLive y → y .key ≤ target s .key
+
+      from : (rest : List Entry) → fromLive (s .row) ≡ rest → All UpTo rest
+      from [] e = tt
+      from (z ∷ later) e =
+          let split = live-split (s .row) z later e in
+          let stands = all-at (HasPlace s) (deadFront (s .row)) z later (subst (All (HasPlace s)) split (row-placed v)) in
+          let live = fromLive-live (s .row) z later e in
+          let up = asc-right 0 (deadFront (s .row)) (z ∷ later) (subst (Asc 0) split (v .ascends)) in (
+            λ below. absurd (let h = below z stands live in omega arith),
+            all-map (λ y above below. absurd (let h = below z stands live in omega arith)) later (asc-above (z .key) later (up .1)),
+          )
+
+  freed-all : All (λ y. 0 < y .key → y .key < target s .key → Free (picture (swept s)) (y .cell)) (s .row)
+  freed-all =
+      row-has (λ y. 0 < y .key → y .key < target s .key → Free (picture (swept s)) (y .cell))
+      (all-map (λ y free low high. free) (freedBy (s .row)) (freed-free s v))
+      (all-map (λ y above low high. absurd (omega arith)) (keptBy (s .row)) kept-above)
+
+  kept-stays : All (Stays (picture (swept s))) (keptBy (s .row))
+  unfolding swept
+  kept-stays =
+      all-map (λ x h.
+      record {
+        key = place-key sound (h .placed) ∙ ap (λ y. y .key) (h .entry);
+        value = place-value sound (h .placed) ∙ ap (λ y. y .value) (h .entry);
+        same = place-mark sound (h .placed) ∙ ap (λ y. mark (y .live)) (h .entry);
+      })
+      (keptBy (s .row)) (all-of-map (HasPlace (swept s)) paid (keptBy (s .row)) (row-placed sound))
+
+  head-stays : Stays (picture (swept s)) headEntry
+  head-stays = let here = head-placed (swept s) in record { key = place-key sound here; value = place-value sound here; same = place-mark sound here }
+
+  kept-all-stay : All (λ y. (y .cell ≡ 0) ⊎ (target s .key ≤ y .key) → Stays (picture (swept s)) y) (s .row)
+  kept-all-stay =
+      row-has (λ y. (y .cell ≡ 0) ⊎ (target s .key ≤ y .key) → Stays (picture (swept s)) y)
+      (all-zip (λ y low positive. not y low positive) (freedBy (s .row)) freed-below
+      (all-left (λ y. 0 < y .cell) (freedBy (s .row)) (keptBy (s .row)) (subst (All (λ y. 0 < y .cell)) (swept-split (s .row)) (cells-positive s v))))
+      (all-map (λ y stays where-is. stays) (keptBy (s .row)) kept-stays)
+    where
+      not : (y : Entry) → y .key < target s .key → 0 < y .cell → (y .cell ≡ 0) ⊎ (target s .key ≤ y .key) → Stays (picture (swept s)) y
+      not y low positive (inl e) = absurd (omega arith)
+      not y low positive (inr h) = absurd (omega arith)
+
+  -- The same of the words
+
+  position-swept : positionAt (picture (swept s)) ≡ target s .cell
+  unfolding swept
+  position-swept = position-is sound
+
+  target-key : keyAt (picture s) (positionAt (picture (swept s))) ≡ target s .key
+  target-key = ap (keyAt (picture s)) position-swept ∙ place-key v (target-placed .placed) ∙ ap (λ y. y .key) (target-placed .entry)
+
+  target-mark : markAt (picture s) (positionAt (picture (swept s))) ≡ 2
+  target-mark =
+      ap (markAt (picture s)) position-swept ∙ place-mark v (target-placed .placed) ∙ ap (λ y. mark (y .live)) (target-placed .entry) ∙ ap mark target-dead
+
+  words-below-live : (x : ℕ) → Standing (picture s) x → markAt (picture s) x ≡ 1 → keyAt (picture s) (positionAt (picture (swept s))) < keyAt (picture s) x
+  words-below-live x stands live =
+      let (p, here) = cell-standing s x stands in
+      let above =
+      placed-entry here (λ y. y .live ≡ true → target s .key < y .key) (λ l. absurd (true≢false (sym l))) live-above
+      (live-marked (p .entry .live) (sym (place-mark v here) ∙ live)) in
+      omega (arith, above, target-key, place-key v here)
+
+  words-greatest : (x : ℕ) → Standing (picture s) x → ((y : ℕ) → Standing (picture s) y → markAt (picture s) y ≡ 1 → keyAt (picture s) x < keyAt (picture s) y) →
+      keyAt (picture s) x ≤ keyAt (picture s) (positionAt (picture (swept s)))
+  words-greatest x stands below =
+      let (p, here) = cell-standing s x stands in
+      let up-to =
+      placed-entry here (λ y. BelowLive y → y .key ≤ target s .key) (λ f. omega arith) dead-up-to
+      (λ z h live.
+      let less = below (z .cell) (place-standing v (h .placed)) (place-mark v (h .placed) ∙ ap (λ y. mark (y .live)) (h .entry) ∙ ap mark live) in
+      omega (arith, less, place-key v here, place-key v (h .placed), ap (λ y. y .key) (h .entry))) in
+      omega (arith, up-to, target-key, place-key v here)
+
+  words-freed : (x : ℕ) → Standing (picture s) x → 0 < keyAt (picture s) x → keyAt (picture s) x < keyAt (picture s) (positionAt (picture (swept s))) → markAt (picture (swept s)) x ≡ 0
+  words-freed x stands low high =
+      let (p, here) = cell-standing s x stands in
+      let free =
+      placed-entry here (λ y. 0 < y .key → y .key < target s .key → Free (picture (swept s)) (y .cell)) (λ a c. absurd (omega arith)) freed-all
+      (omega (arith, low, place-key v here)) (omega (arith, high, target-key, place-key v here)) in
+      ap (markAt (picture (swept s))) (sym (placed-cell here)) ∙ free .mark
+
+  words-kept : (x : ℕ) → Standing (picture s) x → (x ≡ 0) ⊎ (keyAt (picture s) (positionAt (picture (swept s))) ≤ keyAt (picture s) x) →
+      (keyAt (picture (swept s)) x ≡ keyAt (picture s) x) × ((valueAt (picture (swept s)) x ≡ valueAt (picture s) x) × (markAt (picture (swept s)) x ≡ markAt (picture s) x))
+  words-kept x stands rest =
+      let (p, here) = cell-standing s x stands in
+      let stays =
+      placed-entry here (λ y. (y .cell ≡ 0) ⊎ (target s .key ≤ y .key) → Stays (picture (swept s)) y) (λ r. head-stays) kept-all-stay (is p here rest) in
+      let cell = sym (placed-cell here) in (
+        ap (keyAt (picture (swept s))) cell ∙ stays .key ∙ sym (place-key v here),
+        (ap (valueAt (picture (swept s))) cell ∙ stays .value ∙ sym (place-value v here), ap (markAt (picture (swept s))) cell ∙ stays .same ∙ sym (place-mark v here)),
+      )
+    where
+      is : (p : Place) → Placed s x p → (x ≡ 0) ⊎ (keyAt (picture s) (positionAt (picture (swept s))) ≤ keyAt (picture s) x) → (p .entry .cell ≡ 0) ⊎ (target s .key ≤ p .entry .key)
+      is p here (inl e) = inl (placed-cell here ∙ e)
+      is p here (inr h) = inr (omega (arith, h, target-key, place-key v here))
+
+  words-free : (x : ℕ) → Free (picture s) x → Free (picture (swept s)) x
+  unfolding swept
+  words-free x free =
+      let cells = map (λ y. y .cell) (freedBy (s .row)) in
+      free-cell sound x (omega (arith, cell-free v x free, occurrences-reverseAux x cells (s .free)))
+
+  words-settled : (x d : ℕ) → Standing (picture (swept s)) x → d < s .settings .dimensions → Settled (picture (swept s)) x d (linkAt (picture (swept s)) x d)
+  unfolding picture swept
+  words-settled x d stands h = picture-sentences (swept s) sound .links x d stands h (none x) (λ n o e. none n o)
+    where
+      none : (n : ℕ) → Owing (picture (swept s)) n d → ⊥
+      none n o = let owed = o .owes in let nothing = swept-owes-nothing s v n (o .standing .cell) .0 in omega arith
+
+pub swept-leaves : (s : State) → Sound s → Swept (picture s) (picture (swept s))
+unfolding picture swept
+swept-leaves s v =
     record {
-      key = place-key w (h .placed) ∙ ap (λ y. y .key) (h .entry);
-      value = place-value w (h .placed) ∙ ap (λ y. y .value) (h .entry);
-      mark = place-mark w (h .placed) ∙ ap (λ y. mark (y .live)) (h .entry) ∙ ap mark live;
-    })
-    (keptBy (s .row)) (all-of-map (HasPlace (swept s)) paid (keptBy (s .row)) (row-placed w))))
+      position = subst (Standing (picture s)) (sym (position-swept v)) (place-standing v (target-placed v .placed));
+      dead = target-mark v;
+      below-live = words-below-live v;
+      greatest = λ x stands dead below. words-greatest v x stands below;
+      freed = words-freed v;
+      kept = words-kept v;
+      free = words-free v;
+      owes = swept-owes-nothing s v;
+      settled = words-settled v;
+      header = header;
+    }
   where
-    w : Sound (swept s)
-    w = swept-sound s v
+    header : (i : ℕ) → i < 4 → getD (picture (swept s)) i 0 ≡ getD (picture s) i 0
+    header zero h = refl
+    header (suc zero) h = refl
+    header (suc (suc zero)) h = refl
+    header (suc (suc (suc zero))) h = refl
+    header (suc (suc (suc (suc i)))) h = absurd (omega arith)

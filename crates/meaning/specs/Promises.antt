@@ -20,9 +20,9 @@ use Rattle.meaning.specs.Words.{keyAt, markAt, owedAt, lowAt, highAt}
 use Rattle.meaning.specs.Walk.{walk, walkFrom, ends}
 use Rattle.meaning.specs.Operations.{takeOut, freedBy, slotFor}
 use Rattle.meaning.specs.SweepStores.{sweepWords}
-use Rattle.meaning.specs.Leaves.{OwesNothing, OwesSame, Finished, Inserted, Marked}
+use Rattle.meaning.specs.Leaves.{OwesNothing, OwesSame, Finished, Inserted, Taken, Revived, Swept}
 use Rattle.meaning.specs.Calls.{Call, set-up, insert-key, find-key, finish-key, take-least, sweep-dead, outcome, afterCalls}
-use Rattle.meaning.specs.Sentences.{agreed, precedes, dimensionsAt, largestAt, countAt, baseAt, AList}
+use Rattle.meaning.specs.Sentences.{agreed, precedes, dimensionsAt, largestAt, countAt, baseAt, Standing, AList}
 use Rattle.meaning.specs.Book.{Pair, livePairs, standingKeys, bookOf, bookedAll}
 
 -- a buffer after an accepted set up and any calls since
@@ -64,11 +64,15 @@ SharedMeansLeading =
 abbrev pub ListMeansSentences : Type 0
 ListMeansSentences = (ws : List ℕ) → (isList ws ≡ true) ↔ AList ws
 
--- 4. Walk and rule agree on every list and key: the keys of the cells gone to are the rule's, each once, in one order;
+-- 4. Walk and rule agree on every list and key: the keys of the cells gone to are the rule's, in one order;
 abbrev pub WalkIsRule : Type 0
 WalkIsRule =
     (ws : List ℕ) → isList ws ≡ true → (k : ℕ) → 1 ≤ k → k ≤ largestAt ws
     → map (keyAt ws) (walk ws k) ≡ rule (baseAt ws) (dimensionsAt ws) (standingKeys ws) k
+
+-- .. "The cells gone to, each counted once": no cell is gone to twice;
+abbrev pub WalkOnce : Type 0
+WalkOnce = (ws : List ℕ) → isList ws ≡ true → (k : ℕ) → 1 ≤ k → k ≤ largestAt ws → (x : ℕ) → occurrences x (walk ws k) ≤ 1
 
 -- .. they are at most D(b-1);
 abbrev pub WalkBounded : Type 0
@@ -139,17 +143,18 @@ CallsAreBooked =
 abbrev pub FindWritesNothing : Type 0
 FindWritesNothing = (ws : List ℕ) (key : ℕ) → outcome (find-key key) ws .words ≡ ws
 
--- A take writes the taken cell's value 0 and mark 2, and the path: "Links are untouched."
+-- A take writes the taken cell's value 0 and mark 2, and the path, whose last word becomes that cell: "Links are untouched."
 abbrev pub TakeWrites : Type 0
 TakeWrites =
     (ws : List ℕ) → isList ws ≡ true → outcome take-least ws .answered .refusal ≡ 0
-    → Marked ws (outcome take-least ws .words) (outcome take-least ws .answered .key) 0 2
+    → Taken ws (outcome take-least ws .words) (outcome take-least ws .answered .key)
 
--- A revived key gets the new value and mark 1, "with no link changed and nothing finished"; and the path.
+-- A revived key gets the new value and mark 1, "with no link changed and nothing finished"; and the path, if the key is not above the
+-- position's.
 abbrev pub ReviveWrites : Type 0
 ReviveWrites =
     (ws : List ℕ) → isList ws ≡ true → (key value : ℕ) → (entryAt key (read ws .row) ≡ none → ⊥)
-    → outcome (insert-key key value) ws .answered .refusal ≡ 0 → Marked ws (outcome (insert-key key value) ws .words) key value 1
+    → outcome (insert-key key value) ws .answered .refusal ≡ 0 → Revived ws (outcome (insert-key key value) ws .words) key value
 
 -- An insert of a key that does not stand: the parent, p, c, q and the links moved; every other word of a cell as before.
 abbrev pub InsertWrites : Type 0
@@ -160,6 +165,8 @@ InsertWrites =
 -- A finish of a key that stands: its cell's debt is finished and no other.
 pub record Finishes (ws us : List ℕ) (k count : ℕ) : Type 0 where
   pub cell : ℕ
+  -- a free cell's first word is no key
+  pub standing : Standing ws cell
   pub same : keyAt ws cell ≡ k
   pub moved : count ≡ highAt ws cell - lowAt ws cell
   pub paid : OwesNothing us cell
@@ -172,11 +179,11 @@ FinishWrites =
     (ws : List ℕ) → isList ws ≡ true → (key : ℕ) → outcome (finish-key key) ws .answered .refusal ≡ 0
     → Finishes ws (outcome (finish-key key) ws .words) key (outcome (finish-key key) ws .answered .count)
 
--- A sweep writes what specs/SweepStores.antt says, and no cell owes afterwards.
+-- A sweep leaves what document 01 says, and writes what specs/SweepStores.antt says.
 abbrev pub SweepWrites : Type 0
 SweepWrites =
     (ws : List ℕ) → isList ws ≡ true
-    → (outcome sweep-dead ws .words ≡ sweepWords ws) × ((x : ℕ) → x < countAt ws → OwesNothing (outcome sweep-dead ws .words) x)
+    → Swept ws (outcome sweep-dead ws .words) × (outcome sweep-dead ws .words ≡ sweepWords ws)
 
 -- 10. A cell freed by a sweep serves again: each cell but the head stands or is free, exactly one of the two, in every list;
 abbrev pub EachCellOnce : Type 0

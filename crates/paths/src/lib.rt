@@ -62,7 +62,7 @@ pub fn read_path(list: &[u32], s: Settings) -> Path
     let mut path = head_path(s);
     let mut i: usize = 0;
     while i < s.dimensions as usize {
-        path.cells[i] = list[5 + i];
+        path.cells[i] = list[words::HEADER_WORDS + i];
         i += 1;
     }
     path
@@ -75,7 +75,7 @@ pub fn write_path(list: &mut [u32], s: Settings, path: Path)
 {
     let mut i: usize = 0;
     while i < s.dimensions as usize {
-        list[5 + i] = path.cells[i];
+        list[words::HEADER_WORDS + i] = path.cells[i];
         i += 1;
     }
 }

@@ -30,7 +30,7 @@ fn write_header(list: &mut [u32], s: Settings)
     list[1] = s.largest;
     list[2] = s.cells;
     list[3] = s.base;
-    list[4] = 1;
+    list[words::FIRST_FREE] = 1;
 }
 
 // The first word of cell x of a fresh list: the head's key, 0, or the next free cell, and 0 in the last.

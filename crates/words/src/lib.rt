@@ -17,6 +17,9 @@ use settings::Settings;
 // "Words 0 to 4: D, K, C, b, first free cell. Then D words of path."
 pub const HEADER_WORDS: usize = 5;
 
+// Word 4 is the first free cell.
+pub const FIRST_FREE: usize = 4;
+
 // "key, value, mark, owed cell, low, high, D coordinates, D links"
 pub const KEY: u32 = 0;
 
