@@ -15,9 +15,13 @@
 mod answer; // answer.rt: the line printed
 
 ghost use mathlib.Core.Path.{_≡_};
+ghost use mathlib.Core.List.{[], _∷_};
 ghost use lib.ListN.{length};
 ghost use Rattle.text.specs.Lines.{mostBytes};
-ghost use Rattle.text.specs.Feeding.{Ready, LineIn};
+ghost use Rattle.text.specs.Feeding.{handedAtEnd, begunIn, toldIn, Ready, LineIn};
+ghost use Rattle.meaning.specs.Picture.{picture};
+ghost use Rattle.meaning.specs.Operations.{fresh};
+ghost use Rattle.order.specs.Input.{wordsAfter, Taken, PartTaken};
 use text::feed::Feed;
 use text::feed::Told;
 
@@ -46,6 +50,7 @@ pub enum End {
 // Answers the line that ended, if one did; whether the answer was written.
 fn take_line(words: &mut [u32], line: &[u8], ended: Told) -> bool
     requires { ⌜ LineIn (now line) ended ⌝ }
+    ensures { λ r. ⌜ now (words .exit) ≡ wordsAfter (toldIn (now (line .entry)) ended) (now (words .entry)) ⌝ }
 {
     match ended {
         Told::NoLine => return true,
@@ -54,9 +59,10 @@ fn take_line(words: &mut [u32], line: &[u8], ended: Told) -> bool
     }
 }
 
+// One byte of the input: the feed keeps it, or the line that it ends is answered.
 fn take_byte(words: &mut [u32], line: &mut [u8], feed: Feed, byte: u8) -> State
     requires { ⌜ Ready (now line) feed ⌝ }
-    ensures { λ r. ⌜ Ready (now (line .exit)) (r .feed) ⌝ }
+    ensures { λ r. ⌜ Taken (byte ∷ []) (begunIn (now (line .entry)) feed) (now (words .entry)) (now (line .exit)) (r .feed) (now (words .exit)) ⌝ }
 {
     let fed = text::feed::feed_byte(line, feed, byte);
     let next = fed.feed;
@@ -71,7 +77,7 @@ fn take_byte(words: &mut [u32], line: &mut [u8], feed: Feed, byte: u8) -> State
 // A part of the input, to its end or to an answer that is not written.
 fn take_part(words: &mut [u32], line: &mut [u8], feed: Feed, part: &[u8]) -> State
     requires { ⌜ Ready (now line) feed ⌝ }
-    ensures { λ r. ⌜ Ready (now (line .exit)) (r .feed) ⌝ }
+    ensures { λ r. ⌜ PartTaken (now (part .entry)) (begunIn (now (line .entry)) feed) (now (words .entry)) (now (line .exit)) r (now (words .exit)) ⌝ }
 {
     let mut s = State {
         feed,
@@ -91,6 +97,7 @@ fn take_part(words: &mut [u32], line: &mut [u8], feed: Feed, part: &[u8]) -> Sta
 // The end of the input: a line begun counts.
 fn take_last(words: &mut [u32], line: &[u8], feed: Feed) -> End
     requires { ⌜ Ready (now line) feed ⌝ }
+    ensures { λ r. ⌜ now (words .exit) ≡ wordsAfter (handedAtEnd (begunIn (now (line .entry)) feed)) (now (words .entry)) ⌝ }
 {
     let last = text::feed::finish(feed);
     if take_line(words, line, last) {
@@ -99,9 +106,10 @@ fn take_last(words: &mut [u32], line: &[u8], feed: Feed) -> End
     End::NotWritten
 }
 
-// The input, in parts, to its end. Nothing says that an input ends, so the turns are counted down from a number that no run uses up.
+// The input, in parts, to its end, on a fresh list. Nothing says that an input ends, so the turns are counted down from a number that no
+// run uses up.
 fn take_all(words: &mut [u32], line: &mut [u8]) -> End
-    requires { ⌜ length (now line) ≡ mostBytes ⌝ }
+    requires { ⌜ (length (now line) ≡ mostBytes) × (now words ≡ picture (fresh 8 1048575 512)) ⌝ }
 {
     let mut feed = text::feed::start();
     let mut part = io::large_buffer();

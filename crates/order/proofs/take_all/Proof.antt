@@ -20,7 +20,7 @@ large-buffer-requires c κs = search needs
 
 loop-holds : tie.Need-loop-holds Inv-loop μ-loop
 loop-holds c =
-    let long = c .before .before .before .before .pre in
+    let long = c .before .before .before .before .pre .0 in
     (c .large-buffer .ensures, (refl, rw (c .before .start .ensures) (record { long = long; fits = search needs })))
 
 slice-aggregate-read : tie.Need-slice-aggregate-read Inv-loop μ-loop
@@ -81,7 +81,7 @@ loop-less : tie.Need-loop-less Inv-loop μ-loop
 loop-less c = search needs
 
 loop-again : tie.Need-loop-again Inv-loop μ-loop
-loop-again c = search needs
+loop-again c = (search needs, (search needs, c .before .before .before .before .before .before .before .take-part .ensures .taken .ready))
 
 same-length-7 : tie.Need-same-length-7 Inv-loop μ-loop
 same-length-7 c = search needs

@@ -1,6 +1,8 @@
--- `order::take_byte` meets its contract: a line that the byte ends has at most 64 bytes, and they stand in the buffer.
+-- `order::take_byte` meets its contract: a line that the byte ends has at most 64 bytes, and they stand in the buffer. What the feed tells
+-- of is what the byte hands on.
 use native.Mathlib.Omega.{arith}
 use borrow.Author.Needs.{needs}
+use Rattle.order.proofs.Laws.{byte-taken}
 use Rattle.order.proofs.take_byte.Statement.{statement}
 use Rattle.order.proofs.take_byte.Tie as tie
 
@@ -19,7 +21,9 @@ same-length-2 : tie.Need-same-length-2
 same-length-2 c = search needs
 
 returns : tie.Need-returns
-returns c = search needs
+returns c =
+    let a = c .before .before .before .before .before .before .before .before .before .before .before .before .args in
+    byte-taken (a .line .now) (a .words .now) (c .before .before .before .before .before .before .before .before .feed-byte .ensures) (c .before .before .take-line .ensures)
 
 pub take-byte-spec : {M : Type 1} → statement M
 take-byte-spec =

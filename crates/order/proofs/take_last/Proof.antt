@@ -1,6 +1,7 @@
--- `order::take_last` is safe: the line begun at the end of the input stands in the buffer.
+-- `order::take_last` meets its contract: the line begun at the end of the input stands in the buffer, and is what the end hands on.
 use native.Mathlib.Omega.{arith}
 use borrow.Author.Needs.{needs}
+use Rattle.order.proofs.Laws.{end-words}
 use Rattle.order.proofs.take_last.Statement.{statement}
 use Rattle.order.proofs.take_last.Tie as tie
 
@@ -16,13 +17,17 @@ same-length : tie.Need-same-length
 same-length c = search needs
 
 returns : tie.Need-returns
-returns c = search needs
+returns c =
+    let a = c .before .before .before .before .before .before .before .before .args in
+    end-words (a .line .now) (a .words .now) (c .before .before .before .before .before .before .before .before .pre .long) (c .before .before .before .before .before .finish .ensures) (c .before .before .before .take-line .ensures)
 
 same-length-2 : tie.Need-same-length-2
 same-length-2 c = search needs
 
 returns-2 : tie.Need-returns-2
-returns-2 c = search needs
+returns-2 c =
+    let a = c .before .before .before .before .before .before .before .before .args in
+    end-words (a .line .now) (a .words .now) (c .before .before .before .before .before .before .before .before .pre .long) (c .before .before .before .before .before .finish .ensures) (c .before .before .before .take-line .ensures)
 
 pub take-last-spec : {M : Type 1} → statement M
 take-last-spec =

@@ -1,5 +1,6 @@
--- `order::take_line` is safe: a line that is told of lies within the bytes.
+-- `order::take_line` meets its contract: a line that is told of lies within the bytes, and the call made for it leaves its words.
 use borrow.Author.Needs.{needs}
+use Rattle.order.proofs.Laws.{no-line-words, line-words, long-line-words}
 use Rattle.order.proofs.take_line.Statement.{statement}
 use Rattle.order.proofs.take_line.Tie as tie
 
@@ -7,7 +8,9 @@ enum-told : tie.Need-enum-told
 enum-told c = search needs
 
 returns : tie.Need-returns
-returns c = search needs
+returns c =
+    let a = c .before .before .before .before .args in
+    no-line-words (a .line .now) (a .words .now) (c .enum-told .given .1)
 
 enum-known-ended : tie.Need-enum-known-ended
 enum-known-ended c = search needs
@@ -31,7 +34,9 @@ same-length : tie.Need-same-length
 same-length c = search needs
 
 returns-2 : tie.Need-returns-2
-returns-2 c = search needs
+returns-2 c =
+    let a = c .before .before .before .before .before .before .before .before .before .before .before .args in
+    line-words (a .line .now) (a .words .now) (c .before .before .before .before .before .before .before .ended .given .1) (c .before .before .before .step .ensures)
 
 enum-told-2 : tie.Need-enum-told-2
 enum-told-2 c = search needs
@@ -46,7 +51,9 @@ same-length-2 : tie.Need-same-length-2
 same-length-2 c = search needs
 
 returns-3 : tie.Need-returns-3
-returns-3 c = search needs
+returns-3 c =
+    let a = c .before .before .before .before .before .before .before .args in
+    long-line-words (a .line .now) (a .words .now) (c .before .before .before .enum-told2 .given .1) (c .before .long-line .ensures)
 
 pub take-line-spec : {M : Type 1} → statement M
 take-line-spec =

@@ -1,0 +1,2 @@
+-- What the order program's input does to the list.
+pub mod Input
