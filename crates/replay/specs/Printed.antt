@@ -5,8 +5,8 @@ use Prim.Native.Nat.{ℕ}
 use Rattle.text.specs.Fields.{space}
 use Rattle.text.specs.Lines.{lineFeed}
 use Rattle.report.specs.Report.{decimal, answerText, checksumOf}
-use Rattle.replay.specs.declared.answer.Reply.{Reply}
-use Rattle.replay.specs.declared.answer.Reply.the-variants.{Four, NoCall}
+use Rattle.trace.specs.declared.call.Reply.{Reply}
+use Rattle.trace.specs.declared.call.Reply.the-variants.{Four, NoCall}
 
 abbrev pub dash : ℕ
 dash = 45

@@ -1,37 +1,13 @@
-// The call that a line makes, and the line that is printed for it.
+// The line that is printed for a line.
 ghost use mathlib.Core.Path.{_≡_};
 ghost use Prim.Native.Nat.{_≤_};
 ghost use lib.ListN.{length};
 ghost use Rattle.report.specs.Report.{answerBytes, Put};
 ghost use Rattle.replay.specs.Printed.{replyText, lineText};
-use crate::trace::Kind;
-use meaning::Answer;
-
-const UNREADABLE: u32 = 10;
+use trace::call::Reply;
 
 // The room for an answer and the checksum, with a byte after it.
 const MOST_BYTES: usize = report::ANSWER_BYTES + report::FIELD_BYTES;
-
-// What a line is answered: four numbers, or none where it makes no call.
-pub enum Reply {
-    Four(Answer),
-    NoCall,
-}
-
-// The line's call; a line that is not readable is answered 10.
-pub fn call(list: &mut [u32], kind: Kind) -> Reply {
-    match kind {
-        Kind::SetUp { d, k, c, len: _ } => return Reply::Four(mdlist::mdlist_set_up(d, k, c, list)),
-        Kind::Insert(key, value) => return Reply::Four(mdlist::mdlist_insert(list, key, value)),
-        Kind::Find(key) => return Reply::Four(mdlist::mdlist_find(list, key)),
-        Kind::Finish(key) => return Reply::Four(mdlist::mdlist_finish(list, key)),
-        Kind::Take => return Reply::Four(mdlist::mdlist_take(list)),
-        Kind::Sweep => return Reply::Four(mdlist::mdlist_sweep(list)),
-        Kind::Put(_, _) => return Reply::NoCall,
-        Kind::Length(_) => return Reply::NoCall,
-        _ => return Reply::Four(meaning::refused(UNREADABLE)),
-    }
-}
 
 // Puts what is printed before the checksum; the index after it.
 fn put_reply(out: &mut [u8], reply: Reply) -> usize

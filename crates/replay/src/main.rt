@@ -18,16 +18,16 @@
 // for each word in order h becomes (h x 1,000,003 + word) mod 2,147,483,647.
 //
 // The file stdout has the answers of the separate ordered set: compare/ordered_set/target/release/ordered_set replay < stdin > stdout
-mod trace; // trace.rt: the kinds of line
-mod buffer; // buffer.rt: the buffer, what a line does to it apart from its call
-mod answer; // answer.rt: the call, and the line printed
+mod answer; // answer.rt: the line printed
 
 ghost use mathlib.Core.Path.{_≡_};
 ghost use Prim.Native.Nat.{_≤_};
-ghost use lib.ListN.{length};
+ghost use lib.ListN.{length, take};
 ghost use Rattle.text.specs.Lines.{mostBytes};
 ghost use Rattle.text.specs.Feeding.{LineIn};
-ghost use Rattle.replay.specs.Kept.{mostWords, lengthIn, Held, Kept};
+ghost use Rattle.trace.specs.Trace.{mostWords, lengthIn, Held, Holds, bufferAfter};
+ghost use Rattle.trace.specs.Calling.{afterCall};
+ghost use Rattle.replay.specs.Kept.{Kept};
 use text::feed::Feed;
 use text::feed::Told;
 use trace::Kind;
@@ -41,10 +41,10 @@ pub struct State {
 // Does what a line says and prints its answer; the buffer's length afterwards.
 fn reply(words: &mut [u32], used: usize, kind: Kind) -> usize
     requires { ⌜ Held (now words) used × (lengthIn kind ≤ mostWords) ⌝ }
-    ensures { λ r. ⌜ Held (now (words .exit)) r ⌝ }
+    ensures { λ r. ⌜ Holds (now (words .exit)) r (afterCall kind (bufferAfter kind (take used (now (words .entry))))) ⌝ }
 {
-    let n = buffer::altered(words, used, kind);
-    let answered = answer::call(&mut words[0..n], kind);
+    let n = trace::buffer::altered(words, used, kind);
+    let answered = trace::call::call(&mut words[0..n], kind);
     answer::print(answered, &words[0..n]);
     n
 }

@@ -1,8 +1,12 @@
-// The kinds of line of a trace, and a line read as one of them.
+// A trace of calls: the kinds of its lines, a line read as one of them, what a line does to the buffer, and the call that it makes.
+// The format is at the head of the program replay.
 ghost use Prim.Native.Nat.{_≤_};
 ghost use lib.ListN.{length};
-ghost use Rattle.replay.specs.Kept.{mostWords, lengthIn};
+ghost use Rattle.trace.specs.Trace.{mostWords, lengthIn};
 use text::fields::Numeral;
+
+pub mod buffer; // buffer.rt: what a line does to the buffer
+pub mod call; // call.rt: the call that a line makes
 
 pub const MOST_WORDS: usize = 155670;
 

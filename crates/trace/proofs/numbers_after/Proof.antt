@@ -1,9 +1,9 @@
--- `replay::trace::numbers_after` is safe and ends: a field ends after it starts, so that each turn leaves less of the line.
+-- `trace::numbers_after` is safe and ends: a field ends after it starts, so that each turn leaves less of the line.
 use Prim.Native.Nat.{_-_, _≤_}
 use lib.ListN.{length}
 use borrow.Author.Needs.{needs}
-use Rattle.replay.proofs.trace.numbers_after.Statement.{statement}
-use Rattle.replay.proofs.trace.numbers_after.Tie as tie
+use Rattle.trace.proofs.numbers_after.Statement.{statement}
+use Rattle.trace.proofs.numbers_after.Tie as tie
 
 abbrev Inv-loop : tie.InvT-loop
 Inv-loop line from values₀ count₀ end₀ values count end = (count ≤ 4) × (end ≤ length line)

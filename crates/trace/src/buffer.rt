@@ -1,7 +1,8 @@
 // The buffer, the first `used` of an array's words: what a line does to it apart from its call.
 ghost use Prim.Native.Nat.{_≤_};
-ghost use Rattle.replay.specs.Kept.{mostWords, lengthIn, Held};
-use crate::trace::Kind;
+ghost use lib.ListN.{take, set, replicate};
+ghost use Rattle.trace.specs.Trace.{mostWords, lengthIn, Held, Holds, bufferAfter, left, cutTo};
+use super::Kind;
 
 // A word that no fresh list has, so that a word left as it was shows.
 const LEFT: u32 = 2779096485;
@@ -9,15 +10,16 @@ const LEFT: u32 = 2779096485;
 // A new buffer of n words.
 fn made(words: &mut [u32], n: usize) -> usize
     requires { ⌜ Held (now words) n ⌝ }
-    ensures { λ r. ⌜ Held (now (words .exit)) r ⌝ }
+    ensures { λ r. ⌜ Holds (now (words .exit)) r (replicate n left) ⌝ }
 {
     words::fill(&mut words[0..n], LEFT);
     n
 }
 
+// One word of the buffer; nothing where the index is past its end.
 fn put(words: &mut [u32], used: usize, index: usize, value: u32) -> usize
     requires { ⌜ Held (now words) used ⌝ }
-    ensures { λ r. ⌜ Held (now (words .exit)) r ⌝ }
+    ensures { λ r. ⌜ Holds (now (words .exit)) r (set (take used (now (words .entry))) index value) ⌝ }
 {
     if index < used {
         words[index] = value;
@@ -28,7 +30,7 @@ fn put(words: &mut [u32], used: usize, index: usize, value: u32) -> usize
 // The buffer cut to n words, or extended with words 0.
 fn resized(words: &mut [u32], used: usize, n: usize) -> usize
     requires { ⌜ Held (now words) used × (n ≤ mostWords) ⌝ }
-    ensures { λ r. ⌜ Held (now (words .exit)) r ⌝ }
+    ensures { λ r. ⌜ Holds (now (words .exit)) r (cutTo n (take used (now (words .entry)))) ⌝ }
 {
     if used < n {
         words::fill(&mut words[used..n], 0);
@@ -39,7 +41,7 @@ fn resized(words: &mut [u32], used: usize, n: usize) -> usize
 // What a line does to the buffer before its call, if it makes one; the buffer's length afterwards.
 pub fn altered(words: &mut [u32], used: usize, kind: Kind) -> usize
     requires { ⌜ Held (now words) used × (lengthIn kind ≤ mostWords) ⌝ }
-    ensures { λ r. ⌜ Held (now (words .exit)) r ⌝ }
+    ensures { λ r. ⌜ Holds (now (words .exit)) r (bufferAfter kind (take used (now (words .entry)))) ⌝ }
 {
     match kind {
         Kind::SetUp {
@@ -50,6 +52,11 @@ pub fn altered(words: &mut [u32], used: usize, kind: Kind) -> usize
         } => return made(words, n as usize),
         Kind::Put(index, value) => return put(words, used, index as usize, value),
         Kind::Length(n) => return resized(words, used, n as usize),
-        _ => return used,
+        Kind::Insert(_, _) => return used,
+        Kind::Find(_) => return used,
+        Kind::Finish(_) => return used,
+        Kind::Take => return used,
+        Kind::Sweep => return used,
+        Kind::Unreadable => return used,
     }
 }
