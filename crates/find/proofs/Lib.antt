@@ -1,2 +1,2 @@
 -- What find answers, by what the search found.
-pub mod Laws
+pub mod Finding

@@ -1,8 +1,8 @@
 // Find: "key, value, looked; writes nothing."
 ghost use mathlib.Core.Path.{_≡_};
-ghost use Rattle.meaning.specs.Reading.{Listed};
 ghost use Rattle.meaning.specs.Refusals.{keyNotLive, answerOf};
 ghost use Rattle.meaning.specs.Operations.{findOut};
+ghost use Rattle.meaning.specs.Layer.Listed.{Listed};
 use meaning::Answer;
 use settings::Settings;
 
@@ -10,7 +10,7 @@ use settings::Settings;
 fn not_live(key: u32, looked: u32) -> Answer
     ensures { λ r. ⌜ r ≡ answerOf (keyNotLive key looked) ⌝ }
 {
-    meaning::refused_at(8, key, looked)
+    meaning::refused_at(meaning::KEY_NOT_LIVE, key, looked)
 }
 
 // On a list with settings s.
@@ -19,16 +19,16 @@ pub fn find(list: &[u32], s: Settings, key: u32) -> Answer
     ensures { λ r. ⌜ r ≡ findOut (now (list .entry)) key .answered ⌝ }
 {
     if key == 0 {
-        return meaning::refused(4);
+        return meaning::refused(meaning::BAD_KEY);
     }
     if s.largest < key {
-        return meaning::refused(4);
+        return meaning::refused(meaning::BAD_KEY);
     }
     let f = search::search(list, s, key);
     if !f.standing {
         return not_live(key, f.looked);
     }
-    if words::word(list, s, f.c, words::MARK) != 1 {
+    if words::word(list, s, f.c, words::MARK) != words::LIVE {
         return not_live(key, f.looked);
     }
     let value = words::word(list, s, f.c, words::VALUE);

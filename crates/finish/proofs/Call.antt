@@ -4,12 +4,13 @@ use mathlib.Core.Bool.{Bool, true, false, false≢true}
 use mathlib.Core.List.{List}
 use Prim.Native.Nat.{ℕ, _-_, _≤_, _<_}
 use Rattle.settings.specs.declared.Settings.{Settings}
-use Rattle.meaning.specs.Reading.{read, Listed}
+use Rattle.meaning.specs.Reading.{read}
 use Rattle.meaning.specs.Refusals.{answer, Meets}
 use Rattle.meaning.specs.Operations.{owesFromFree, finishOut}
-use Rattle.meaning.specs.Stores.{finishWords}
+use Rattle.meaning.specs.Layer.Stores.{finishWords}
 use Rattle.meaning.specs.Words.{lowAt, highAt}
 use Rattle.meaning.specs.declared.Answer.{Answer}
+use Rattle.meaning.specs.Layer.Listed.{Listed}
 use Rattle.meaning.proofs.FinishWords.{finish-words, finish-moved}
 use Rattle.meaning.proofs.Outcomes.{finish-outcome-bad-key, finish-outcome-absent, finish-outcome-standing}
 use Rattle.search.specs.Found.{foundOf}
@@ -36,7 +37,7 @@ module _ {ws : List ℕ} {s : Settings} (h : Listed ws s) (key : ℕ) (least : 1
   pub absent-meets : {r : Answer} → f .standing ≡ false → r ≡ answer 8 key 0 0 → Meets (finishOut ws key) r ws
   absent-meets {r} e a =
       on-listed (λ t ws s. key ≤ s .largest → f ≡ foundOf t key → Meets (finishOut ws key) r ws)
-      (λ t v m q. rw (finish-outcome-absent t v key least m (found-missing v least q e .entry)) (record { answered = a; words = refl })) h most is
+      (λ t v m q. rw (finish-outcome-absent t v key least m (found-missing v least q e .node)) (record { answered = a; words = refl })) h most is
 
   -- the key's cell
   pub standing-cell : f .standing ≡ true → f .c < s .cells
@@ -50,7 +51,7 @@ module _ {ws : List ℕ} {s : Settings} (h : Listed ws s) (key : ℕ) (least : 1
       left ≡ finishWords (s .dimensions) ws (f .c) → Meets (finishOut ws key) r left)
       (λ t v m q n w.
       let (x, found) = found-standing v least q e in
-      rw (finish-outcome-standing t v key least m x (found .entry), ← found .c) (record {
+      rw (finish-outcome-standing t v key least m x (found .node), ← found .c) (record {
         answered = a ∙ ap (answer 0 key 0) (n ∙ sym (finish-moved t v (f .c) (found .c-stands)));
         words = w ∙ sym (finish-words t v (f .c) (found .c-stands));
       }))

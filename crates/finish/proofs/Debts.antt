@@ -9,15 +9,15 @@ use native.Mathlib.Omega.{arith}
 use Rattle.settings.specs.declared.Settings.{Settings}
 use Rattle.meaning.specs.Keys.{shared}
 use Rattle.meaning.specs.Row.{firstOf, Place, placeOf}
-use Rattle.meaning.specs.State.{State}
+use Rattle.meaning.specs.State.{State, placesOf}
 use Rattle.meaning.specs.Picture.{picture}
-use Rattle.meaning.specs.Reading.{Listed}
 use Rattle.meaning.specs.Operations.{owesFromFree}
 use Rattle.meaning.specs.Words.{lowAt, highAt}
+use Rattle.meaning.specs.Layer.Listed.{Listed}
 use Rattle.meaning.proofs.Keys.{shared-le}
 use Rattle.meaning.proofs.State.{Sound, Debt}
-use Rattle.meaning.proofs.SentencesCells.{placesIn, Placed, placed-has, place-low, place-high, free-cell-rest}
-use Rattle.meaning.proofs.PathWithin.{owed-within}
+use Rattle.meaning.proofs.Placed.{Placed, placed-has, place-low, place-high, free-cell-rest}
+use Rattle.meaning.proofs.CellsWithin.{owed-within}
 use Rattle.meaning.proofs.Outcomes.{owed-never-free}
 use Rattle.words.proofs.Listed.{on-listed}
 use Rattle.finish.specs.Payable.{Payable}
@@ -34,7 +34,7 @@ debt-rises false m n h = omega arith
 module _ {t : State} (v : Sound t) where
   -- low and high of a cell
   low-high : (x : ℕ) → x < t .settings .cells → (lowAt (picture t) x ≤ highAt (picture t) x) × (highAt (picture t) x ≤ t .settings .dimensions)
-  low-high x h = at (placeOf x (placesIn t)) refl
+  low-high x h = at (placeOf x (placesOf t (t .row))) refl
     where
       b : ℕ
       b = t .settings .base
@@ -42,18 +42,18 @@ module _ {t : State} (v : Sound t) where
       D : ℕ
       D = t .settings .dimensions
 
-      at : (o : Option Place) → placeOf x (placesIn t) ≡ o → (lowAt (picture t) x ≤ highAt (picture t) x) × (highAt (picture t) x ≤ D)
+      at : (o : Option Place) → placeOf x (placesOf t (t .row)) ≡ o → (lowAt (picture t) x ≤ highAt (picture t) x) × (highAt (picture t) x ≤ D)
       at none e =
           let low = free-cell-rest t x h e 4 (omega arith) (omega arith) in
           let high = free-cell-rest t x h e 5 (omega arith) (omega arith) in
           (omega arith, omega arith)
       at (some p) e =
           let here : Placed t x p = record { found = e } in
-          let debt = placed-has here (λ m. m .entry .owes ≡ true → Debt b D m) (v .debts) in
-          let share = shared b D (p .entry .key) (firstOf (p .later) .key) in
+          let debt = placed-has here (λ m. m .node .owes ≡ true → Debt b D m) (v .debts) in
+          let share = shared b D (p .node .key) (firstOf (p .later) .key) in
           rw (place-low v here, place-high v here) (
-            debt-rises (p .entry .owes) (p .dimension) share (λ owes. debt owes .lower),
-            debt-most (p .entry .owes) share D (shared-le b D (p .entry .key) (firstOf (p .later) .key)),
+            debt-rises (p .node .owes) (p .dimension) share (λ owes. debt owes .lower),
+            debt-most (p .node .owes) share D (shared-le b D (p .node .key) (firstOf (p .later) .key)),
           )
 
   pub payable : (x : ℕ) → x < t .settings .cells → Payable (picture t) (t .settings) x

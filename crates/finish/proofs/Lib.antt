@@ -1,4 +1,4 @@
 -- The laws that finish's proofs rest on, and those that insert and sweep cite.
-pub mod Laws
+pub mod Finishing
 pub mod Debts
 pub mod Call

@@ -1,10 +1,10 @@
 // Finish: what a cell owes is moved to it. "Finishing moves those links from c to n, puts 0 in c and clears the three words."
 ghost use mathlib.Core.Path.{_≡_};
 ghost use Prim.Native.Nat.{_-_, _≤_, _<_};
-ghost use Rattle.meaning.specs.Reading.{Listed};
 ghost use Rattle.meaning.specs.Refusals.{owedNotStanding, answerOf, Meets};
 ghost use Rattle.meaning.specs.Operations.{owesFromFree, finishOut};
-ghost use Rattle.meaning.specs.Stores.{moveLinks, clearDebt, finishWords};
+ghost use Rattle.meaning.specs.Layer.Stores.{moveLinks, clearDebt, finishWords};
+ghost use Rattle.meaning.specs.Layer.Listed.{Listed};
 ghost use Rattle.words.specs.Shaped.{Shaped};
 ghost use Rattle.finish.specs.Payable.{Payable};
 use meaning::Answer;
@@ -22,14 +22,14 @@ pub fn owes_from_free(list: &[u32], s: Settings, x: u32) -> bool
     if s.cells <= owed {
         return true;
     }
-    words::word(list, s, owed, words::MARK) == 0
+    words::word(list, s, owed, words::MARK) == words::FREE
 }
 
 // Refusal 9, for the operations that finish what is owed. On a list a cell owed from stands, so none of them gets here.
 pub fn owed_not_standing() -> Answer
     ensures { λ r. ⌜ r ≡ answerOf owedNotStanding ⌝ }
 {
-    meaning::refused(9)
+    meaning::refused(meaning::OWED_NOT_STANDING)
 }
 
 // Links low to high-1 move from cell c to cell n.
@@ -78,14 +78,14 @@ pub fn finish(list: &mut [u32], s: Settings, key: u32) -> Answer
     ensures { λ r. ⌜ Meets (finishOut (now (list .entry)) key) r (now (list .exit)) ⌝ }
 {
     if key == 0 {
-        return meaning::refused(4);
+        return meaning::refused(meaning::BAD_KEY);
     }
     if s.largest < key {
-        return meaning::refused(4);
+        return meaning::refused(meaning::BAD_KEY);
     }
     let f = search::search(list, s, key);
     if !f.standing {
-        return meaning::refused_at(8, key, 0);
+        return meaning::refused_at(meaning::KEY_NOT_STANDING, key, 0);
     }
     if owes_from_free(list, s, f.c) {
         return owed_not_standing();

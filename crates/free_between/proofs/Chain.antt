@@ -10,14 +10,15 @@ use lib.ListN.{length, getD, set, replicate, length-set}
 use lib.Seq.{sets, getD-set-same, getD-set-other, set-out, ext-getD}
 use Rattle.settings.specs.Numbers.{headerWords, cellWords}
 use Rattle.settings.specs.declared.Settings.{Settings}
-use Rattle.meaning.specs.Picture.{firstNumber, freeWords}
-use Rattle.meaning.specs.Words.{place}
-use Rattle.meaning.specs.Paths.{onward}
-use Rattle.meaning.specs.Stores.{store, linkField, writePath}
-use Rattle.meaning.specs.SweepStores.{takeLinks, relinkHead, freeCell, freeAll, dropFront}
-use Rattle.meaning.proofs.Order.{All, all-map}
-use Rattle.meaning.proofs.Cells.{Distinct, all-each}
-use Rattle.meaning.proofs.Stores.{Exact, wordIn, place-apart, place-above, exact-set, store-same}
+use Rattle.lists.specs.Lists.{firstNumber}
+use Rattle.lists.proofs.Occurrences.{Distinct}
+use Rattle.lists.proofs.All.{All, all-map, all-each}
+use Rattle.meaning.specs.Picture.{freeWords}
+use Rattle.meaning.specs.Words.{wordIndex, firstFreeAt, linkField}
+use Rattle.meaning.specs.Layer.Paths.{onward}
+use Rattle.meaning.specs.Layer.Stores.{store, writePath}
+use Rattle.meaning.specs.Layer.SweepStores.{takeLinks, relinkHead, freeCell, freeAll, dropFront}
+use Rattle.meaning.proofs.Stores.{Exact, wordIn, index-apart, index-above, exact-set, store-same}
 use Rattle.meaning.proofs.SweepStores.{exact-taken, takeLinks-other, exact-relinked, relinkHead-cell, exact-freed, freeCell-own, freeCell-cell}
 use Rattle.paths.specs.declared.Path.{Path}
 use Rattle.paths.specs.Paths.{pathOf, Formed}
@@ -30,21 +31,21 @@ use Rattle.free_between.specs.Between.{cellsUpTo, zerosOf, Droppable, dr
 -- every word is the same but word 1 of some cells
 record Alike (D : ℕ) (cells us ws : List ℕ) : Type 0 where
   size : length us ≡ length ws
-  same : (i : ℕ) → All (λ c. i ≡ place D c 1 → ⊥) cells → getD us i 0 ≡ getD ws i 0
+  same : (i : ℕ) → All (λ c. i ≡ wordIndex D c 1 → ⊥) cells → getD us i 0 ≡ getD ws i 0
 
 -- a word that is not a value word
 alike-word : {D : ℕ} {cells us ws : List ℕ} → Alike D cells us ws → (x j : ℕ) → j < cellWords D → (j ≡ 1 → ⊥) → wordIn D us x j ≡ wordIn D ws x j
-alike-word {D} {cells} a x j h ne = a .same (place D x j) (all-each (λ c e. ne (place-apart D x c j 1 h (omega arith) e .1)) cells)
+alike-word {D} {cells} a x j h ne = a .same (wordIndex D x j) (all-each (λ c e. ne (index-apart D x c j 1 h (omega arith) e .1)) cells)
 
 -- header and path
 alike-below : {D : ℕ} {cells us ws : List ℕ} → Alike D cells us ws → (i : ℕ) → i < headerWords + D → getD us i 0 ≡ getD ws i 0
-alike-below {D} {cells} a i h = a .same i (all-each (λ c e. place-above D c 1 i h e) cells)
+alike-below {D} {cells} a i h = a .same i (all-each (λ c e. index-above D c 1 i h e) cells)
 
 -- the same store in both
 alike-set : {D : ℕ} {cells us ws : List ℕ} → Alike D cells us ws → (i v : ℕ) → Alike D cells (set us i v) (set ws i v)
 alike-set {D} {cells} {us} {ws} a i v = record { size = length-set us i v ∙ a .size ∙ sym (length-set ws i v); same = λ k h. at k h (ℕ-discrete k i) (decLt i (length us)) }
   where
-    at : (k : ℕ) → All (λ c. k ≡ place D c 1 → ⊥) cells → Dec (k ≡ i) → Dec (i < length us) → getD (set us i v) k 0 ≡ getD (set ws i v) k 0
+    at : (k : ℕ) → All (λ c. k ≡ wordIndex D c 1 → ⊥) cells → Dec (k ≡ i) → Dec (i < length us) → getD (set us i v) k 0 ≡ getD (set ws i v) k 0
     at k h (yes e) (yes l) =
         let m = a .size in
         subst (λ n. getD (set us i v) n 0 ≡ getD (set ws i v) n 0) (sym e) (getD-set-same us i v 0 l ∙ sym (getD-set-same ws i v 0 (omega arith)))
@@ -66,24 +67,24 @@ alike-taken {D} {cells} {us} {ws} a x path d (suc k) h =
     alike-taken
     (subst (λ v. Alike D cells (store D us x (linkField D d) (wordIn D us (getD path d 0) (linkField D d))) (store D ws x (linkField D d) v))
     (alike-word a (getD path d 0) (linkField D d) (omega arith) (λ e. omega arith))
-    (alike-set a (place D x (linkField D d)) (wordIn D us (getD path d 0) (linkField D d))))
+    (alike-set a (wordIndex D x (linkField D d)) (wordIn D us (getD path d 0) (linkField D d))))
     x path (suc d) k (omega arith)
 
 alike-relinked : {D : ℕ} {cells us ws : List ℕ} → Alike D cells us ws → (x z : ℕ) → Alike D cells (relinkHead D us x z) (relinkHead D ws x z)
 unfolding relinkHead
-alike-relinked {D} a x z = alike-sets a (place D 0 (linkField D z)) (x ∷ replicate (D - suc z) 0)
+alike-relinked {D} a x z = alike-sets a (wordIndex D 0 (linkField D z)) (x ∷ replicate (D - suc z) 0)
 
 alike-cell : {D : ℕ} {cells us ws : List ℕ} → Alike D cells us ws → (x : ℕ) → Alike D cells (freeCell D us x) (freeCell D ws x)
 unfolding freeCell
 alike-cell {D} {cells} {us} {ws} a x =
-    alike-set (subst (λ v. Alike D cells (sets us (place D x 0) (freeWords D (getD us 4 0))) (sets ws (place D x 0) (freeWords D v))) (alike-below a 4 (omega arith))
-    (alike-sets a (place D x 0) (freeWords D (getD us 4 0)))) 4 x
+    alike-set (subst (λ v. Alike D cells (sets us (wordIndex D x 0) (freeWords D (firstFreeAt us))) (sets ws (wordIndex D x 0) (freeWords D v))) (alike-below a 4 (omega arith))
+    (alike-sets a (wordIndex D x 0) (freeWords D (firstFreeAt us)))) 4 x
 
 -- a cell that becomes free has the same value word too
 alike-freed : {D C x : ℕ} {cells us ws : List ℕ} → Exact D C us → Exact D C ws → x < C → Alike D (x ∷ cells) us ws → Alike D cells (freeCell D us x) (freeCell D ws x)
-alike-freed {D} {C} {x} {cells} {us} {ws} u w h a = record { size = alike-cell a x .size; same = λ i others. at i others (ℕ-discrete i (place D x 1)) }
+alike-freed {D} {C} {x} {cells} {us} {ws} u w h a = record { size = alike-cell a x .size; same = λ i others. at i others (ℕ-discrete i (wordIndex D x 1)) }
   where
-    at : (i : ℕ) → All (λ c. i ≡ place D c 1 → ⊥) cells → Dec (i ≡ place D x 1) → getD (freeCell D us x) i 0 ≡ getD (freeCell D ws x) i 0
+    at : (i : ℕ) → All (λ c. i ≡ wordIndex D c 1 → ⊥) cells → Dec (i ≡ wordIndex D x 1) → getD (freeCell D us x) i 0 ≡ getD (freeCell D ws x) i 0
     at i others (yes e) =
         subst (λ k. getD (freeCell D us x) k 0 ≡ getD (freeCell D ws x) k 0) (sym e)
         (freeCell-own u x h 1 (omega arith) ∙ ap (λ n. getD (freeWords D n) 1 0) (alike-below a 4 (omega arith)) ∙ sym (freeCell-own w x h 1 (omega arith)))
@@ -101,7 +102,7 @@ exact-chained : {D C : ℕ} {ws : List ℕ} → Exact D C ws → (cells : List �
 unfolding chainValues
 exact-chained exact [] = exact
 exact-chained exact (x ∷ []) = exact
-exact-chained {D} exact (x ∷ y ∷ cells) = exact-chained (exact-set exact (place D x 1) y) (y ∷ cells)
+exact-chained {D} exact (x ∷ y ∷ cells) = exact-chained (exact-set exact (wordIndex D x 1) y) (y ∷ cells)
 
 -- only value words of those cells change
 chain-alike : (D : ℕ) (ws cells : List ℕ) → Alike D cells (chainValues D ws cells) ws
@@ -110,7 +111,7 @@ chain-alike D ws [] = record { size = refl; same = λ i h. refl }
 chain-alike D ws (x ∷ []) = record { size = refl; same = λ i h. refl }
 chain-alike D ws (x ∷ y ∷ cells) =
     let more = chain-alike D (store D ws x 1 y) (y ∷ cells) in
-    record { size = more .size ∙ length-set ws (place D x 1) y; same = λ i h. more .same i (h .1) ∙ getD-set-other ws (place D x 1) i y 0 (h .0) }
+    record { size = more .size ∙ length-set ws (wordIndex D x 1) y; same = λ i h. more .same i (h .1) ∙ getD-set-other ws (wordIndex D x 1) i y 0 (h .0) }
 
 -- the value word of each cell but the last holds the next
 abbrev Chained : ℕ → List ℕ → List ℕ → Type 0
@@ -129,10 +130,10 @@ unfolding chainValues
 chain-chained exact [] apart below = tt
 chain-chained exact (x ∷ []) apart below = tt
 chain-chained {D} {C} {ws} exact (x ∷ y ∷ cells) apart below = (
-  chain-alike D (store D ws x 1 y) (y ∷ cells) .same (place D x 1)
-      (all-map (λ c ne e. ne (place-apart D x c 1 1 (omega arith) (omega arith) e .0)) (y ∷ cells) (apart .0))
+  chain-alike D (store D ws x 1 y) (y ∷ cells) .same (wordIndex D x 1)
+      (all-map (λ c ne e. ne (index-apart D x c 1 1 (omega arith) (omega arith) e .0)) (y ∷ cells) (apart .0))
       ∙ store-same exact x 1 y (below .0) (omega arith),
-  chain-chained (exact-set exact (place D x 1) y) (y ∷ cells) (apart .1) (below .1),
+  chain-chained (exact-set exact (wordIndex D x 1) y) (y ∷ cells) (apart .1) (below .1),
 )
 
 -- once the first is free, the others are still chained

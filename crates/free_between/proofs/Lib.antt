@@ -1,4 +1,4 @@
 -- The laws that the proofs of freeing the cells between rest on.
-pub mod Laws
+pub mod Between
 pub mod Ways
 pub mod Chain

@@ -8,14 +8,15 @@ use native.Mathlib.Omega.{arith}
 use lib.Dec.{eqb}
 use lib.ListN.{length, getD, replicate}
 use Rattle.settings.specs.declared.Settings.{Settings}
-use Rattle.meaning.specs.Picture.{firstNumber}
-use Rattle.meaning.specs.Paths.{onward, NextCell, nextFrom}
-use Rattle.meaning.specs.Stores.{store}
-use Rattle.meaning.specs.SweepStores.{cellsBefore}
+use Rattle.lists.specs.Lists.{firstNumber}
+use Rattle.meaning.specs.Layer.Paths.{onward, NextCell, nextFrom}
+use Rattle.meaning.specs.Layer.Stores.{store}
+use Rattle.meaning.specs.Layer.SweepStores.{cellsBefore}
+use Rattle.meaning.specs.Words.{dimensionsAt}
 use Rattle.meaning.proofs.Stores.{store-below}
 use Rattle.meaning.proofs.SweepTarget.{before-here, before-past}
 use Rattle.words.specs.Shaped.{Shaped}
-use Rattle.words.proofs.Laws.{shaped-dimensions}
+use Rattle.words.proofs.Shaped.{shaped-dimensions}
 use Rattle.paths.specs.declared.Path.{Path}
 use Rattle.paths.specs.declared.Reached.{Reached}
 use Rattle.paths.specs.Paths.{pathOf, PathIn, Walkable, NextIs}
@@ -32,10 +33,10 @@ before-more zero ws x path h = absurd (omega arith)
 before-more (suc f) ws x path h = at (eqb (next .cell) x) h (before-more f ws x there)
   where
     next : NextCell
-    next = nextFrom ws path (getD ws 0 0)
+    next = nextFrom ws path (dimensionsAt ws)
 
     there : List ℕ
-    there = onward (getD ws 0 0) path (next .number) (next .cell)
+    there = onward (dimensionsAt ws) path (next .number) (next .cell)
 
     at : (t : Bool) → length (cond t [] (next .cell ∷ cellsBefore f ws x there)) < suc f →
         (length (cellsBefore f ws x there) < f → cellsBefore (suc f) ws x there ≡ cellsBefore f ws x there) →
@@ -45,7 +46,7 @@ before-more (suc f) ws x path h = at (eqb (next .cell) x) h (before-more f ws x 
 
 -- One step, with as many cells allowed as before
 
-module _ (ws : List ℕ) (D : ℕ) (is-D : getD ws 0 0 ≡ D) where
+module _ (ws : List ℕ) (D : ℕ) (is-D : dimensionsAt ws ≡ D) where
   step-here : (C x : ℕ) (path : List ℕ) (e : ℕ) → 0 < C → nextFrom ws path D ≡ record { cell = x; number = e } → cellsBefore C ws x path ≡ []
   step-here zero x path e h next = absurd (omega arith)
   step-here (suc c) x path e h next = before-here ws D is-D c x path e next
@@ -98,13 +99,13 @@ module _ {ws : List ℕ} {s : Settings} (h : Shaped ws s) (x v : ℕ) where
       ap₂ {C = List ℕ}
       (λ D t. cond (eqb (t .cell) y) [] (t .cell ∷ cellsBefore f (store (s .dimensions) ws x 1 v) y (onward D path (t .number) (t .cell)))) first same
       ∙ ap {B = List ℕ} (λ cells. cond (eqb (next .cell) y) [] (next .cell ∷ cells))
-      (value-before f y (onward (getD ws 0 0) path (next .number) (next .cell)))
+      (value-before f y (onward (dimensionsAt ws) path (next .number) (next .cell)))
     where
-      first : getD (store (s .dimensions) ws x 1 v) 0 0 ≡ getD ws 0 0
+      first : getD (store (s .dimensions) ws x 1 v) 0 0 ≡ dimensionsAt ws
       first = store-below (s .dimensions) ws x 1 v 0 (omega arith)
 
       next : NextCell
-      next = nextFrom ws path (getD ws 0 0)
+      next = nextFrom ws path (dimensionsAt ws)
 
       same : nextFrom (store (s .dimensions) ws x 1 v) path (getD (store (s .dimensions) ws x 1 v) 0 0) ≡ next
       same =

@@ -5,11 +5,11 @@ use mathlib.Core.List.{List, [], _∷_}
 use Prim.Native.Nat.{ℕ, zero, suc, _^_, _≤_, _<_}
 use lib.ListN.{length, getD, replicate}
 use Rattle.settings.specs.declared.Settings.{Settings}
+use Rattle.lists.specs.Lists.{firstNumber}
 use Rattle.meaning.specs.Keys.{coordinate, shared}
-use Rattle.meaning.specs.Picture.{firstNumber}
-use Rattle.meaning.specs.Words.{place, keyAt, coordinateAt}
-use Rattle.meaning.specs.Stores.{store}
-use Rattle.meaning.specs.SweepStores.{cellsBefore, freeCell, dropFront}
+use Rattle.meaning.specs.Words.{wordIndex, keyAt, coordinateAt}
+use Rattle.meaning.specs.Layer.Stores.{store}
+use Rattle.meaning.specs.Layer.SweepStores.{cellsBefore, freeCell, dropFront}
 use Rattle.words.specs.Shaped.{Shaped}
 use Rattle.paths.specs.Paths.{pathOf, PathIn, Walkable}
 use Rattle.free_between.specs.declared.Target.{Target}
@@ -72,12 +72,12 @@ chainValues D ws (x ∷ y ∷ xs) = chainValues D (store D ws x 1 y) (y ∷ xs)
 -- n cells become free: x, and each next one that the value word of the one before holds
 unfoldable pub freeChained : ℕ → List ℕ → ℕ → ℕ → List ℕ
 freeChained D ws x zero = ws
-freeChained D ws x (suc n) = freeChained D (freeCell D ws x) (getD ws (place D x 1) 0) n
+freeChained D ws x (suc n) = freeChained D (freeCell D ws x) (getD ws (wordIndex D x 1) 0) n
 
 -- n cells chained through their value words from x on are the list's, as they become free one after the other
 abbrev pub ChainIn : Settings → List ℕ → ℕ → ℕ → Type 0
 ChainIn s ws x zero = Unit {0}
-ChainIn s ws x (suc n) = (x < s .cells) × ChainIn s (freeCell (s .dimensions) ws x) (getD ws (place (s .dimensions) x 1) 0) n
+ChainIn s ws x (suc n) = (x < s .cells) × ChainIn s (freeCell (s .dimensions) ws x) (getD ws (wordIndex (s .dimensions) x 1) 0) n
 
 -- cell `first`, which has a path, and the cells after it and before cell x are chained, and they are r
 pub record ChainedFrom (ws : List ℕ) (s : Settings) (x first : ℕ) (path : List ℕ) (r : ℕ) (after : List ℕ) : Type 0 where

@@ -6,8 +6,8 @@ ghost use Prim.Native.Nat.{suc, _-_, _≤_, _<_};
 ghost use lib.ListN.{length, getD, replicate};
 ghost use lib.Seq.{sets};
 ghost use Rattle.settings.specs.Numbers.{cellWords};
-ghost use Rattle.meaning.specs.Words.{place};
-ghost use Rattle.meaning.specs.SweepStores.{takeLinks, relinkHead, freeCell};
+ghost use Rattle.meaning.specs.Words.{wordIndex};
+ghost use Rattle.meaning.specs.Layer.SweepStores.{takeLinks, relinkHead, freeCell};
 ghost use Rattle.words.specs.Shaped.{Shaped, Within};
 ghost use Rattle.paths.specs.Paths.{pathOf, Formed, PathIn, Walkable};
 ghost use Rattle.free_between.specs.Between.{cellsUpTo, Reaches, zerosOf, Keyed, Droppable, droppedTo, freeChained, ChainIn, ChainedFrom, ChainedUpTo};
@@ -105,12 +105,12 @@ fn take_links(list: &mut [u32], s: Settings, t: Target, z: u32)
 // Word j of cell x becomes v, the words after it 0.
 fn store_before_zeros(list: &mut [u32], s: Settings, x: u32, j: u32, v: u32)
     requires { ⌜ Shaped (now list) s × Within s x j ⌝ }
-    ensures { λ r. ⌜ (now (list .exit) ≡ sets (now (list .entry)) (place (s .dimensions) x j) (v ∷ replicate (cellWords (s .dimensions) - suc j) 0)) × Shaped (now (list .exit)) s ⌝ }
+    ensures { λ r. ⌜ (now (list .exit) ≡ sets (now (list .entry)) (wordIndex (s .dimensions) x j) (v ∷ replicate (cellWords (s .dimensions) - suc j) 0)) × Shaped (now (list .exit)) s ⌝ }
 {
     words::store(list, s, x, j, v);
-    let start = words::place(s, x, j) + 1;
+    let start = words::word_index(s, x, j) + 1;
     let end = start + (words::COORDINATES + 2 * s.dimensions - 1 - j) as usize;
-    words::fill(&mut list[start..end], 0);
+    lists::fill(&mut list[start..end], 0);
 }
 
 // The head's link z leads to the new position, its higher links nowhere.

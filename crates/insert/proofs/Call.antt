@@ -12,23 +12,25 @@ use lib.Seq.{sets}
 use borrow.Author.Tests.{eq-eqb, ne-eqb, le-leb}
 use Rattle.settings.specs.Numbers.{headerWords}
 use Rattle.settings.specs.declared.Settings.{Settings}
-use Rattle.meaning.specs.Row.{Entry, entryAt}
+use Rattle.lists.specs.Lists.{firstNumber}
+use Rattle.lists.proofs.All.{All, all-map}
+use Rattle.meaning.specs.Row.{Node, nodeAt}
 use Rattle.meaning.specs.State.{State, positionKey}
-use Rattle.meaning.specs.Picture.{firstNumber, mark, path, picture}
-use Rattle.meaning.specs.Reading.{read, Listed}
+use Rattle.meaning.specs.Picture.{mark, path, picture}
+use Rattle.meaning.specs.Reading.{read}
 use Rattle.meaning.specs.Refusals.{answer, Meets, accepted}
-use Rattle.meaning.specs.Words.{place, wordAt, markAt}
+use Rattle.meaning.specs.Words.{wordIndex, wordAt, markAt, firstFreeAt, linkField}
 use Rattle.meaning.specs.Operations.{owesFromFree, positionAfter, revived, Slot, slotFor, added, insertOut}
-use Rattle.meaning.specs.Stores.{store, linkField, finishWords, writePath, writeEntry, newWords, insertWords, paidWords}
+use Rattle.meaning.specs.Layer.Stores.{store, finishWords, writePath, writeNode, newWords, insertWords, paidWords}
 use Rattle.meaning.specs.declared.Answer.{Answer}
-use Rattle.meaning.proofs.Order.{All, all-map}
+use Rattle.meaning.specs.Layer.Listed.{Listed}
 use Rattle.meaning.proofs.State.{Sound, sound-valid}
 use Rattle.meaning.proofs.Cells.{free-range}
 use Rattle.meaning.proofs.Slot.{first-free-all}
 use Rattle.meaning.proofs.Picture.{picture-free, path-length}
 use Rattle.meaning.proofs.Reading.{mark-live}
-use Rattle.meaning.proofs.SentencesCells.{place-mark}
-use Rattle.meaning.proofs.BookRow.{entry-key}
+use Rattle.meaning.proofs.Placed.{place-mark}
+use Rattle.meaning.proofs.BookRow.{node-key}
 use Rattle.meaning.proofs.Stores.{Exact, picture-exact, exact-set, exact-sets, exact-finished, header-set-path, store-below, cell-sets-below, path-sets-same, finishWords-below}
 use Rattle.meaning.proofs.Changed.{picture-path-word}
 use Rattle.meaning.proofs.KeepsFinish.{finished-sound}
@@ -38,15 +40,15 @@ use Rattle.meaning.proofs.TakeWords.{revived-words, revived-words-above}
 use Rattle.meaning.proofs.InsertWords.{added-words, added-path, added-position-parent}
 use Rattle.meaning.proofs.Outcomes.{insert-outcome-bad-key, insert-outcome-live, insert-outcome-dead, insert-outcome-full, insert-outcome-new}
 use Rattle.words.specs.Shaped.{Shaped}
-use Rattle.words.proofs.Laws.{word-is}
+use Rattle.words.proofs.Shaped.{word-is}
 use Rattle.search.specs.Found.{foundOf}
 use Rattle.search.specs.declared.Found.{Found}
 use Rattle.words.proofs.Listed.{on-listed}
-use Rattle.search.proofs.Slots.{Present, SlotFound, entry-placed, found-standing, found-missing, found-slot}
+use Rattle.search.proofs.Slots.{Present, SlotFound, node-placed, found-standing, found-missing, found-slot}
 use Rattle.new_cell.specs.NewCell.{slotOf, Fits}
 use Rattle.finish.specs.Payable.{Payable}
 use Rattle.finish.proofs.Debts.{payable, listed-payable, listed-owes}
-use Rattle.insert.specs.Inserting.{Sought, Ending, Due, PathWritten}
+use Rattle.insert.specs.Inserting.{Sought, Ending, EndsInSome, PathWritten}
 
 -- what holds of each state in order, its picture and its settings, where the search has answered so, holds of the list
 on-sought :
@@ -69,7 +71,7 @@ pub record Leads (ws us : List ℕ) (s : Settings) (top key value : ℕ) (f : Fo
 
 module _ {ws us : List ℕ} {s : Settings} {top key value : ℕ} {f : Found} (l : Leads ws us s top key value f) where
   -- what is asked before the path is written
-  pub leads-due : {left : List ℕ} {high : ℕ} → left ≡ us → high ≡ top → Due left s high key (f .parent)
+  pub leads-due : {left : List ℕ} {high : ℕ} → left ≡ us → high ≡ top → EndsInSome left s high key (f .parent)
   leads-due e h = record { state = l .state; ending = rw (e, h) (l .ending) }
 
   -- what is left after it
@@ -87,10 +89,10 @@ mark-told live e one = sym (mark-live live) ∙ eq-eqb (mark live) 1 (sym e ∙ 
 mark-dead : (live : Bool) {m : ℕ} → m ≡ mark live → (m ≡ 1 → ⊥) → live ≡ false
 mark-dead live e other = sym (mark-live live) ∙ ne-eqb (mark live) 1 (λ q. other (e ∙ q))
 
-module _ {t : State} (v : Sound t) {key : ℕ} {x : Entry} {f : Found} (found : Present t key x f) where
+module _ {t : State} (v : Sound t) {key : ℕ} {x : Node} {f : Found} (found : Present t key x f) where
   present-mark : markAt (picture t) (f .c) ≡ mark (x .live)
   present-mark =
-      let (p, here) = entry-placed v key x (found .entry) in
+      let (p, here) = node-placed v key x (found .node) in
       ap (markAt (picture t)) (found .c) ∙ place-mark v (here .0) ∙ ap (λ y. mark (y .live)) (here .1)
 
   -- the parent becomes the position, where the key is at or below it
@@ -99,21 +101,21 @@ module _ {t : State} (v : Sound t) {key : ℕ} {x : Entry} {f : Found} (found : 
   revived-lowered value h = rw (le-leb (x .key) (positionKey t) h) (sym (found .parent-revived value))
 
   revived-leads : 1 ≤ key → key ≤ t .settings .largest → (value : ℕ) → x .live ≡ false →
-      Leads (picture t) (writeEntry (t .settings .dimensions) (picture t) (f .c) value 1) (t .settings) (positionKey t) key value f
+      Leads (picture t) (writeNode (t .settings .dimensions) (picture t) (f .c) value 1) (t .settings) (positionKey t) key value f
   revived-leads least most value dead =
-      let same = entry-key key x (t .row) (found .entry) in
-      let entry = ap (λ k. entryAt k (t .row)) same ∙ found .entry in
+      let same = node-key key x (t .row) (found .node) in
+      let node = ap (λ k. nodeAt k (t .row)) same ∙ found .node in
       record {
         state = revived t x value;
         ending = rw (found .c)
             (record {
-              order = sound-valid (revived t x value) (revived-sound t x value v entry dead);
+              order = sound-valid (revived t x value) (revived-sound t x value v node dead);
               settings = settings;
-              words = revived-words t x value v entry;
+              words = revived-words t x value v node;
               lowered = λ h. revived-lowered value (omega (arith, same));
-              kept = λ h. revived-words-above t x value v entry (omega (arith, same));
+              kept = λ h. revived-words-above t x value v node (omega (arith, same));
             });
-        outcome = insert-outcome-dead t v key value least most x (found .entry) dead ∙ ap (λ n. accepted key 0 n (picture (revived t x value))) (sym (found .looked));
+        outcome = insert-outcome-dead t v key value least most x (found .node) dead ∙ ap (λ n. accepted key 0 n (picture (revived t x value))) (sym (found .looked));
       }
     where
       settings : revived t x value .settings ≡ t .settings
@@ -128,14 +130,14 @@ module _ {ws : List ℕ} {s : Settings} {key : ℕ} {f : Found} (k : Sought ws s
       on-sought (λ t ws s. m ≡ markAt ws (f .c) → Meets (insertOut ws key value) r ws) k
       (λ t v most q e.
       let (x, found) = found-standing v (k .least) q stands in
-      rw (insert-outcome-live t v key value (k .least) most x (found .entry) (mark-told (x .live) (e ∙ present-mark v found) one))
+      rw (insert-outcome-live t v key value (k .least) most x (found .node) (mark-told (x .live) (e ∙ present-mark v found) one))
       (record { answered = a ∙ ap (answer 5 key 0) (found .looked); words = refl }))
       word
 
   pub dead-leads : (value : ℕ) → (markAt ws (f .c) ≡ 1 → ⊥) →
-      Leads ws (writeEntry (s .dimensions) ws (f .c) value 1) s (positionKey (read ws)) key value f
+      Leads ws (writeNode (s .dimensions) ws (f .c) value 1) s (positionKey (read ws)) key value f
   dead-leads value other =
-      on-sought (λ t ws s. (markAt ws (f .c) ≡ 1 → ⊥) → Leads ws (writeEntry (s .dimensions) ws (f .c) value 1) s (positionKey t) key value f) k
+      on-sought (λ t ws s. (markAt ws (f .c) ≡ 1 → ⊥) → Leads ws (writeNode (s .dimensions) ws (f .c) value 1) s (positionKey t) key value f) k
       (λ t v most q no.
       let (x, found) = found-standing v (k .least) q stands in
       revived-leads v found (k .least) most value (mark-dead (x .live) (present-mark v found) no))
@@ -168,7 +170,7 @@ same-slot b D ws key value n g e = rw (same-words b D key value n g, g .parent, 
 pub new-written :
     {paid : List ℕ} {s : Settings} → Shaped paid s → (ws : List ℕ) (key value n : ℕ) (f : Found) {next : ℕ} {cell us : List ℕ} →
     paid ≡ paidWords (s .dimensions) ws (f .parent) (f .c) → next ≡ wordAt paid n 0 →
-    cell ≡ sets (set paid 4 next) (place (s .dimensions) n 0) (newWords (s .base) (s .dimensions) key value (slotOf n f)) →
+    cell ≡ sets (set paid 4 next) (wordIndex (s .dimensions) n 0) (newWords (s .base) (s .dimensions) key value (slotOf n f)) →
     us ≡ store (s .dimensions) cell (f .parent) (linkField (s .dimensions) (f .p)) n → us ≡ insertWords (s .base) (s .dimensions) ws key value (slotOf n f)
 unfolding insertWords
 new-written h ws key value n f pays reads writes links = rw (links, writes, reads, ← word-is h n 0 refl, pays) refl
@@ -177,7 +179,7 @@ new-written h ws key value n f pays reads writes links = rw (links, writes, read
 
 exact-inserted : {D C : ℕ} {ws : List ℕ} → Exact D C ws → (b key value : ℕ) (t : Slot) → Exact D C (insertWords b D ws key value t)
 unfolding insertWords
-exact-inserted {D} {C} {ws} exact b key value t = exact-set (exact-sets (exact-set (at (eqb (t .c) 0)) 4 _) (place D (t .n) 0) (newWords b D key value t)) (place D (t .parent) (linkField D (t .p))) (t .n)
+exact-inserted {D} {C} {ws} exact b key value t = exact-set (exact-sets (exact-set (at (eqb (t .c) 0)) 4 _) (wordIndex D (t .n) 0) (newWords b D key value t)) (wordIndex D (t .parent) (linkField D (t .p))) (t .n)
   where
     at : (r : Bool) → Exact D C (cond r (finishWords D ws (t .parent)) (finishWords D (finishWords D ws (t .parent)) (t .c)))
     at true = exact-finished exact (t .parent)
@@ -187,9 +189,9 @@ inserted-path : (b D : ℕ) (ws : List ℕ) (key value : ℕ) (t : Slot) (d : �
 unfolding insertWords
 inserted-path b D ws key value t d h =
     let paid = paidWords D ws (t .parent) (t .c) in
-    let next = getD paid (place D (t .n) 0) 0 in
+    let next = getD paid (wordIndex D (t .n) 0) 0 in
     let cell = newWords b D key value t in
-    store-below D (sets (set paid 4 next) (place D (t .n) 0) cell) (t .parent) (linkField D (t .p)) (t .n) (headerWords + d) (omega arith)
+    store-below D (sets (set paid 4 next) (wordIndex D (t .n) 0) cell) (t .parent) (linkField D (t .p)) (t .n) (headerWords + d) (omega arith)
     ∙ cell-sets-below D (set paid 4 next) (t .n) 0 cell (headerWords + d) (omega arith)
     ∙ header-set-path paid 4 next d (omega arith)
     ∙ at (eqb (t .c) 0)
@@ -219,7 +221,7 @@ module _ {t : State} (v : Sound t) (key value : ℕ) (least : 1 ≤ key) (most :
       let b = t .settings .base in
       let D = t .settings .dimensions in
       let absent = found-missing v least is missing in
-      let none = absent .entry in
+      let none = absent .node in
       let words = added-words t v key value least most none room in
       record {
         state = after;
@@ -258,15 +260,15 @@ module _ {ws : List ℕ} {s : Settings} {key : ℕ} {f : Found} (k : Sought ws s
   q-none : f .c ≡ 0 → f .q ≡ 0
   q-none = on-sought (λ t ws s. f .c ≡ 0 → f .q ≡ 0) k (λ t v m q. found-missing v (k .least) q missing .q-none)
 
-  pub new-cell : {n : ℕ} → n ≡ getD ws 4 0 → 0 < n → n < s .cells
+  pub new-cell : {n : ℕ} → n ≡ firstFreeAt ws → 0 < n → n < s .cells
   new-cell {n} e h =
-      on-sought (λ t ws s. n ≡ getD ws 4 0 → n < s .cells) k
+      on-sought (λ t ws s. n ≡ firstFreeAt ws → n < s .cells) k
       (λ t v m q word.
       let first = word ∙ picture-free t in
       rw first (first-free-all (λ c. (0 < c) × (c < t .settings .cells)) (t .free) (free-some (t .free) first h) (free-range t v) .1))
       e
 
-  pub new-fits : {n : ℕ} → n ≡ getD ws 4 0 → 0 < n → Fits s n f
+  pub new-fits : {n : ℕ} → n ≡ firstFreeAt ws → 0 < n → Fits s n f
   new-fits e h = record { cell = new-cell e h; link = q-link; none = q-none }
 
   -- what the parent owes can be finished, and then what c owes
@@ -281,13 +283,13 @@ module _ {ws : List ℕ} {s : Settings} {key : ℕ} {f : Found} (k : Sought ws s
       subst (λ us. Payable us (t .settings) (f .c)) (finish-words t v (f .parent) (absent .parent-stands))
       (payable (finished-sound t (f .parent) v) (f .c) (absent .c-below)))
 
-  pub full-meets : (value : ℕ) {r : Answer} {n : ℕ} → n ≡ getD ws 4 0 → n ≡ 0 → r ≡ answer 6 key 0 (f .looked) → Meets (insertOut ws key value) r ws
+  pub full-meets : (value : ℕ) {r : Answer} {n : ℕ} → n ≡ firstFreeAt ws → n ≡ 0 → r ≡ answer 6 key 0 (f .looked) → Meets (insertOut ws key value) r ws
   full-meets value {r} {n} word none a =
-      on-sought (λ t ws s. n ≡ getD ws 4 0 → Meets (insertOut ws key value) r ws) k
+      on-sought (λ t ws s. n ≡ firstFreeAt ws → Meets (insertOut ws key value) r ws) k
       (λ t v most q e.
       let absent = found-missing v (k .least) q missing in
       let positive = all-map (λ c h. h .0) (t .free) (free-range t v) in
-      rw (insert-outcome-full t v key value (k .least) most (absent .entry) (free-none (t .free) positive (e ∙ picture-free t) none))
+      rw (insert-outcome-full t v key value (k .least) most (absent .node) (free-none (t .free) positive (e ∙ picture-free t) none))
       (record { answered = a ∙ ap (answer 6 key 0) (absent .looked); words = refl }))
       word
 
@@ -298,10 +300,10 @@ module _ {ws : List ℕ} {s : Settings} {key : ℕ} {f : Found} (k : Sought ws s
       let none : (owesFromFree ws (f .parent) || owesFromFree ws (f .c)) ≡ false = rw (listed-owes (k .list) (f .parent), listed-owes (k .list) (f .c)) refl in
       absurd (false≢true (sym (e ∙ none) ∙ owes))
 
-  pub new-leads : (value : ℕ) {n : ℕ} → n ≡ getD ws 4 0 → 0 < n →
+  pub new-leads : (value : ℕ) {n : ℕ} → n ≡ firstFreeAt ws → 0 < n →
       Leads ws (insertWords (s .base) (s .dimensions) ws key value (slotOf n f)) s (positionKey (read ws)) key value f
   new-leads value {n} e h =
-      on-sought (λ t ws s. n ≡ getD ws 4 0 → Leads ws (insertWords (s .base) (s .dimensions) ws key value (slotOf n f)) s (positionKey t) key value f) k
+      on-sought (λ t ws s. n ≡ firstFreeAt ws → Leads ws (insertWords (s .base) (s .dimensions) ws key value (slotOf n f)) s (positionKey t) key value f) k
       (λ t v most q word.
       let first = word ∙ picture-free t in
       added-leads v key value (k .least) most q missing (free-some (t .free) first h) first)

@@ -1,4 +1,4 @@
 -- Laws for the proofs of insert.
-pub mod Laws
+pub mod Inserting
 pub mod Position
 pub mod Call

@@ -6,20 +6,22 @@ use native.Mathlib.Omega.{arith}
 use lib.ListN.{getD}
 use Rattle.settings.specs.Numbers.{headerWords}
 use Rattle.settings.specs.declared.Settings.{Settings}
-use Rattle.meaning.specs.Row.{headEntry}
-use Rattle.meaning.specs.State.{State, keyOf, positionKey, occurrences}
+use Rattle.lists.specs.Lists.{occurrences}
+use Rattle.meaning.specs.Row.{headNode}
+use Rattle.meaning.specs.State.{State, keyOf, positionKey}
 use Rattle.meaning.specs.Picture.{path, picture}
-use Rattle.meaning.specs.Paths.{pathFor}
-use Rattle.meaning.specs.Reading.{read, Listed}
-use Rattle.meaning.specs.Stores.{writePath}
+use Rattle.meaning.specs.Layer.Paths.{pathFor}
+use Rattle.meaning.specs.Reading.{read}
+use Rattle.meaning.specs.Layer.Stores.{writePath}
 use Rattle.meaning.specs.Words.{keyAt}
+use Rattle.meaning.specs.Layer.Listed.{Listed}
 use Rattle.meaning.proofs.State.{valid-sound}
 use Rattle.meaning.proofs.Reading.{position-read}
-use Rattle.meaning.proofs.SentencesCells.{placed-keyOf, placed-below, place-key, position-placed}
+use Rattle.meaning.proofs.Placed.{placed-keyOf, placed-below, place-key, position-placed}
 use Rattle.words.proofs.Listed.{on-listed}
-use Rattle.paths.specs.Paths.{pathOf, StandsIn, Standing, CellPath}
+use Rattle.paths.specs.Paths.{pathOf, StandsIn, StandsInSome, CellPath}
 use Rattle.paths.specs.declared.Path.{Path}
-use Rattle.insert.specs.Inserting.{Ending, Due, PathWritten}
+use Rattle.insert.specs.Inserting.{Ending, EndsInSome, PathWritten}
 
 -- the last word of path is a cell, and that cell's key is the position's
 pub position-word :
@@ -48,11 +50,11 @@ module _ {ws : List ℕ} {s : Settings} {top key parent : ℕ} where
         stands = subst (λ c. 0 < occurrences c (0 ∷ map (λ y. y .cell) (t .row))) (e .lowered h) (valid-sound t (e .order) .position);
       }
 
-  pub due-standing : key ≤ top → Due ws s top key parent → Standing ws s parent
+  pub due-standing : key ≤ top → EndsInSome ws s top key parent → StandsInSome ws s parent
   due-standing h d = record { state = d .state; in-it = ending-stands h (d .ending) }
 
   -- and its path is the one of the state
-  ending-path : {t : State} → key ≤ top → Ending ws s top key parent t → pathFor (s .base) (s .dimensions) (t .row) (keyOf parent (headEntry ∷ t .row)) ≡ path t
+  ending-path : {t : State} → key ≤ top → Ending ws s top key parent t → pathFor (s .base) (s .dimensions) (t .row) (keyOf parent (headNode ∷ t .row)) ≡ path t
   unfolding path pathFor
   ending-path h e = rw (← e .lowered h, ← e .settings) refl
 

@@ -6,8 +6,9 @@ use Prim.Native.Nat.{ℕ, _≤_, _<_}
 use Rattle.settings.specs.declared.Settings.{Settings}
 use Rattle.meaning.specs.State.{State, valid}
 use Rattle.meaning.specs.Picture.{path, picture}
-use Rattle.meaning.specs.Reading.{read, Listed}
-use Rattle.meaning.specs.Stores.{writePath}
+use Rattle.meaning.specs.Reading.{read}
+use Rattle.meaning.specs.Layer.Stores.{writePath}
+use Rattle.meaning.specs.Layer.Listed.{Listed}
 use Rattle.search.specs.Found.{foundOf}
 use Rattle.search.specs.declared.Found.{Found}
 
@@ -28,7 +29,7 @@ pub record Ending (ws : List ℕ) (s : Settings) (top key parent : ℕ) (t : Sta
   pub kept : top < key → picture t ≡ ws
 
 -- the words end so at some state
-pub record Due (ws : List ℕ) (s : Settings) (top key parent : ℕ) : Type 0 where
+pub record EndsInSome (ws : List ℕ) (s : Settings) (top key parent : ℕ) : Type 0 where
   pub state : State
   pub ending : Ending ws s top key parent state
 

@@ -4,14 +4,15 @@ ghost use mathlib.Core.Bool.{true, false, _||_};
 ghost use Prim.Native.Nat.{_<_};
 ghost use lib.ListN.{getD};
 ghost use Rattle.meaning.specs.State.{positionKey};
-ghost use Rattle.meaning.specs.Reading.{read, Listed};
+ghost use Rattle.meaning.specs.Reading.{read};
 ghost use Rattle.meaning.specs.Refusals.{Meets};
 ghost use Rattle.meaning.specs.Operations.{owesFromFree, insertOut};
 ghost use Rattle.meaning.specs.Words.{markAt};
-ghost use Rattle.meaning.specs.Stores.{finishWords, paidWords};
+ghost use Rattle.meaning.specs.Layer.Stores.{finishWords, paidWords};
+ghost use Rattle.meaning.specs.Layer.Listed.{Listed};
 ghost use Rattle.words.specs.Shaped.{Shaped};
 ghost use Rattle.finish.specs.Payable.{Payable};
-ghost use Rattle.insert.specs.Inserting.{Sought, Due, PathWritten};
+ghost use Rattle.insert.specs.Inserting.{Sought, EndsInSome, PathWritten};
 use meaning::Answer;
 use search::Found;
 use settings::Settings;
@@ -28,7 +29,7 @@ fn position_key(list: &[u32], s: Settings) -> u32
 // "If the key is at or below the position's, the position becomes the parent of that cell in the settled shape." The position's key
 // before the call is `top`.
 fn move_position(list: &mut [u32], s: Settings, top: u32, key: u32, parent: u32)
-    requires { ⌜ Shaped (now list) s × Due (now list) s top key parent ⌝ }
+    requires { ⌜ Shaped (now list) s × EndsInSome (now list) s top key parent ⌝ }
     ensures { λ r. ⌜ PathWritten (now (list .entry)) (now (list .exit)) s top key parent ⌝ }
 {
     if top < key {
@@ -45,7 +46,7 @@ fn revive(list: &mut [u32], s: Settings, f: Found, key: u32, value: u32)
 {
     let top = position_key(list, s);
     words::store(list, s, f.c, words::VALUE, value);
-    words::store(list, s, f.c, words::MARK, 1);
+    words::store(list, s, f.c, words::MARK, words::LIVE);
     move_position(list, s, top, key, f.parent);
 }
 
@@ -93,8 +94,8 @@ fn insert_standing(list: &mut [u32], s: Settings, f: Found, key: u32, value: u32
     requires { ⌜ Sought (now list) s key f × (f .standing ≡ true) ⌝ }
     ensures { λ r. ⌜ Meets (insertOut (now (list .entry)) key value) r (now (list .exit)) ⌝ }
 {
-    if words::word(list, s, f.c, words::MARK) == 1 {
-        return meaning::refused_at(5, key, f.looked);
+    if words::word(list, s, f.c, words::MARK) == words::LIVE {
+        return meaning::refused_at(meaning::KEY_LIVE, key, f.looked);
     }
     revive(list, s, f, key, value);
     meaning::accepted(key, 0, f.looked)
@@ -107,7 +108,7 @@ fn insert_new(list: &mut [u32], s: Settings, f: Found, key: u32, value: u32) -> 
 {
     let n = list[words::FIRST_FREE];
     if n == 0 {
-        return meaning::refused_at(6, key, f.looked);
+        return meaning::refused_at(meaning::NO_FREE_CELL, key, f.looked);
     }
     if slot_owes_from_free(list, s, f) {
         return finish::owed_not_standing();
@@ -122,10 +123,10 @@ pub fn insert(list: &mut [u32], s: Settings, key: u32, value: u32) -> Answer
     ensures { λ r. ⌜ Meets (insertOut (now (list .entry)) key value) r (now (list .exit)) ⌝ }
 {
     if key == 0 {
-        return meaning::refused(4);
+        return meaning::refused(meaning::BAD_KEY);
     }
     if s.largest < key {
-        return meaning::refused(4);
+        return meaning::refused(meaning::BAD_KEY);
     }
     let f = search::search(list, s, key);
     if f.standing {

@@ -6,39 +6,39 @@ use Prim.Native.Nat.{ℕ, zero, suc, _-_, _≤_, _<_}
 use native.Mathlib.Nat.{sub-zero}
 use native.Mathlib.Omega.{arith}
 use lib.Dec.{eqb}
-use lib.ListN.{length, getD}
+use lib.ListN.{length}
 use borrow.Author.Tests.{not-true, eq-eqb, ne-eqb}
 use Rattle.settings.specs.Numbers.{lengthOf, inRange}
 use Rattle.settings.specs.Base.{isBase}
 use Rattle.settings.specs.declared.Settings.{Settings}
-use Rattle.meaning.specs.Words.{wordAt}
+use Rattle.lists.proofs.Tests.{both, and-both}
+use Rattle.meaning.specs.Words.{wordAt, dimensionsAt, largestAt, cellsAt, baseAt, positionAt, firstFreeAt}
 use Rattle.meaning.specs.Reading.{settingsAt}
-use Rattle.meaning.proofs.Order.{both, and-both}
 use Rattle.words.specs.Shaped.{Shaped}
-use Rattle.words.proofs.Laws.{shaped-dimensions, shaped-cells}
+use Rattle.words.proofs.Shaped.{shaped-dimensions, shaped-cells}
 use Rattle.tree.specs.declared.Seen.{Seen}
-use Rattle.tree.specs.Tree.{pathRun, positionWord, headRight, atHead, freeRight, chainRight, headerRight, seenAll, accepts}
+use Rattle.tree.specs.Tree.{pathRun, headRight, atHead, freeRight, chainRight, headerRight, seenAll, accepts}
 use Rattle.tree.proofs.AcceptedTests.{header-right}
 use Rattle.tree.proofs.Tree.{accepts-is-list}
 use Rattle.is_list.specs.declared.Reading.{Reading}
 use Rattle.is_list.specs.declared.Reading.the-variants as variants
-use Rattle.is_list.specs.Parts.{headerOf, Children}
+use Rattle.is_list.specs.Children.{headerOf, Children}
 use Rattle.is_list.specs.Reading.{readingOf}
-use Rattle.cells.proofs.Laws.{refuted}
+use Rattle.cell_tests.proofs.Tests.{refuted}
 
 -- The head
 
 module _ {ws : List ℕ} {s : Settings} (h : Shaped ws s) {agreed : ℕ} (run : agreed ≡ pathRun ws 0 0 (s .dimensions - 0)) where
   pub head-elsewhere :
-      (positionWord ws ≡ 0 → ⊥) → record { right = true; left = s .cells - 1; last = 0; agreed = agreed; reached = false } ≡ atHead ws
+      (positionAt ws ≡ 0 → ⊥) → record { right = true; left = s .cells - 1; last = 0; agreed = agreed; reached = false } ≡ atHead ws
   unfolding atHead
-  head-elsewhere away = rw (ne-eqb (positionWord ws) 0 away, run, sub-zero (s .dimensions), ← shaped-dimensions h, ← shaped-cells h) refl
+  head-elsewhere away = rw (ne-eqb (positionAt ws) 0 away, run, sub-zero (s .dimensions), ← shaped-dimensions h, ← shaped-cells h) refl
 
   pub head-position :
-      positionWord ws ≡ 0 →
+      positionAt ws ≡ 0 →
       record { right = eqb agreed (s .dimensions); left = s .cells - 1; last = 0; agreed = agreed; reached = true } ≡ atHead ws
   unfolding atHead
-  head-position here = rw (eq-eqb (positionWord ws) 0 here, run, sub-zero (s .dimensions), ← shaped-dimensions h, ← shaped-cells h) refl
+  head-position here = rw (eq-eqb (positionAt ws) 0 here, run, sub-zero (s .dimensions), ← shaped-dimensions h, ← shaped-cells h) refl
 
 -- The free cells
 
@@ -67,8 +67,8 @@ module _ (ws : List ℕ) (c : ℕ) where
 pub header-is :
     (ws : List ℕ) →
     headerRight ws
-    ≡ (inRange (getD ws 0 0) (getD ws 1 0) (getD ws 2 0)
-    && (eqb (length ws) (lengthOf (getD ws 0 0) (getD ws 2 0)) && isBase (getD ws 0 0) (getD ws 1 0) (getD ws 3 0)))
+    ≡ (inRange (dimensionsAt ws) (largestAt ws) (cellsAt ws)
+    && (eqb (length ws) (lengthOf (dimensionsAt ws) (cellsAt ws)) && isBase (dimensionsAt ws) (largestAt ws) (baseAt ws)))
 unfolding headerRight isBase
 header-is ws = refl
 
@@ -77,19 +77,19 @@ module _ (ws : List ℕ) where
   header-short h = rw (refuted (headerRight ws) (λ t. let e = header-right ws t .size in omega arith)) refl
 
   pub header-range :
-      {t : Bool} → t ≡ inRange (getD ws 0 0) (getD ws 1 0) (getD ws 2 0) → not t ≡ true → variants.NotAList ≡ headerOf ws
+      {t : Bool} → t ≡ inRange (dimensionsAt ws) (largestAt ws) (cellsAt ws) → not t ≡ true → variants.NotAList ≡ headerOf ws
   header-range {t} e f = rw (header-is ws, ← e, not-true t f) refl
 
-  pub header-length : (length ws ≡ lengthOf (getD ws 0 0) (getD ws 2 0) → ⊥) → variants.NotAList ≡ headerOf ws
+  pub header-length : (length ws ≡ lengthOf (dimensionsAt ws) (cellsAt ws) → ⊥) → variants.NotAList ≡ headerOf ws
   header-length other = rw (refuted (headerRight ws) (λ t. other (header-right ws t .size))) refl
 
-  pub header-base : {t : Bool} → t ≡ isBase (getD ws 0 0) (getD ws 1 0) (getD ws 3 0) → not t ≡ true → variants.NotAList ≡ headerOf ws
+  pub header-base : {t : Bool} → t ≡ isBase (dimensionsAt ws) (largestAt ws) (baseAt ws) → not t ≡ true → variants.NotAList ≡ headerOf ws
   header-base {t} e f = simp (header-is ws, sym e, not-true t f, and-false) refl
 
   pub header-list :
-      inRange (getD ws 0 0) (getD ws 1 0) (getD ws 2 0) ≡ true → length ws ≡ lengthOf (getD ws 0 0) (getD ws 2 0) →
-      isBase (getD ws 0 0) (getD ws 1 0) (getD ws 3 0) ≡ true → variants.List (settingsAt ws) ≡ headerOf ws
-  header-list range size base = rw (header-is ws, range, eq-eqb (length ws) (lengthOf (getD ws 0 0) (getD ws 2 0)) size, base) refl
+      inRange (dimensionsAt ws) (largestAt ws) (cellsAt ws) ≡ true → length ws ≡ lengthOf (dimensionsAt ws) (cellsAt ws) →
+      isBase (dimensionsAt ws) (largestAt ws) (baseAt ws) ≡ true → variants.List (settingsAt ws) ≡ headerOf ws
+  header-list range size base = rw (header-is ws, range, eq-eqb (length ws) (lengthOf (dimensionsAt ws) (cellsAt ws)) size, base) refl
 
 -- words whose header is that of a list with the settings s
 pub record Headed (ws : List ℕ) (s : Settings) : Type 0 where
@@ -133,7 +133,7 @@ pub record Accepts (ws : List ℕ) : Type 0 where
   pub start : atHead ws .right ≡ true
   pub right : seenAll ws .right ≡ true
   pub reached : seenAll ws .reached ≡ true
-  pub chain : chainRight ws (seenAll ws .left) (getD ws 4 0) ≡ true
+  pub chain : chainRight ws (seenAll ws .left) (firstFreeAt ws) ≡ true
 
 accepted : (ws : List ℕ) → accepts ws ≡ true → Accepts ws
 unfolding accepts
@@ -142,11 +142,11 @@ accepted ws e = at (headerRight ws) refl e
     tests : Bool
     tests =
         headRight ws
-        && ((atHead ws .right && seenAll ws .right) && (seenAll ws .reached && chainRight ws (seenAll ws .left) (getD ws 4 0)))
+        && ((atHead ws .right && seenAll ws .right) && (seenAll ws .reached && chainRight ws (seenAll ws .left) (firstFreeAt ws)))
 
     at : (t : Bool) → headerRight ws ≡ t → elim t [ true ↦ tests | false ↦ false ] ≡ true → Accepts ws
     at true h e =
-        let chain = chainRight ws (seenAll ws .left) (getD ws 4 0) in
+        let chain = chainRight ws (seenAll ws .left) (firstFreeAt ws) in
         let t = both (headRight ws) ((atHead ws .right && seenAll ws .right) && (seenAll ws .reached && chain)) e in
         let u = both (atHead ws .right && seenAll ws .right) (seenAll ws .reached && chain) (t .1) in
         let v = both (atHead ws .right) (seenAll ws .right) (u .0) in
@@ -157,7 +157,7 @@ accepted ws e = at (headerRight ws) refl e
 accepts-all : (ws : List ℕ) → Accepts ws → accepts ws ≡ true
 unfolding accepts
 accepts-all ws a =
-    let chain = chainRight ws (seenAll ws .left) (getD ws 4 0) in
+    let chain = chainRight ws (seenAll ws .left) (firstFreeAt ws) in
     let right = and-both (atHead ws .right) (seenAll ws .right) (a .start) (a .right) in
     let ends = and-both (seenAll ws .reached) chain (a .reached) (a .chain) in
     rw (a .header, accepts)
@@ -172,11 +172,11 @@ pub accept : {ws : List ℕ} {s : Settings} → Shaped ws s → Accepts ws → v
 unfolding readingOf
 accept {ws} h a = rw (← accepts-is-list ws, accepts-all ws a, h .header) refl
 
-starts : (ws : List ℕ) {start : Seen} → start ≡ atHead ws → start .left ≡ getD ws 2 0 - 1
+starts : (ws : List ℕ) {start : Seen} → start ≡ atHead ws → start .left ≡ cellsAt ws - 1
 unfolding atHead
 starts ws p = ap (λ (t : Seen). t .left) p
 
 pub all-seen : {ws : List ℕ} {s : Settings} {start r : Seen} → Headed ws s → start ≡ atHead ws → Children ws s 0 0 start r → r ≡ seenAll ws
 all-seen {ws} {s} h p c =
-    c .is (getD ws 2 0) (omega (arith, shaped-cells (h .shaped), h .cells, starts ws p))
+    c .is (cellsAt ws) (omega (arith, shaped-cells (h .shaped), h .cells, starts ws p))
     ∙ rw (p, sub-zero (s .dimensions), ← shaped-dimensions (h .shaped)) refl

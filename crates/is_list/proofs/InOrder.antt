@@ -11,12 +11,13 @@ use borrow.Author.Tests.{eqb-true, lt-ltb, le-ltb, eq-eqb, ne-eqb}
 use Rattle.settings.specs.Numbers.{headerWords}
 use Rattle.settings.specs.declared.Settings.{Settings}
 use Rattle.meaning.specs.Walk.{linkRead}
+use Rattle.meaning.specs.Words.{dimensionsAt, positionAt}
 use Rattle.words.specs.Shaped.{Shaped}
-use Rattle.words.proofs.Laws.{shaped-dimensions, shaped-cells}
+use Rattle.words.proofs.Shaped.{shaped-dimensions, shaped-cells}
 use Rattle.tree.specs.declared.Seen.{Seen}
-use Rattle.tree.specs.Tree.{pathRun, agreedAt, positionWord, cellAloneRight, cellRight, wrong, entered, along, children}
-use Rattle.is_list.specs.Parts.{SeenWithin, Entered, nextLink, Children}
-use Rattle.cells.proofs.OneCell.{alone, alone-owed}
+use Rattle.tree.specs.Tree.{pathRun, agreedAt, cellAloneRight, cellRight, wrong, entered, along, children}
+use Rattle.is_list.specs.Children.{SeenWithin, Entered, nextLink, Children}
+use Rattle.cell_tests.proofs.OneCell.{alone, alone-owed}
 
 -- The path
 
@@ -70,9 +71,9 @@ pub agreed-run :
 unfolding agreedAt
 agreed-run h y {e} {agreed} le = rw (le-ltb agreed e le, shaped-dimensions h) refl
 
-pub position-is : {ws : List ℕ} {s : Settings} → Shaped ws s → getD ws (4 + s .dimensions) 0 ≡ positionWord ws
+pub position-is : {ws : List ℕ} {s : Settings} → Shaped ws s → getD ws (4 + s .dimensions) 0 ≡ positionAt ws
 position-is {ws} {s} h =
-    let k : 4 + s .dimensions ≡ headerWords + getD ws 0 0 - 1 = omega (arith, shaped-dimensions h) in
+    let k : 4 + s .dimensions ≡ headerWords + dimensionsAt ws - 1 = omega (arith, shaped-dimensions h) in
     rw k refl
 
 -- A cell is entered
@@ -80,33 +81,33 @@ position-is {ws} {s} h =
 module _ (ws : List ℕ) (y e : ℕ) (seen : Seen) where
   -- where cell y is the position, all path words agree
   abbrev path-right : Bool
-  path-right = not (eqb y (positionWord ws)) || eqb (agreedAt ws y e (seen .agreed)) (getD ws 0 0)
+  path-right = not (eqb y (positionAt ws)) || eqb (agreedAt ws y e (seen .agreed)) (dimensionsAt ws)
 
   pub enter-not : cellAloneRight ws y e seen ≡ false → entered ws y e seen ≡ wrong seen
   unfolding entered cellRight
   enter-not h = rw h refl
 
   pub enter-lost :
-      cellAloneRight ws y e seen ≡ true → y ≡ positionWord ws → (agreedAt ws y e (seen .agreed) ≡ getD ws 0 0 → ⊥) →
+      cellAloneRight ws y e seen ≡ true → y ≡ positionAt ws → (agreedAt ws y e (seen .agreed) ≡ dimensionsAt ws → ⊥) →
       entered ws y e seen ≡ wrong seen
   unfolding entered cellRight
   enter-lost h here off =
-      rw (h, eq-eqb y (positionWord ws) here, ne-eqb (agreedAt ws y e (seen .agreed)) (getD ws 0 0) off) refl
+      rw (h, eq-eqb y (positionAt ws) here, ne-eqb (agreedAt ws y e (seen .agreed)) (dimensionsAt ws) off) refl
 
   pub enter-position :
-      {agreed : ℕ} → cellAloneRight ws y e seen ≡ true → y ≡ positionWord ws → agreed ≡ agreedAt ws y e (seen .agreed) →
-      agreed ≡ getD ws 0 0 →
+      {agreed : ℕ} → cellAloneRight ws y e seen ≡ true → y ≡ positionAt ws → agreed ≡ agreedAt ws y e (seen .agreed) →
+      agreed ≡ dimensionsAt ws →
       entered ws y e seen ≡ record { right = true; left = seen .left - 1; last = y; agreed = agreed; reached = true }
   unfolding entered cellRight
   enter-position {agreed} h here q on =
-      rw (h, ← q, eq-eqb y (positionWord ws) here, eq-eqb agreed (getD ws 0 0) on, or-true (seen .reached)) refl
+      rw (h, ← q, eq-eqb y (positionAt ws) here, eq-eqb agreed (dimensionsAt ws) on, or-true (seen .reached)) refl
 
   pub enter-other :
-      {agreed : ℕ} → cellAloneRight ws y e seen ≡ true → (y ≡ positionWord ws → ⊥) → agreed ≡ agreedAt ws y e (seen .agreed) →
+      {agreed : ℕ} → cellAloneRight ws y e seen ≡ true → (y ≡ positionAt ws → ⊥) → agreed ≡ agreedAt ws y e (seen .agreed) →
       entered ws y e seen ≡ record { right = true; left = seen .left - 1; last = y; agreed = agreed; reached = seen .reached }
   unfolding entered cellRight
   enter-other {agreed} h other q =
-      rw (h, ← q, ne-eqb y (positionWord ws) other, or-false (seen .reached)) refl
+      rw (h, ← q, ne-eqb y (positionAt ws) other, or-false (seen .reached)) refl
 
 module _ {ws : List ℕ} {s : Settings} (h : Shaped ws s) (y e : ℕ) (seen : Seen) (within : SeenWithin s seen) where
   pub entered-wrong : {r : Seen} → r ≡ wrong seen → entered ws y e seen ≡ wrong seen → Entered ws s y e seen r
@@ -156,7 +157,7 @@ pub children-along :
 unfolding children
 children-along {ws} {s} h {e} {x} {seen} {r} he within falls all =
     let k : s .dimensions - e ≡ suc (s .dimensions - (e + 1)) = omega arith in
-    let d : getD ws 0 0 - suc (s .dimensions - (e + 1)) ≡ e = omega (arith, shaped-dimensions h) in
+    let d : dimensionsAt ws - suc (s .dimensions - (e + 1)) ≡ e = omega (arith, shaped-dimensions h) in
     record { is = λ fuel enough. rw (k, d) (sym (all fuel enough)); within = within; falls = falls }
 
 -- Reading the cells that hang from x has come to cell `at`, and `rest` is fuel enough for the others.
@@ -188,29 +189,29 @@ along-none higher ws e fuel x seen pos none =
     same false = refl
 
 along-from :
-    (ws : List ℕ) (x fuel : ℕ) (seen : Seen) (n e : ℕ) → getD ws 0 0 ≡ e + suc n →
+    (ws : List ℕ) (x fuel : ℕ) (seen : Seen) (n e : ℕ) → dimensionsAt ws ≡ e + suc n →
     children fuel ws (suc n) x seen ≡ along (children fuel ws n) ws e fuel x seen
 unfolding children
 along-from ws x fuel seen n e q =
-    let k : getD ws 0 0 - suc n ≡ e = omega arith in
+    let k : dimensionsAt ws - suc n ≡ e = omega arith in
     rw k refl
 
 skips :
-    (ws : List ℕ) (x fuel : ℕ) (seen : Seen) → 0 < fuel → (n e d : ℕ) → getD ws 0 0 ≡ e + n → d ≡ nextLink ws x e n →
-    children fuel ws n x seen ≡ children fuel ws (getD ws 0 0 - d) x seen
+    (ws : List ℕ) (x fuel : ℕ) (seen : Seen) → 0 < fuel → (n e d : ℕ) → dimensionsAt ws ≡ e + n → d ≡ nextLink ws x e n →
+    children fuel ws n x seen ≡ children fuel ws (dimensionsAt ws - d) x seen
 unfolding nextLink
 skips ws x fuel seen pos zero e d q p =
-    let k : getD ws 0 0 - d ≡ 0 = omega arith in
+    let k : dimensionsAt ws - d ≡ 0 = omega arith in
     rw k refl
 skips ws x fuel seen pos (suc n) e d q p = at (eqb (linkRead ws x e) 0) refl p (skips ws x fuel seen pos n (suc e) d (omega arith))
   where
     at : (t : Bool) → eqb (linkRead ws x e) 0 ≡ t → d ≡ cond t (nextLink ws x (suc e) n) e →
-        (d ≡ nextLink ws x (suc e) n → children fuel ws n x seen ≡ children fuel ws (getD ws 0 0 - d) x seen) →
-        children fuel ws (suc n) x seen ≡ children fuel ws (getD ws 0 0 - d) x seen
+        (d ≡ nextLink ws x (suc e) n → children fuel ws n x seen ≡ children fuel ws (dimensionsAt ws - d) x seen) →
+        children fuel ws (suc n) x seen ≡ children fuel ws (dimensionsAt ws - d) x seen
     at true f r more =
         along-from ws x fuel seen n e q ∙ along-none (children fuel ws n) ws e fuel x seen pos (eqb-true (linkRead ws x e) 0 f) ∙ more r
     at false f r more =
-        let k : getD ws 0 0 - d ≡ suc n = omega arith in
+        let k : dimensionsAt ws - d ≡ suc n = omega arith in
         rw k refl
 
 pub children-skip :

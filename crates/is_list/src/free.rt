@@ -12,7 +12,7 @@ pub fn chain_right(list: &[u32], s: Settings, n: u32, first: u32) -> bool
     let mut c = first;
     let mut left = n;
     while 0 < left {
-        if !cells::free::free_right(list, s, c) {
+        if !cell_tests::free::free_right(list, s, c) {
             return false;
         }
         c = words::word(list, s, c, words::KEY);

@@ -2,7 +2,7 @@
 // children in turn, as crate tree has it on the words; that account accepts exactly the lists.
 ghost use mathlib.Core.Path.{_≡_};
 ghost use Rattle.is_list.specs.Reading.{readingOf};
-ghost use Rattle.is_list.specs.Parts.{headerOf};
+ghost use Rattle.is_list.specs.Children.{headerOf};
 use settings::Settings;
 
 mod path; // path.rt: the words of path beside the way down
@@ -48,7 +48,7 @@ pub fn is_list(list: &[u32]) -> Reading
     let Reading::List(s) = header(list) else {
         return Reading::NotAList;
     };
-    if !cells::head::head_right(list, s) {
+    if !cell_tests::head::head_right(list, s) {
         return Reading::NotAList;
     }
     let start = standing::at_head(list, s);

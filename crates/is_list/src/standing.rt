@@ -6,7 +6,7 @@ ghost use Rattle.meaning.specs.Words.{owedAt};
 ghost use Rattle.words.specs.Shaped.{Shaped};
 ghost use Rattle.tree.specs.Tree.{atHead};
 ghost use Rattle.tree.specs.Tree as tree;
-ghost use Rattle.is_list.specs.Parts.{SeenWithin, Entered, nextLink, Children};
+ghost use Rattle.is_list.specs.Children.{SeenWithin, Entered, nextLink, Children};
 use super::path;
 use settings::Settings;
 use tree::Seen;
@@ -54,7 +54,7 @@ fn enter(list: &[u32], s: Settings, y: u32, e: u32, seen: Seen) -> Seen
     requires { ⌜ Shaped (now list) s × ((0 < s .base) × ((e < s .dimensions) × SeenWithin s seen)) ⌝ }
     ensures { λ r. ⌜ Entered (now (list .entry)) s y e seen r ⌝ }
 {
-    if !cells::standing::cell_alone_right(list, s, y, e, seen) {
+    if !cell_tests::standing::cell_alone_right(list, s, y, e, seen) {
         return wrong(seen);
     }
     let agreed = path::agreed_at(list, s, y, e, seen.agreed);

@@ -1,2 +1,2 @@
 -- What holds of the fields of a line, and of the entries in it.
-pub mod Laws
+pub mod Grammar

@@ -5,9 +5,9 @@ use mathlib.Core.List.{List, [], _∷_}
 use Prim.Native.Nat.{ℕ, _+_, _*_, _≤_}
 use lib.Dec.{leb}
 use lib.ListN.{length}
+use Rattle.lists.specs.Lists.{same}
 use Rattle.text.specs.Fields.{fieldsOf, decimalFrom, isNumber}
 use Rattle.text.specs.Lines.{mostBytes}
-use Rattle.meaning.specs.Reading.{same}
 use Rattle.lines.specs.declared.Entry.{Entry}
 use Rattle.lines.specs.declared.Kind.{Kind}
 use Rattle.lines.specs.declared.Kind.the-variants.{Insert, Find, Finish, Take, Sweep}
@@ -31,8 +31,8 @@ pub record InRange (e : Entry) : Type 0 where
   pub unit-most : e .unit ≤ 65535
 
 -- "Its key is class x 65,536 + unit."
-abbrev pub keyOf : Entry → ℕ
-keyOf e = e .class * 65536 + e .unit
+abbrev pub entryKey : Entry → ℕ
+entryKey e = e .class * 65536 + e .unit
 
 abbrev pub entry : List ℕ → List ℕ → Entry
 entry class unit = record { class = decimalFrom 0 class; unit = decimalFrom 0 unit }

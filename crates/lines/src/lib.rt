@@ -4,7 +4,7 @@ ghost use mathlib.Core.Path.{_≡_};
 ghost use mathlib.Core.List.{[], _∷_};
 ghost use Prim.Native.Nat.{_≤_};
 ghost use lib.ListN.{length};
-ghost use Rattle.lines.specs.Grammar.{keyOf, insertFields, entryFields, noFields, kindOf, parsedOf, InRange};
+ghost use Rattle.lines.specs.Grammar.{entryKey, insertFields, entryFields, noFields, kindOf, parsedOf, InRange};
 ghost use Rattle.lines.specs.Answers.{fieldsAfter, NumberAfter, EntryAfter};
 ghost use Rattle.lines.specs.declared.Kind.the-variants.{Find, Finish};
 use text::fields::Numeral;
@@ -77,9 +77,9 @@ const LETTER_S: u8 = 83;
 const LETTER_END: usize = 1;
 
 // "Its key is class x 65,536 + unit."
-pub fn key(e: Entry) -> u32
+pub fn entry_key(e: Entry) -> u32
     requires { ⌜ InRange e ⌝ }
-    ensures { λ r. ⌜ r ≡ keyOf e ⌝ }
+    ensures { λ r. ⌜ r ≡ entryKey e ⌝ }
 {
     e.class * 65536 + e.unit
 }

@@ -1,2 +1,2 @@
 -- Laws of the exported functions.
-pub mod Laws
+pub mod Exported

@@ -20,7 +20,7 @@ pub extern "C" fn mdlist_insert(list: &mut [u32], key: u32, value: u32) -> Answe
     ensures { λ r. ⌜ Meets (insertOut (now (list .entry)) key value) r (now (list .exit)) ⌝ }
 {
     let Reading::List(s) = is_list::is_list(list) else {
-        return meaning::refused(3);
+        return meaning::refused(meaning::NOT_A_LIST);
     };
     insert::insert(list, s, key, value)
 }
@@ -31,7 +31,7 @@ pub extern "C" fn mdlist_find(list: &[u32], key: u32) -> Answer
     ensures { λ r. ⌜ Meets (findOut (now (list .entry)) key) r (now (list .entry)) ⌝ }
 {
     let Reading::List(s) = is_list::is_list(list) else {
-        return meaning::refused(3);
+        return meaning::refused(meaning::NOT_A_LIST);
     };
     find::find(list, s, key)
 }
@@ -42,7 +42,7 @@ pub extern "C" fn mdlist_finish(list: &mut [u32], key: u32) -> Answer
     ensures { λ r. ⌜ Meets (finishOut (now (list .entry)) key) r (now (list .exit)) ⌝ }
 {
     let Reading::List(s) = is_list::is_list(list) else {
-        return meaning::refused(3);
+        return meaning::refused(meaning::NOT_A_LIST);
     };
     finish::finish(list, s, key)
 }
@@ -53,7 +53,7 @@ pub extern "C" fn mdlist_take(list: &mut [u32]) -> Answer
     ensures { λ r. ⌜ Meets (takeOut (now (list .entry))) r (now (list .exit)) ⌝ }
 {
     let Reading::List(s) = is_list::is_list(list) else {
-        return meaning::refused(3);
+        return meaning::refused(meaning::NOT_A_LIST);
     };
     take::take(list, s)
 }
@@ -64,7 +64,7 @@ pub extern "C" fn mdlist_sweep(list: &mut [u32]) -> Answer
     ensures { λ r. ⌜ Meets (sweepOut (now (list .entry))) r (now (list .exit)) ⌝ }
 {
     let Reading::List(s) = is_list::is_list(list) else {
-        return meaning::refused(3);
+        return meaning::refused(meaning::NOT_A_LIST);
     };
     sweep::sweep(list, s)
 }

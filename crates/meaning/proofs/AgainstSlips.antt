@@ -8,7 +8,8 @@ use Prim.Native.Nat.{ℕ, _≤_, _<_}
 use native.Mathlib.Decide.{ℕ-discrete}
 use native.Mathlib.Omega.{arith}
 use borrow.Author.Tests.{eq-eqb, ne-eqb, le-leb, lt-ltb}
-use Rattle.meaning.specs.Row.{Entry, entryAt, every}
+use Rattle.lists.specs.Lists.{every}
+use Rattle.meaning.specs.Row.{Node, nodeAt}
 use Rattle.meaning.specs.State.{State, positionKey}
 use Rattle.meaning.specs.Picture.{picture}
 use Rattle.meaning.specs.Refusals.{accepted, keyLive, refused}
@@ -16,13 +17,13 @@ use Rattle.meaning.specs.Words.{owedAt, lowAt, highAt, linkAt}
 use Rattle.meaning.specs.Walk.{linkRead}
 use Rattle.meaning.specs.Operations.{looked, paid, parentIn, positionAfter, revived, insertAt, deadFront, fromLive, lastAlone, swept}
 
--- "Taking a key for present when only some leading coordinates agree": the entry found for a key has that same key.
-pub present-is-that-key : (key : ℕ) (x : Entry) (row : List Entry) → entryAt key row ≡ some x → x .key ≡ key
-unfolding entryAt
+-- "Taking a key for present when only some leading coordinates agree": the node found for a key has that same key.
+pub present-is-that-key : (key : ℕ) (x : Node) (row : List Node) → nodeAt key row ≡ some x → x .key ≡ key
+unfolding nodeAt
 present-is-that-key key x [] e = absurd (let z : _≡_ {A = ℕ} 0 1 = cc in omega arith)
 present-is-that-key key x (y ∷ row) e = go (ℕ-discrete (y .key) key) (present-is-that-key key x row)
   where
-    go : Dec (y .key ≡ key) → (entryAt key row ≡ some x → x .key ≡ key) → x .key ≡ key
+    go : Dec (y .key ≡ key) → (nodeAt key row ≡ some x → x .key ≡ key) → x .key ≡ key
     go (yes q) onward = let t : some y ≡ some x = rw (eq-eqb (y .key) key q) at e in (let u : y ≡ x = cc in rw (← u) q)
     go (no ne) onward = onward (rw (ne-eqb (y .key) key ne) at e)
 
@@ -31,19 +32,19 @@ pub owed-link-is-read-there : (ws : List ℕ) (x d : ℕ) → (owedAt ws x ≡ 0
 unfolding linkRead
 owed-link-is-read-there ws x d owes l h = rw (ne-eqb (owedAt ws x) 0 owes, le-leb (lowAt ws x) d l, lt-ltb d (highAt ws x) h) refl
 
--- "Moving the path back to the new cell and not its parent: the entry is never taken": the position becomes the parent.
-pub position-becomes-the-parent : (s : State) (key c : ℕ) (row : List Entry) → key ≤ positionKey s → positionAfter s key c row ≡ parentIn s c row
+-- "Moving the path back to the new cell and not its parent: the node is never taken": the position becomes the parent.
+pub position-becomes-the-parent : (s : State) (key c : ℕ) (row : List Node) → key ≤ positionKey s → positionAfter s key c row ≡ parentIn s c row
 unfolding positionAfter
 position-becomes-the-parent s key c row h = rw (le-leb key (positionKey s) h) refl
 
 -- "Refusing 5 for a dead key": a dead key is revived.
-pub dead-key-is-revived : (ws : List ℕ) (s : State) (key value : ℕ) (x : Entry) → x .live ≡ false → insertAt ws s key value (some x) ≡ accepted key 0 (looked s key) (picture (revived s x value))
+pub dead-key-is-revived : (ws : List ℕ) (s : State) (key value : ℕ) (x : Node) → x .live ≡ false → insertAt ws s key value (some x) ≡ accepted key 0 (looked s key) (picture (revived s x value))
 unfolding insertAt
 dead-key-is-revived ws s key value x e =
     ap (λ t. cond t (refused (keyLive key (looked s key)) ws) (accepted key 0 (looked s key) (picture (revived s x value)))) e
 
 -- "Freeing an owing cell in a sweep and reading its empty links as its own: a branch is lost": what stands after a sweep owes nothing.
-paid-owes-nothing : (row : List Entry) → every (λ x. not (x .owes)) (map paid row) ≡ true
+paid-owes-nothing : (row : List Node) → every (λ x. not (x .owes)) (map paid row) ≡ true
 unfolding every
 paid-owes-nothing [] = refl
 paid-owes-nothing (x ∷ row) = paid-owes-nothing row

@@ -5,18 +5,17 @@ use mathlib.Core.List.{List, [], _∷_, map}
 use Prim.Native.Nat.{ℕ, _≤_, _<_}
 use native.Mathlib.Decide.{ℕ-discrete}
 use native.Mathlib.Omega.{arith}
-use Rattle.meaning.specs.Row.{Entry}
-use Rattle.meaning.specs.State.{occurrences}
+use Rattle.lists.specs.Lists.{occurrences}
+use Rattle.lists.proofs.Occurrences.{occurrences-here, occurrences-past, occurrences-more}
+use Rattle.meaning.specs.Row.{Node}
 use Rattle.meaning.proofs.Order.{Asc}
-use Rattle.meaning.proofs.Cells.{occurrences-here, occurrences-past}
-use Rattle.meaning.proofs.Places.{occurrences-more}
 
 -- numbers above a number, each above the one before
 abbrev pub Rising : ℕ → List ℕ → Type 0
 Rising low [] = Unit {0}
 Rising low (x ∷ xs) = (low < x) × Rising x xs
 
-pub asc-rising : (low : ℕ) (row : List Entry) → Asc low row → Rising low (map (λ x. x .key) row)
+pub asc-rising : (low : ℕ) (row : List Node) → Asc low row → Rising low (map (λ x. x .key) row)
 asc-rising low [] a = tt
 asc-rising low (x ∷ row) a = (a .0, asc-rising (x .key) row (a .1))
 

@@ -1,6 +1,6 @@
 -- Calls on lists, and what they do to the live pairs and the standing keys: a list is the picture of the state that it holds, so what a
 -- call does to a state in order (BookCalls.antt) it does to a list. Takes hand out the first live pair each time, as long as there is
--- one; and a key is live on the words exactly if the entry with that key is.
+-- one; and a key is live on the words exactly if the node with that key is.
 use mathlib.Core.Path.{_≡_, refl, sym, _∙_, ap, ap₂, subst}
 use mathlib.Core.Bool.{Bool, true, false}
 use mathlib.Core.List.{List, [], _∷_, cons≢nil}
@@ -11,7 +11,7 @@ use native.Mathlib.Omega.{arith}
 use lib.Dec.{eqb}
 use lib.ListN.{length}
 use Rattle.settings.specs.Numbers.{inRange, lengthOf}
-use Rattle.meaning.specs.Row.{Entry}
+use Rattle.meaning.specs.Row.{Node}
 use Rattle.meaning.specs.State.{State, positionKey}
 use Rattle.meaning.specs.Picture.{picture}
 use Rattle.meaning.specs.Reading.{isList}
@@ -77,7 +77,7 @@ takes-by n ws o e =
 pub takes-none : (n : ℕ) (s : State) → Sound s → fromLive (s .row) ≡ [] → takes (suc n) (picture s) ≡ []
 takes-none n s v e = takes-by n (picture s) (refused (nothingLive (keysAbove (positionKey s) (s .row))) (picture s)) (take-outcome-none s v e)
 
-pub takes-first : (n : ℕ) (s : State) → Sound s → (x : Entry) (later : List Entry) → fromLive (s .row) ≡ x ∷ later →
+pub takes-first : (n : ℕ) (s : State) → Sound s → (x : Node) (later : List Node) → fromLive (s .row) ≡ x ∷ later →
     takes (suc n) (picture s) ≡ pair x ∷ takes n (picture (taken s x))
 takes-first n s v x later e =
     takes-by n (picture s) (accepted (x .key) (x .value) (keysPassed (positionKey s) (x .key) (s .row)) (picture (taken s x))) (take-outcome-first s v x later e)
@@ -91,7 +91,7 @@ takes-pairs zero s v h = at (pairsIn (s .row)) h
     at (p ∷ pairs) l = absurd (omega arith)
 takes-pairs (suc n) s v h = at (fromLive (s .row)) refl (λ t w. takes-pairs n t w)
   where
-    at : (rest : List Entry) → fromLive (s .row) ≡ rest → ((t : State) → Sound t → length (pairsIn (t .row)) ≤ n → takes n (picture t) ≡ pairsIn (t .row)) →
+    at : (rest : List Node) → fromLive (s .row) ≡ rest → ((t : State) → Sound t → length (pairsIn (t .row)) ≤ n → takes n (picture t) ≡ pairsIn (t .row)) →
         takes (suc n) (picture s) ≡ pairsIn (s .row)
     at [] e more = takes-none n s v e ∙ sym (pairs-empty (s .row) e)
     at (x ∷ later) e more =
@@ -109,7 +109,7 @@ takes-in-turn =
 pub takes-end : TakesEnd
 takes-end = on-lists (λ ws. (takeOut ws .answered .refusal ≡ 7) ↔ (livePairs ws ≡ [])) (λ s v. at s v (fromLive (s .row)) refl)
   where
-    at : (s : State) → Sound s → (rest : List Entry) → fromLive (s .row) ≡ rest → (takeOut (picture s) .answered .refusal ≡ 7) ↔ (livePairs (picture s) ≡ [])
+    at : (s : State) → Sound s → (rest : List Node) → fromLive (s .row) ≡ rest → (takeOut (picture s) .answered .refusal ≡ 7) ↔ (livePairs (picture s) ≡ [])
     at s v [] e = (
       (λ q. live-pairs s v ∙ pairs-empty (s .row) e),
       (λ q. ap (λ o. o .answered .refusal) (take-outcome-none s v e)),

@@ -11,10 +11,11 @@ use lib.Dec.{eqb, leb}
 use lib.ListN.{length, drop, length-map}
 use borrow.Author.Tests.{eq-eqb, ne-eqb, lt-ltb, le-ltb, le-leb, lt-leb}
 use Rattle.settings.specs.Numbers.{inRange, lengthOf}
-use Rattle.meaning.specs.Row.{Entry, those, entryAt}
+use Rattle.lists.specs.Lists.{those}
+use Rattle.meaning.specs.Row.{Node, nodeAt}
 use Rattle.meaning.specs.State.{State}
 use Rattle.meaning.specs.Picture.{picture}
-use Rattle.meaning.specs.Operations.{fresh, paid, finished, withRow, revivedEntry, revived, Slot, newEntry, slotFor, slotOwes, added, deadFront, fromLive, deadEntry, taken, swept}
+use Rattle.meaning.specs.Operations.{fresh, paid, finished, withRow, revivedNode, revived, Slot, newNode, slotFor, slotOwes, added, deadFront, fromLive, deadNode, taken, swept}
 use Rattle.meaning.specs.Calls.{Call, set-up, insert-key, find-key, finish-key, take-least, sweep-dead, outcome}
 use Rattle.meaning.specs.Book.{Pair, pair, Book, hasKey, putPair, putKey, inserted, keptFrom, booked}
 use Rattle.meaning.proofs.Order.{Asc}
@@ -22,14 +23,14 @@ use Rattle.meaning.proofs.State.{Sound}
 use Rattle.meaning.proofs.Cells.{free-length}
 use Rattle.meaning.proofs.Picture.{picture-length}
 use Rattle.meaning.proofs.Places.{asc-smaller, asc-larger, onCell, onCell-cases, keys-changed, asc-changed}
-use Rattle.meaning.proofs.Keeps.{deadFront-dead, live-split}
+use Rattle.meaning.proofs.KeepsState.{deadFront-dead, live-split}
 use Rattle.meaning.proofs.KeepsSetUp.{fresh-sound}
 use Rattle.meaning.proofs.KeepsFinish.{paid-keeping, finished-sound}
 use Rattle.meaning.proofs.KeepsTake.{dead-keeping, taken-sound}
 use Rattle.meaning.proofs.KeepsSweep.{keptBy, paid-all-keeping, swept-sound}
-use Rattle.meaning.proofs.KeepsInsert.{entry-split, revived-keeping, revived-sound, added-sound}
+use Rattle.meaning.proofs.KeepsInsert.{node-split, revived-keeping, revived-sound, added-sound}
 use Rattle.meaning.proofs.Outcomes.{set-up-outcome-out-of-range, set-up-outcome-wrong-length, set-up-outcome, insert-outcome-bad-key, insert-outcome-live, insert-outcome-dead, insert-outcome-full, insert-outcome-new, find-writes-nothing, finish-outcome-bad-key, finish-outcome-absent, finish-outcome-standing, take-outcome-none, take-outcome-first, sweep-outcome, key-cases, live-cases, free-cases}
-use Rattle.meaning.proofs.BookRow.{pairsIn, keysIn, pairs-dead, pairs-past, pairs-after, pairs-changed, pairs-put, isThere, isLive, key-stands, key-lives, entry-key, changed-alone, pairs-empty, pairs-first, kept-keys, kept-pairs, absent-changed, put-pairs, put-keys}
+use Rattle.meaning.proofs.BookRow.{pairsIn, keysIn, pairs-dead, pairs-past, pairs-after, pairs-changed, pairs-put, isThere, isLive, key-stands, key-lives, node-key, changed-alone, pairs-empty, pairs-first, kept-keys, kept-pairs, absent-changed, put-pairs, put-keys}
 
 -- the largest key, the cells, the live pairs and the standing keys of a state
 abbrev pub bookIn : State → Book
@@ -130,37 +131,37 @@ room s v =
     omega arith
 
 -- finishing changes no pair and no key
-pub finished-pairs : (c : ℕ) (row : List Entry) → pairsIn (finished c row) ≡ pairsIn row
+pub finished-pairs : (c : ℕ) (row : List Node) → pairsIn (finished c row) ≡ pairsIn row
 unfolding finished
 finished-pairs c row =
     pairs-changed (onCell c paid) (λ x. onCell-cases (λ y. pair y ≡ pair x) c paid x (λ here. refl) (λ other. refl))
     (λ x. onCell-cases (λ y. y .live ≡ x .live) c paid x (λ here. refl) (λ other. refl)) row
 
-pub finished-keys : (c : ℕ) (row : List Entry) → keysIn (finished c row) ≡ keysIn row
+pub finished-keys : (c : ℕ) (row : List Node) → keysIn (finished c row) ≡ keysIn row
 unfolding finished
 finished-keys c row = keys-changed (onCell c paid) (paid-keeping c) row
 
 -- a dead key revived is a pair more
-pub revived-pairs : (s : State) → Sound s → (key value : ℕ) (x : Entry) → entryAt key (s .row) ≡ some x → x .live ≡ false →
+pub revived-pairs : (s : State) → Sound s → (key value : ℕ) (x : Node) → nodeAt key (s .row) ≡ some x → x .live ≡ false →
     pairsIn (revived s x value .row) ≡ putPair (record { key = key; value = value }) (pairsIn (s .row))
 unfolding revived
 revived-pairs s v key value x e dead =
-    let (front, later, split) = entry-split key x (s .row) e in
+    let (front, later, split) = node-split key x (s .row) e in
     let up : Asc 0 (front ++ (x ∷ later)) = subst (Asc 0) split (v .ascends) in
-    ap pairsIn (changed-alone s v front x later split (revivedEntry value))
-    ∙ pairs-put front (revivedEntry value x) later (asc-smaller 0 front x later up) (asc-larger 0 front x later up) refl
-    ∙ ap₂ (λ k pairs. putPair (record { key = k; value = value }) pairs) (entry-key key x (s .row) e)
+    ap pairsIn (changed-alone s v front x later split (revivedNode value))
+    ∙ pairs-put front (revivedNode value x) later (asc-smaller 0 front x later up) (asc-larger 0 front x later up) refl
+    ∙ ap₂ (λ k pairs. putPair (record { key = k; value = value }) pairs) (node-key key x (s .row) e)
     (sym (pairs-after front (x ∷ later) later (pairs-dead x later dead)) ∙ ap pairsIn (sym split))
 
-pub revived-keys : (s : State) → Sound s → (key value : ℕ) (x : Entry) → entryAt key (s .row) ≡ some x → keysIn (revived s x value .row) ≡ keysIn (s .row)
+pub revived-keys : (s : State) → Sound s → (key value : ℕ) (x : Node) → nodeAt key (s .row) ≡ some x → keysIn (revived s x value .row) ≡ keysIn (s .row)
 unfolding revived
 revived-keys s v key value x e =
-    let (front, later, split) = entry-split key x (s .row) e in
-    keys-changed (onCell (x .cell) (revivedEntry value)) (revived-keeping s x value v front later split) (s .row)
+    let (front, later, split) = node-split key x (s .row) e in
+    keys-changed (onCell (x .cell) (revivedNode value)) (revived-keeping s x value v front later split) (s .row)
 
 -- a new key is a pair and a key more, in whatever slot
-module _ (s : State) (v : Sound s) (key value : ℕ) (t : Slot) (absent : entryAt key (s .row) ≡ none) where
-  finishedRow : List Entry
+module _ (s : State) (v : Sound s) (key value : ℕ) (t : Slot) (absent : nodeAt key (s .row) ≡ none) where
+  finishedRow : List Node
   finishedRow = finished (t .c) (finished (t .parent) (s .row))
 
   finishedRow-ascends : Asc 0 finishedRow
@@ -169,7 +170,7 @@ module _ (s : State) (v : Sound s) (key value : ℕ) (t : Slot) (absent : entryA
       asc-changed (onCell (t .c) paid) (paid-keeping (t .c)) 0 (finished (t .parent) (s .row))
       (asc-changed (onCell (t .parent) paid) (paid-keeping (t .parent)) 0 (s .row) (v .ascends))
 
-  finishedRow-absent : entryAt key finishedRow ≡ none
+  finishedRow-absent : nodeAt key finishedRow ≡ none
   unfolding finishedRow finished
   finishedRow-absent =
       absent-changed (onCell (t .c) paid) (paid-keeping (t .c)) key (finished (t .parent) (s .row))
@@ -178,37 +179,37 @@ module _ (s : State) (v : Sound s) (key value : ℕ) (t : Slot) (absent : entryA
   pub added-pairs : pairsIn (added s key value t .row) ≡ putPair (record { key = key; value = value }) (pairsIn (s .row))
   unfolding added finishedRow
   added-pairs =
-      put-pairs (newEntry (t .n) key value (slotOwes t)) finishedRow finishedRow-ascends finishedRow-absent refl
+      put-pairs (newNode (t .n) key value (slotOwes t)) finishedRow finishedRow-ascends finishedRow-absent refl
       ∙ ap (putPair (record { key = key; value = value })) (finished-pairs (t .c) (finished (t .parent) (s .row)) ∙ finished-pairs (t .parent) (s .row))
 
   pub added-keys : keysIn (added s key value t .row) ≡ putKey key (keysIn (s .row))
   unfolding added finishedRow
   added-keys =
-      put-keys (newEntry (t .n) key value (slotOwes t)) finishedRow finishedRow-ascends finishedRow-absent
+      put-keys (newNode (t .n) key value (slotOwes t)) finishedRow finishedRow-ascends finishedRow-absent
       ∙ ap (putKey key) (finished-keys (t .c) (finished (t .parent) (s .row)) ∙ finished-keys (t .parent) (s .row))
 
 module _ (s : State) (v : Sound s) (key value : ℕ) (l : 1 ≤ key) (h : key ≤ s .settings .largest) where
   tried : booked (insert-key key value) (length (picture s)) (bookIn s) ≡ inserted key value (bookIn s)
   tried = booked-tried key value (length (picture s)) (bookIn s) l h
 
-  lives : (o : Option Entry) → entryAt key (s .row) ≡ o → hasKey key (map (λ p. p .key) (pairsIn (s .row))) ≡ isLive o
+  lives : (o : Option Node) → nodeAt key (s .row) ≡ o → hasKey key (map (λ p. p .key) (pairsIn (s .row))) ≡ isLive o
   lives o e = key-lives 0 key (s .row) (v .ascends) ∙ ap isLive e
 
-  stands : (o : Option Entry) → entryAt key (s .row) ≡ o → hasKey key (keysIn (s .row)) ≡ isThere o
+  stands : (o : Option Node) → nodeAt key (s .row) ≡ o → hasKey key (keysIn (s .row)) ≡ isThere o
   stands o e = key-stands key (s .row) ∙ ap isThere e
 
-  insert-live-booked : (x : Entry) → entryAt key (s .row) ≡ some x → x .live ≡ true → Booking (insert-key key value) s
+  insert-live-booked : (x : Node) → nodeAt key (s .row) ≡ some x → x .live ≡ true → Booking (insert-key key value) s
   unfolding outcome
   insert-live-booked x e live =
       still (insert-key key value) s v (ap (λ o. o .words) (insert-outcome-live s v key value l h x e live))
       (tried ∙ inserted-live key value (bookIn s) (lives (some x) e ∙ live))
 
-  insert-dead-booked : (x : Entry) → entryAt key (s .row) ≡ some x → x .live ≡ false → Booking (insert-key key value) s
+  insert-dead-booked : (x : Node) → nodeAt key (s .row) ≡ some x → x .live ≡ false → Booking (insert-key key value) s
   unfolding outcome revived
   insert-dead-booked x e dead =
       record {
         after = revived s x value;
-        sound = revived-sound s x value v (subst (λ k. entryAt k (s .row) ≡ some x) (sym (entry-key key x (s .row) e)) e) dead;
+        sound = revived-sound s x value v (subst (λ k. nodeAt k (s .row) ≡ some x) (sym (node-key key x (s .row) e)) e) dead;
         words = ap (λ o. o .words) (insert-outcome-dead s v key value l h x e dead);
         long = same-length s (revived s x value) refl;
         book =
@@ -217,13 +218,13 @@ module _ (s : State) (v : Sound s) (key value : ℕ) (l : 1 ≤ key) (h : key �
             ∙ sym (tried ∙ inserted-dead key value (bookIn s) (lives (some x) e ∙ dead) (stands (some x) e));
       }
 
-  insert-full-booked : entryAt key (s .row) ≡ none → length (s .free) ≡ 0 → Booking (insert-key key value) s
+  insert-full-booked : nodeAt key (s .row) ≡ none → length (s .free) ≡ 0 → Booking (insert-key key value) s
   unfolding outcome
   insert-full-booked e full =
       still (insert-key key value) s v (ap (λ o. o .words) (insert-outcome-full s v key value l h e full))
       (tried ∙ inserted-full key value (bookIn s) (lives none e) (stands none e) (let n = room s v in omega arith))
 
-  insert-new-booked : entryAt key (s .row) ≡ none → 0 < length (s .free) → Booking (insert-key key value) s
+  insert-new-booked : nodeAt key (s .row) ≡ none → 0 < length (s .free) → Booking (insert-key key value) s
   unfolding outcome added
   insert-new-booked e space =
       let t = slotFor s key in
@@ -272,17 +273,17 @@ finish-booked key s v =
 
 -- Take
 
--- the pair of the first live entry is gone, the keys are the same
-pub taken-pairs : (s : State) → Sound s → (x : Entry) (later : List Entry) → fromLive (s .row) ≡ x ∷ later → pairsIn (taken s x .row) ≡ pairsIn later
+-- the pair of the first live node is gone, the keys are the same
+pub taken-pairs : (s : State) → Sound s → (x : Node) (later : List Node) → fromLive (s .row) ≡ x ∷ later → pairsIn (taken s x .row) ≡ pairsIn later
 unfolding taken
 taken-pairs s v x later e =
-    ap pairsIn (changed-alone s v (deadFront (s .row)) x later (live-split (s .row) x later e) deadEntry)
-    ∙ pairs-past (deadFront (s .row)) (deadEntry x ∷ later) (deadFront-dead (s .row))
-    ∙ pairs-dead (deadEntry x) later refl
+    ap pairsIn (changed-alone s v (deadFront (s .row)) x later (live-split (s .row) x later e) deadNode)
+    ∙ pairs-past (deadFront (s .row)) (deadNode x ∷ later) (deadFront-dead (s .row))
+    ∙ pairs-dead (deadNode x) later refl
 
-pub taken-keys : (s : State) (x : Entry) → keysIn (taken s x .row) ≡ keysIn (s .row)
+pub taken-keys : (s : State) (x : Node) → keysIn (taken s x .row) ≡ keysIn (s .row)
 unfolding taken
-taken-keys s x = keys-changed (onCell (x .cell) deadEntry) (dead-keeping (x .cell)) (s .row)
+taken-keys s x = keys-changed (onCell (x .cell) deadNode) (dead-keeping (x .cell)) (s .row)
 
 pub take-booked : (s : State) → Sound s → Booking take-least s
 unfolding outcome booked taken
@@ -291,7 +292,7 @@ take-booked s v = at (fromLive (s .row)) refl
     gone : List Pair → Book
     gone pairs = record { largest = s .settings .largest; cells = s .settings .cells; pairs = drop 1 pairs; standing = keysIn (s .row) }
 
-    at : (rest : List Entry) → fromLive (s .row) ≡ rest → Booking take-least s
+    at : (rest : List Node) → fromLive (s .row) ≡ rest → Booking take-least s
     at [] e =
         let none = pairs-empty (s .row) e in
         still take-least s v (ap (λ o. o .words) (take-outcome-none s v e))

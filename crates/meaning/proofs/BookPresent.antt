@@ -1,5 +1,5 @@
--- Present means that same key: on the words of a list a key is live exactly if the entry with that key is, for a cell with mark 1 stands and
--- is not the head, and no two entries have the same key. Insert and find answer by that entry.
+-- Present means that same key: on the words of a list a key is live exactly if the node with that key is, for a cell with mark 1 stands and
+-- is not the head, and no two nodes have the same key. Insert and find answer by that node.
 use mathlib.Core.Path.{_≡_, refl, sym, _∙_, ap, subst}
 use mathlib.Core.Bool.{Bool, true, false, false≢true}
 use mathlib.Core.Logic.{_↔_}
@@ -8,54 +8,53 @@ use Prim.Native.Nat.{ℕ, _≤_, _<_}
 use native.Mathlib.Decide.{ℕ-discrete}
 use native.Mathlib.Omega.{arith}
 use lib.ListN.{length, getD}
-use Rattle.meaning.specs.Row.{Entry, Place, places, placeOf, entryAt}
+use Rattle.lists.proofs.All.{All, all-map}
+use Rattle.meaning.specs.Row.{Node, Place, places, placeOf, nodeAt}
 use Rattle.meaning.specs.State.{State}
 use Rattle.meaning.specs.Picture.{mark, standingWords, wordsOf, picture, nextFree}
-use Rattle.meaning.specs.Words.{keyAt, markAt}
+use Rattle.meaning.specs.Words.{keyAt, markAt, largestAt}
 use Rattle.meaning.specs.Operations.{insertOut, findOut}
 use Rattle.meaning.specs.Calls.{outcome}
-use Rattle.meaning.specs.Sentences.{largestAt}
 use Rattle.meaning.specs.Promises.{Live, PresentMeansThatKey}
-use Rattle.meaning.proofs.Order.{All, all-map}
 use Rattle.meaning.proofs.State.{Sound}
 use Rattle.meaning.proofs.Cells.{row-range}
 use Rattle.meaning.proofs.Picture.{picture-largest, picture-cells, picture-word, Told, told, freeWords-rest}
 use Rattle.meaning.proofs.WalkRead.{all-places, row-key-read, row-mark-read}
-use Rattle.meaning.proofs.WalkStop.{entry-found}
+use Rattle.meaning.proofs.WalkStop.{node-found}
 use Rattle.meaning.proofs.Outcomes.{on-lists, insert-outcome-live, insert-outcome-dead, insert-outcome-full, insert-outcome-new, find-outcome-absent, find-outcome-dead, find-outcome-live}
-use Rattle.meaning.proofs.BookRow.{isLive, entry-key, entry-has}
+use Rattle.meaning.proofs.BookRow.{isLive, node-key, node-has}
 
 -- On the words
 
--- the entry of a place is the one with its key, if it is live
-abbrev Named : State → Entry → Type 0
-Named s x = x .live ≡ true → entryAt (x .key) (s .row) ≡ some x
+-- the node of a place is the one with its key, if it is live
+abbrev Named : State → Node → Type 0
+Named s x = x .live ≡ true → nodeAt (x .key) (s .row) ≡ some x
 
-places-named : (s : State) → Sound s → All (λ p. Named s (p .entry)) (places (s .settings .base) (s .settings .dimensions) (s .row))
+places-named : (s : State) → Sound s → All (λ p. Named s (p .node)) (places (s .settings .base) (s .settings .dimensions) (s .row))
 places-named s v =
     all-places (Named s) (s .settings .base) (s .settings .dimensions) (s .row) (λ e. absurd (false≢true e))
-    (all-map (λ x found e. found) (s .row) (entry-found 0 (s .row) (v .ascends)))
+    (all-map (λ x found e. found) (s .row) (node-found 0 (s .row) (v .ascends)))
 
 mark-one : (live : Bool) → mark live ≡ 1 → live ≡ true
 mark-one true e = refl
 mark-one false e = absurd (omega arith)
 
 module _ (s : State) (v : Sound s) (key : ℕ) where
-  live-shown : (x : Entry) → entryAt key (s .row) ≡ some x → x .live ≡ true → Live (picture s) key
+  live-shown : (x : Node) → nodeAt key (s .row) ≡ some x → x .live ≡ true → Live (picture s) key
   live-shown x e live =
       record {
         cell = x .cell;
-        within = subst (λ n. x .cell < n) (sym (picture-cells s)) (entry-has (λ y. (0 < y .cell) × (y .cell < s .settings .cells)) key x (s .row) e (row-range s v) .1);
-        mark = entry-has (λ y. markAt (picture s) (y .cell) ≡ mark (y .live)) key x (s .row) e (row-mark-read s v) ∙ ap mark live;
-        same = entry-has (λ y. keyAt (picture s) (y .cell) ≡ y .key) key x (s .row) e (row-key-read s v) ∙ entry-key key x (s .row) e;
+        within = subst (λ n. x .cell < n) (sym (picture-cells s)) (node-has (λ y. (0 < y .cell) × (y .cell < s .settings .cells)) key x (s .row) e (row-range s v) .1);
+        mark = node-has (λ y. markAt (picture s) (y .cell) ≡ mark (y .live)) key x (s .row) e (row-mark-read s v) ∙ ap mark live;
+        same = node-has (λ y. keyAt (picture s) (y .cell) ≡ y .key) key x (s .row) e (row-key-read s v) ∙ node-key key x (s .row) e;
       }
 
-  shown-live : Live (picture s) key → isLive (entryAt key (s .row)) ≡ true
+  shown-live : Live (picture s) key → isLive (nodeAt key (s .row)) ≡ true
   unfolding wordsOf standingWords
   shown-live l =
       at (placeOf (l .cell) (places b D (s .row)))
       (picture-word s (l .cell) 0 inside (omega arith)) (picture-word s (l .cell) 2 inside (omega arith))
-      (told (λ p. Named s (p .entry)) (l .cell) (places b D (s .row)) (places-named s v))
+      (told (λ p. Named s (p .node)) (l .cell) (places b D (s .row)) (places-named s v))
     where
       b : ℕ
       b = s .settings .base
@@ -67,57 +66,57 @@ module _ (s : State) (v : Sound s) (key : ℕ) where
       inside = subst (λ n. l .cell < n) (picture-cells s) (l .within)
 
       at : (o : Option Place) → keyAt (picture s) (l .cell) ≡ getD (wordsOf b D (s .free) (l .cell) o) 0 0 →
-          markAt (picture s) (l .cell) ≡ getD (wordsOf b D (s .free) (l .cell) o) 2 0 → Told (λ p. Named s (p .entry)) (l .cell) o →
-          isLive (entryAt key (s .row)) ≡ true
+          markAt (picture s) (l .cell) ≡ getD (wordsOf b D (s .free) (l .cell) o) 2 0 → Told (λ p. Named s (p .node)) (l .cell) o →
+          isLive (nodeAt key (s .row)) ≡ true
       at none k m t =
           absurd (let zero = m ∙ freeWords-rest D (nextFree (l .cell) (s .free)) 2 (omega arith) (omega arith) in let one = l .mark in omega arith)
       at (some p) k m t =
-          let live = mark-one (p .entry .live) (sym m ∙ l .mark) in
-          ap isLive (subst (λ n. entryAt n (s .row) ≡ some (p .entry)) (sym k ∙ l .same) (t .1 live)) ∙ live
+          let live = mark-one (p .node .live) (sym m ∙ l .mark) in
+          ap isLive (subst (λ n. nodeAt n (s .row) ≡ some (p .node)) (sym k ∙ l .same) (t .1 live)) ∙ live
 
-  pub live-on-words : (isLive (entryAt key (s .row)) ≡ true) ↔ Live (picture s) key
-  live-on-words = (at (entryAt key (s .row)) refl, shown-live)
+  pub live-on-words : (isLive (nodeAt key (s .row)) ≡ true) ↔ Live (picture s) key
+  live-on-words = (at (nodeAt key (s .row)) refl, shown-live)
     where
-      at : (o : Option Entry) → entryAt key (s .row) ≡ o → isLive o ≡ true → Live (picture s) key
+      at : (o : Option Node) → nodeAt key (s .row) ≡ o → isLive o ≡ true → Live (picture s) key
       at none e q = absurd (false≢true q)
       at (some x) e q = live-shown x e q
 
   module _ (l : 1 ≤ key) (h : key ≤ s .settings .largest) where
-    insert-tells : (value : ℕ) → (insertOut (picture s) key value .answered .refusal ≡ 5) ↔ (isLive (entryAt key (s .row)) ≡ true)
-    insert-tells value = at (entryAt key (s .row)) refl
+    insert-tells : (value : ℕ) → (insertOut (picture s) key value .answered .refusal ≡ 5) ↔ (isLive (nodeAt key (s .row)) ≡ true)
+    insert-tells value = at (nodeAt key (s .row)) refl
       where
         refusal : ℕ
         refusal = insertOut (picture s) key value .answered .refusal
 
-        absent : entryAt key (s .row) ≡ none → Dec (length (s .free) ≡ 0) → refusal ≡ 5 → ⊥
+        absent : nodeAt key (s .row) ≡ none → Dec (length (s .free) ≡ 0) → refusal ≡ 5 → ⊥
         absent e (yes full) q = let r = ap (λ o. o .answered .refusal) (insert-outcome-full s v key value l h e full) in omega arith
         absent e (no space) q = let r = ap (λ o. o .answered .refusal) (insert-outcome-new s v key value l h e (omega arith)) in omega arith
 
-        standing : (x : Entry) → entryAt key (s .row) ≡ some x → (t : Bool) → x .live ≡ t → (refusal ≡ 5) ↔ (t ≡ true)
+        standing : (x : Node) → nodeAt key (s .row) ≡ some x → (t : Bool) → x .live ≡ t → (refusal ≡ 5) ↔ (t ≡ true)
         standing x e true live = ((λ q. refl), (λ q. ap (λ o. o .answered .refusal) (insert-outcome-live s v key value l h x e live)))
         standing x e false dead = (
           (λ q. absurd (let r = ap (λ o. o .answered .refusal) (insert-outcome-dead s v key value l h x e dead) in omega arith)),
           (λ q. absurd (false≢true q)),
         )
 
-        at : (o : Option Entry) → entryAt key (s .row) ≡ o → (refusal ≡ 5) ↔ (isLive o ≡ true)
+        at : (o : Option Node) → nodeAt key (s .row) ≡ o → (refusal ≡ 5) ↔ (isLive o ≡ true)
         at none e = ((λ q. absurd (absent e (ℕ-discrete (length (s .free)) 0) q)), (λ q. absurd (false≢true q)))
         at (some x) e = standing x e (x .live) refl
 
-    find-tells : (findOut (picture s) key .answered .refusal ≡ 0) ↔ (isLive (entryAt key (s .row)) ≡ true)
-    find-tells = at (entryAt key (s .row)) refl
+    find-tells : (findOut (picture s) key .answered .refusal ≡ 0) ↔ (isLive (nodeAt key (s .row)) ≡ true)
+    find-tells = at (nodeAt key (s .row)) refl
       where
         refusal : ℕ
         refusal = findOut (picture s) key .answered .refusal
 
-        standing : (x : Entry) → entryAt key (s .row) ≡ some x → (t : Bool) → x .live ≡ t → (refusal ≡ 0) ↔ (t ≡ true)
+        standing : (x : Node) → nodeAt key (s .row) ≡ some x → (t : Bool) → x .live ≡ t → (refusal ≡ 0) ↔ (t ≡ true)
         standing x e true live = ((λ q. refl), (λ q. ap (λ o. o .answered .refusal) (find-outcome-live s v key l h x e live)))
         standing x e false dead = (
           (λ q. absurd (let r = ap (λ o. o .answered .refusal) (find-outcome-dead s v key l h x e dead) in omega arith)),
           (λ q. absurd (false≢true q)),
         )
 
-        at : (o : Option Entry) → entryAt key (s .row) ≡ o → (refusal ≡ 0) ↔ (isLive o ≡ true)
+        at : (o : Option Node) → nodeAt key (s .row) ≡ o → (refusal ≡ 0) ↔ (isLive o ≡ true)
         at none e = (
           (λ q. absurd (let r = ap (λ o. o .answered .refusal) (find-outcome-absent s v key l h e) in omega arith)),
           (λ q. absurd (false≢true q)),

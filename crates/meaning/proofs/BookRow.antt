@@ -1,5 +1,5 @@
--- The live pairs and the keys of a row, and what each change of a row does to them. A pair is live exactly if the first entry with its key
--- is; the entries of a changed cell stand between smaller and larger keys; before the first live entry there are no pairs.
+-- The live pairs and the keys of a row, and what each change of a row does to them. A pair is live exactly if the first node with its key
+-- is; the nodes of a changed cell stand between smaller and larger keys; before the first live node there are no pairs.
 use mathlib.Core.Path.{_≡_, refl, sym, _∙_, ap, ap₂, subst}
 use mathlib.Core.Bool.{Bool, true, false, cond, _||_, false≢true}
 use mathlib.Core.List.{List, [], _∷_, _++_, map, dropLast, append-nil, map-append}
@@ -9,45 +9,47 @@ use native.Mathlib.Decide.{ℕ-discrete}
 use native.Mathlib.Omega.{arith}
 use lib.Dec.{eqb}
 use borrow.Author.Tests.{eq-eqb, ne-eqb, lt-ltb, le-ltb}
-use Rattle.meaning.specs.Row.{Entry, put, those, entryAt}
-use Rattle.meaning.specs.State.{State, occurrences}
+use Rattle.lists.specs.Lists.{those, occurrences}
+use Rattle.lists.proofs.Those.{those-keep}
+use Rattle.lists.proofs.Occurrences.{occurrences-none}
+use Rattle.lists.proofs.All.{All, all-map, all-right, all-of-map, all-mapped, all-at}
+use Rattle.meaning.specs.Row.{Node, put, nodeAt}
+use Rattle.meaning.specs.State.{State}
 use Rattle.meaning.specs.Operations.{deadFront, fromLive, lastAlone}
 use Rattle.meaning.specs.Book.{Pair, pair, hasKey, putPair, putKey, keptFrom}
 use Rattle.meaning.proofs.AgainstSlips.{present-is-that-key}
-use Rattle.meaning.proofs.Order.{All, Asc, all-map, all-right, asc-above}
+use Rattle.meaning.proofs.Order.{Asc, asc-above}
 use Rattle.meaning.proofs.State.{Sound}
-use Rattle.meaning.proofs.Cells.{all-of-map, occurrences-none}
-use Rattle.meaning.proofs.Put.{those-keep}
-use Rattle.meaning.proofs.Places.{all-mapped, all-at, asc-smaller, asc-larger, Keeping, keys-changed, onCell}
-use Rattle.meaning.proofs.Keeps.{cell-alone, row-split, deadFront-dead, fromLive-live, live-split, last-split}
+use Rattle.meaning.proofs.Places.{asc-smaller, asc-larger, Keeping, keys-changed, onCell}
+use Rattle.meaning.proofs.KeepsState.{cell-alone, row-split, deadFront-dead, fromLive-live, live-split, last-split}
 use Rattle.meaning.proofs.KeepsSweep.{keptBy}
 use Rattle.meaning.proofs.Slot.{gap, put-gap}
-use Rattle.meaning.proofs.KeepsInsert.{entry-split}
+use Rattle.meaning.proofs.KeepsInsert.{node-split}
 
 -- the live pairs and the keys of a row
-abbrev pub pairsIn : List Entry → List Pair
+abbrev pub pairsIn : List Node → List Pair
 pairsIn row = map pair (those (λ x. x .live) row)
 
-abbrev pub keysIn : List Entry → List ℕ
+abbrev pub keysIn : List Node → List ℕ
 keysIn row = map (λ x. x .key) row
 
 -- Pairs
 
-pub pairs-live : (x : Entry) (row : List Entry) → x .live ≡ true → pairsIn (x ∷ row) ≡ pair x ∷ pairsIn row
+pub pairs-live : (x : Node) (row : List Node) → x .live ≡ true → pairsIn (x ∷ row) ≡ pair x ∷ pairsIn row
 unfolding those
 pairs-live x row e = ap (λ t. map pair (cond t (x ∷ those (λ y. y .live) row) (those (λ y. y .live) row))) e
 
-pub pairs-dead : (x : Entry) (row : List Entry) → x .live ≡ false → pairsIn (x ∷ row) ≡ pairsIn row
+pub pairs-dead : (x : Node) (row : List Node) → x .live ≡ false → pairsIn (x ∷ row) ≡ pairsIn row
 unfolding those
 pairs-dead x row e = ap (λ t. map pair (cond t (x ∷ those (λ y. y .live) row) (those (λ y. y .live) row))) e
 
--- dead entries in front make no pairs
-pub pairs-past : (front row : List Entry) → All (λ x. x .live ≡ false) front → pairsIn (front ++ row) ≡ pairsIn row
+-- dead nodes in front make no pairs
+pub pairs-past : (front row : List Node) → All (λ x. x .live ≡ false) front → pairsIn (front ++ row) ≡ pairsIn row
 pairs-past [] row a = refl
 pairs-past (x ∷ front) row a = pairs-dead x (front ++ row) (a .0) ∙ pairs-past front row (a .1)
 
--- what comes after some entries matters by its pairs alone
-pub pairs-after : (front rows others : List Entry) → pairsIn rows ≡ pairsIn others → pairsIn (front ++ rows) ≡ pairsIn (front ++ others)
+-- what comes after some nodes matters by its pairs alone
+pub pairs-after : (front rows others : List Node) → pairsIn rows ≡ pairsIn others → pairsIn (front ++ rows) ≡ pairsIn (front ++ others)
 unfolding those
 pairs-after [] rows others e = e
 pairs-after (x ∷ front) rows others e = at (x .live) (pairs-after front rows others e)
@@ -59,7 +61,7 @@ pairs-after (x ∷ front) rows others e = at (x .live) (pairs-after front rows o
     at false more = more
 
 -- a change that keeps keys, values and marks
-pub pairs-changed : (f : Entry → Entry) → ((x : Entry) → pair (f x) ≡ pair x) → ((x : Entry) → f x .live ≡ x .live) → (row : List Entry) → pairsIn (map f row) ≡ pairsIn row
+pub pairs-changed : (f : Node → Node) → ((x : Node) → pair (f x) ≡ pair x) → ((x : Node) → f x .live ≡ x .live) → (row : List Node) → pairsIn (map f row) ≡ pairsIn row
 unfolding those
 pairs-changed f same live [] = refl
 pairs-changed f same live (x ∷ row) =
@@ -72,7 +74,7 @@ pairs-changed f same live (x ∷ row) =
     at true more = λ i. same x i ∷ more i
     at false more = more
 
-pub pairs-have : (P : ℕ → Type 0) (row : List Entry) → All (λ x. P (x .key)) row → All (λ p. P (p .key)) (pairsIn row)
+pub pairs-have : (P : ℕ → Type 0) (row : List Node) → All (λ x. P (x .key)) row → All (λ p. P (p .key)) (pairsIn row)
 pairs-have P row a = all-mapped (λ p. P (p .key)) pair (those (λ x. x .live) row) (those-keep (λ x. P (x .key)) (λ x. x .live) row a)
 
 -- A pair and a key in their places
@@ -95,8 +97,8 @@ putKey-past : (key x : ℕ) (keys : List ℕ) → x < key → putKey key (x ∷ 
 unfolding putKey
 putKey-past key x keys h = rw (le-ltb key x (omega arith)) refl
 
--- a live entry between smaller and larger keys is one pair more, and one key more
-pub pairs-put : (front : List Entry) (x : Entry) (later : List Entry) → All (λ y. y .key < x .key) front → All (λ y. x .key < y .key) later → x .live ≡ true →
+-- a live node between smaller and larger keys is one pair more, and one key more
+pub pairs-put : (front : List Node) (x : Node) (later : List Node) → All (λ y. y .key < x .key) front → All (λ y. x .key < y .key) later → x .live ≡ true →
     pairsIn (front ++ (x ∷ later)) ≡ putPair (pair x) (pairsIn (front ++ later))
 unfolding those
 pairs-put [] x later smaller larger live =
@@ -109,7 +111,7 @@ pairs-put (y ∷ front) x later smaller larger live = at (y .live) (pairs-put fr
     at true more = ap {B = List Pair} (λ r. pair y ∷ r) more ∙ sym (putPair-past (pair x) (pair y) (pairsIn (front ++ later)) (smaller .0))
     at false more = more
 
-pub keys-put : (front : List Entry) (x : Entry) (later : List Entry) → All (λ y. y .key < x .key) front → All (λ y. x .key < y .key) later →
+pub keys-put : (front : List Node) (x : Node) (later : List Node) → All (λ y. y .key < x .key) front → All (λ y. x .key < y .key) later →
     keysIn (front ++ (x ∷ later)) ≡ putKey (x .key) (keysIn (front ++ later))
 keys-put [] x later smaller larger = sym (putKey-front (x .key) (keysIn later) (all-mapped (λ k. x .key < k) (λ y. y .key) later larger))
 keys-put (y ∷ front) x later smaller larger =
@@ -118,21 +120,21 @@ keys-put (y ∷ front) x later smaller larger =
 
 -- The key is there
 
--- an entry with the key stands, and is live
-abbrev pub isThere : Option Entry → Bool
+-- a node with the key stands, and is live
+abbrev pub isThere : Option Node → Bool
 isThere none = false
 isThere (some x) = true
 
-abbrev pub isLive : Option Entry → Bool
+abbrev pub isLive : Option Node → Bool
 isLive none = false
 isLive (some x) = x .live
 
-pub key-stands : (key : ℕ) (row : List Entry) → hasKey key (keysIn row) ≡ isThere (entryAt key row)
-unfolding hasKey entryAt
+pub key-stands : (key : ℕ) (row : List Node) → hasKey key (keysIn row) ≡ isThere (nodeAt key row)
+unfolding hasKey nodeAt
 key-stands key [] = refl
 key-stands key (x ∷ row) = at (eqb (x .key) key) (key-stands key row)
   where
-    at : (t : Bool) → hasKey key (keysIn row) ≡ isThere (entryAt key row) → (t || hasKey key (keysIn row)) ≡ isThere (cond t (some x) (entryAt key row))
+    at : (t : Bool) → hasKey key (keysIn row) ≡ isThere (nodeAt key row) → (t || hasKey key (keysIn row)) ≡ isThere (cond t (some x) (nodeAt key row))
     at true more = refl
     at false more = more
 
@@ -141,8 +143,8 @@ unfolding hasKey
 has-none key [] a = refl
 has-none key (x ∷ keys) a = rw (ne-eqb x key (a .0), has-none key keys (a .1)) refl
 
-pub key-lives : (low key : ℕ) (row : List Entry) → Asc low row → hasKey key (map (λ p. p .key) (pairsIn row)) ≡ isLive (entryAt key row)
-unfolding hasKey entryAt those
+pub key-lives : (low key : ℕ) (row : List Node) → Asc low row → hasKey key (map (λ p. p .key) (pairsIn row)) ≡ isLive (nodeAt key row)
+unfolding hasKey nodeAt those
 key-lives low key [] a = refl
 key-lives low key (x ∷ row) a = at (ℕ-discrete (x .key) key) (key-lives (x .key) key row (a .1))
   where
@@ -157,59 +159,59 @@ key-lives low key (x ∷ row) a = at (ℕ-discrete (x .key) key) (key-lives (x .
     other true ne = rw (ne-eqb (x .key) key ne) refl
     other false ne = refl
 
-    at : Dec (x .key ≡ key) → hasKey key (map (λ p. p .key) (pairsIn row)) ≡ isLive (entryAt key row) →
-        hasKey key (map (λ p. p .key) (map pair (cond (x .live) (x ∷ those (λ y. y .live) row) (those (λ y. y .live) row)))) ≡ isLive (cond (eqb (x .key) key) (some x) (entryAt key row))
+    at : Dec (x .key ≡ key) → hasKey key (map (λ p. p .key) (pairsIn row)) ≡ isLive (nodeAt key row) →
+        hasKey key (map (λ p. p .key) (map pair (cond (x .live) (x ∷ those (λ y. y .live) row) (those (λ y. y .live) row)))) ≡ isLive (cond (eqb (x .key) key) (some x) (nodeAt key row))
     at (yes e) more =
         subst (λ k. hasKey k (map (λ p. p .key) (pairsIn (x ∷ row))) ≡ x .live) e (here (x .live))
-        ∙ sym (ap (λ t. isLive (cond t (some x) (entryAt key row))) (eq-eqb (x .key) key e))
-    at (no ne) more = other (x .live) ne ∙ more ∙ sym (ap (λ t. isLive (cond t (some x) (entryAt key row))) (ne-eqb (x .key) key ne))
+        ∙ sym (ap (λ t. isLive (cond t (some x) (nodeAt key row))) (eq-eqb (x .key) key e))
+    at (no ne) more = other (x .live) ne ∙ more ∙ sym (ap (λ t. isLive (cond t (some x) (nodeAt key row))) (ne-eqb (x .key) key ne))
 
-pub entry-key : (key : ℕ) (x : Entry) (row : List Entry) → entryAt key row ≡ some x → x .key ≡ key
-entry-key = present-is-that-key
+pub node-key : (key : ℕ) (x : Node) (row : List Node) → nodeAt key row ≡ some x → x .key ≡ key
+node-key = present-is-that-key
 
--- what all entries have, the entry with a key has
-pub entry-has : (P : Entry → Type 0) (key : ℕ) (x : Entry) (row : List Entry) → entryAt key row ≡ some x → All P row → P x
-entry-has P key x row e a = let (front, later, split) = entry-split key x row e in all-at P front x later (subst (All P) split a)
+-- what all nodes have, the node with a key has
+pub node-has : (P : Node → Type 0) (key : ℕ) (x : Node) (row : List Node) → nodeAt key row ≡ some x → All P row → P x
+node-has P key x row e a = let (front, later, split) = node-split key x row e in all-at P front x later (subst (All P) split a)
 
 -- One cell changed
 
-unchanged : (c : ℕ) (f : Entry → Entry) (row : List Entry) → All (λ x. c ≡ x .cell → ⊥) row → map (onCell c f) row ≡ row
+unchanged : (c : ℕ) (f : Node → Node) (row : List Node) → All (λ x. c ≡ x .cell → ⊥) row → map (onCell c f) row ≡ row
 unchanged c f [] a = refl
-unchanged c f (x ∷ row) a = rw (ne-eqb (x .cell) c (λ q. a .0 (sym q))) (ap {B = List Entry} (λ r. x ∷ r) (unchanged c f row (a .1)))
+unchanged c f (x ∷ row) a = rw (ne-eqb (x .cell) c (λ q. a .0 (sym q))) (ap {B = List Node} (λ r. x ∷ r) (unchanged c f row (a .1)))
 
--- a change of one cell changes its entry alone
-pub changed-alone : (s : State) → Sound s → (front : List Entry) (x : Entry) (later : List Entry) → s .row ≡ front ++ (x ∷ later) → (f : Entry → Entry) →
+-- a change of one cell changes its node alone
+pub changed-alone : (s : State) → Sound s → (front : List Node) (x : Node) (later : List Node) → s .row ≡ front ++ (x ∷ later) → (f : Node → Node) →
     map (onCell (x .cell) f) (s .row) ≡ front ++ (f x ∷ later)
 changed-alone s v front x later split f =
     let alone = cell-alone s v front x later split in
-    let others : (row : List Entry) → occurrences (x .cell) (map (λ y. y .cell) row) ≡ 0 → map (onCell (x .cell) f) row ≡ row =
+    let others : (row : List Node) → occurrences (x .cell) (map (λ y. y .cell) row) ≡ 0 → map (onCell (x .cell) f) row ≡ row =
     λ row e. unchanged (x .cell) f row (all-of-map (λ c. x .cell ≡ c → ⊥) (λ y. y .cell) row (occurrences-none (x .cell) (map (λ y. y .cell) row) e)) in
     ap (map (onCell (x .cell) f)) split
     ∙ map-append (onCell (x .cell) f) front (x ∷ later)
     ∙ ap₂ (λ pre post. pre ++ (onCell (x .cell) f x ∷ post)) (others front (alone .not-front)) (others later (alone .not-later))
     ∙ ap (λ t. front ++ (cond t (f x) x ∷ later)) (eq-eqb (x .cell) (x .cell) refl)
 
--- The first live entry
+-- The first live node
 
-pub pairs-from-live : (row : List Entry) → pairsIn row ≡ pairsIn (fromLive row)
+pub pairs-from-live : (row : List Node) → pairsIn row ≡ pairsIn (fromLive row)
 pairs-from-live row = ap pairsIn (sym (row-split row)) ∙ pairs-past (deadFront row) (fromLive row) (deadFront-dead row)
 
-pub pairs-empty : (row : List Entry) → fromLive row ≡ [] → pairsIn row ≡ []
+pub pairs-empty : (row : List Node) → fromLive row ≡ [] → pairsIn row ≡ []
 unfolding those
 pairs-empty row e = pairs-from-live row ∙ ap pairsIn e
 
-pub pairs-first : (row : List Entry) (x : Entry) (later : List Entry) → fromLive row ≡ x ∷ later → pairsIn row ≡ pair x ∷ pairsIn later
+pub pairs-first : (row : List Node) (x : Node) (later : List Node) → fromLive row ≡ x ∷ later → pairsIn row ≡ pair x ∷ pairsIn later
 pairs-first row x later e = pairs-from-live row ∙ ap pairsIn e ∙ pairs-live x later (fromLive-live row x later e)
 
 -- Kept by a sweep
 
-pub kept-dead : (row : List Entry) → keptFrom [] (keysIn row) ≡ keysIn (lastAlone row)
+pub kept-dead : (row : List Node) → keptFrom [] (keysIn row) ≡ keysIn (lastAlone row)
 unfolding keptFrom lastAlone
 kept-dead [] = refl
 kept-dead (x ∷ []) = refl
 kept-dead (x ∷ y ∷ row) = kept-dead (y ∷ row)
 
-pub kept-live : (pairs : List Pair) (front : List Entry) (x : Entry) (later : List Entry) → All (λ y. y .key < x .key) front → All (λ y. x .key < y .key) later →
+pub kept-live : (pairs : List Pair) (front : List Node) (x : Node) (later : List Node) → All (λ y. y .key < x .key) front → All (λ y. x .key < y .key) later →
     keptFrom (pair x ∷ pairs) (keysIn (front ++ (x ∷ later))) ≡ keysIn (lastAlone front ++ (x ∷ later))
 unfolding keptFrom lastAlone
 kept-live pairs [] x [] smaller larger = refl
@@ -218,13 +220,13 @@ kept-live pairs (a ∷ []) x later smaller larger = rw (le-ltb (x .key) (x .key)
 kept-live pairs (a ∷ b ∷ front) x later smaller larger =
     rw (lt-ltb (b .key) (x .key) (smaller .1 .0)) (kept-live pairs (b ∷ front) x later (smaller .1) larger)
 
-pub kept-keys : (row : List Entry) → Asc 0 row → keptFrom (pairsIn row) (keysIn row) ≡ keysIn (keptBy row)
+pub kept-keys : (row : List Node) → Asc 0 row → keptFrom (pairsIn row) (keysIn row) ≡ keysIn (keptBy row)
 kept-keys row a = at (fromLive row) refl
   where
-    front : List Entry
+    front : List Node
     front = deadFront row
 
-    at : (rest : List Entry) → fromLive row ≡ rest → keptFrom (pairsIn row) (keysIn row) ≡ keysIn (lastAlone front ++ fromLive row)
+    at : (rest : List Node) → fromLive row ≡ rest → keptFrom (pairsIn row) (keysIn row) ≡ keysIn (lastAlone front ++ fromLive row)
     at [] e =
         let all : row ≡ front = sym (row-split row) ∙ ap (λ r. front ++ r) e ∙ append-nil front in
         ap₂ keptFrom (pairs-empty row e) (ap keysIn all)
@@ -238,7 +240,7 @@ kept-keys row a = at (fromLive row) refl
         ∙ kept-live (pairsIn later) front x later (asc-smaller 0 front x later up) (asc-larger 0 front x later up)
         ∙ ap (λ r. keysIn (lastAlone front ++ r)) (sym e)
 
-pub kept-pairs : (row : List Entry) → pairsIn (keptBy row) ≡ pairsIn row
+pub kept-pairs : (row : List Node) → pairsIn (keptBy row) ≡ pairsIn row
 kept-pairs row =
     pairs-past (lastAlone (deadFront row)) (fromLive row)
     (all-right (λ x. x .live ≡ false) (dropLast (deadFront row)) (lastAlone (deadFront row))
@@ -247,21 +249,21 @@ kept-pairs row =
 
 -- Put in its place
 
--- a key stands no more after a change of entries that keeps keys than before
-pub absent-changed : (f : Entry → Entry) → Keeping f → (key : ℕ) (row : List Entry) → entryAt key row ≡ none → entryAt key (map f row) ≡ none
+-- a key stands no more after a change of nodes that keeps keys than before
+pub absent-changed : (f : Node → Node) → Keeping f → (key : ℕ) (row : List Node) → nodeAt key row ≡ none → nodeAt key (map f row) ≡ none
 absent-changed f k key row e =
-    at (entryAt key (map f row)) (sym (key-stands key (map f row)) ∙ ap (hasKey key) (keys-changed f k row) ∙ key-stands key row ∙ ap isThere e)
+    at (nodeAt key (map f row)) (sym (key-stands key (map f row)) ∙ ap (hasKey key) (keys-changed f k row) ∙ key-stands key row ∙ ap isThere e)
   where
-    at : (o : Option Entry) → isThere o ≡ false → o ≡ none
+    at : (o : Option Node) → isThere o ≡ false → o ≡ none
     at none h = refl
     at (some x) h = absurd (false≢true (sym h))
 
-pub put-pairs : (x : Entry) (row : List Entry) → Asc 0 row → entryAt (x .key) row ≡ none → x .live ≡ true → pairsIn (put x row) ≡ putPair (pair x) (pairsIn row)
+pub put-pairs : (x : Node) (row : List Node) → Asc 0 row → nodeAt (x .key) row ≡ none → x .live ≡ true → pairsIn (put x row) ≡ putPair (pair x) (pairsIn row)
 put-pairs x row a e live =
     let g = gap (x .key) 0 row a e in
     ap pairsIn (put-gap x row g) ∙ pairs-put (g .pre) x (g .post) (g .below) (g .above) live ∙ ap (λ r. putPair (pair x) (pairsIn r)) (sym (g .splits))
 
-pub put-keys : (x : Entry) (row : List Entry) → Asc 0 row → entryAt (x .key) row ≡ none → keysIn (put x row) ≡ putKey (x .key) (keysIn row)
+pub put-keys : (x : Node) (row : List Node) → Asc 0 row → nodeAt (x .key) row ≡ none → keysIn (put x row) ≡ putKey (x .key) (keysIn row)
 put-keys x row a e =
     let g = gap (x .key) 0 row a e in
     ap keysIn (put-gap x row g) ∙ keys-put (g .pre) x (g .post) (g .below) (g .above) ∙ ap (λ r. putKey (x .key) (keysIn r)) (sym (g .splits))

@@ -1,4 +1,4 @@
--- The picture of a state in which entries change and keep their cells and keys, word by word. Places stay where they are; the words of
+-- The picture of a state in which nodes change and keep their cells and keys, word by word. Places stay where they are; the words of
 -- a cell follow from its place, from the values, marks and debts after the change, and from nothing else; and the path follows from the
 -- position, the cells and the keys.
 use mathlib.Core.Path.{_≡_, refl, sym, ap, ap₂, _∙_, fun-ext}
@@ -10,22 +10,24 @@ use native.Mathlib.Omega.{arith}
 use lib.Dec.{eqb, leb}
 use lib.ListN.{length, getD}
 use Rattle.settings.specs.Numbers.{headerWords, fieldsBeforeCoordinates, cellWords}
+use Rattle.lists.specs.Lists.{numbersFrom}
 use Rattle.meaning.specs.Keys.{coordinates, coordinate, shared}
-use Rattle.meaning.specs.Row.{Entry, headEntry, firstOf, firstSharing, Place, placeOf, settledLink, between, link}
-use Rattle.meaning.specs.State.{State, keyOf, positionKey}
-use Rattle.meaning.specs.Picture.{numbersFrom, mark, standingWords, wordsOf, firstWith, pathWord, path, picture}
-use Rattle.meaning.specs.Stores.{linkField, writePath}
+use Rattle.meaning.specs.Row.{Node, headNode, firstOf, firstSharing, Place, placeOf, settledLink, between, link}
+use Rattle.meaning.specs.State.{State, keyOf, positionKey, placesOf}
+use Rattle.meaning.specs.Picture.{mark, standingWords, wordsOf, firstWith, pathWord, path, picture}
+use Rattle.meaning.specs.Layer.Stores.{writePath}
+use Rattle.meaning.specs.Words.{linkField}
 use Rattle.meaning.proofs.Picture.{shownWords, path-length, picture-word, picture-path, path-word}
 use Rattle.meaning.proofs.Places.{Keeping, changedPlace, cells-changed, keys-changed, firstOf-changed, places-changed}
 use Rattle.meaning.proofs.WalkRead.{words-coordinate, words-link}
-use Rattle.meaning.proofs.SentencesCells.{placesIn, Placed}
-use Rattle.meaning.proofs.Keeps.{changedState}
+use Rattle.meaning.proofs.Placed.{Placed}
+use Rattle.meaning.proofs.KeepsState.{changedState}
 use Rattle.meaning.proofs.Stores.{wordIn, picture-exact, path-sets-same}
 
 -- The path
 
--- rows that have, entry by entry, the same cells and keys
-pub first-same : (b D key n : ℕ) (row other : List Entry) → map (λ x. x .cell) row ≡ map (λ x. x .cell) other → map (λ x. x .key) row ≡ map (λ x. x .key) other → firstWith b D key n row ≡ firstWith b D key n other
+-- rows that have, node by node, the same cells and keys
+pub first-same : (b D key n : ℕ) (row other : List Node) → map (λ x. x .cell) row ≡ map (λ x. x .cell) other → map (λ x. x .key) row ≡ map (λ x. x .key) other → firstWith b D key n row ≡ firstWith b D key n other
 unfolding firstWith
 first-same b D key n [] [] c k = refl
 first-same b D key n [] (y ∷ other) c k = absurd (let l = ap length c in omega arith)
@@ -35,7 +37,7 @@ first-same b D key n (x ∷ row) (y ∷ other) c k =
     let key′ : x .key ≡ y .key = cc in
     rw (cell, key′, first-same b D key n row other (cc) (cc)) refl
 
-pub keyOf-same-rows : (c : ℕ) (row other : List Entry) → map (λ x. x .cell) row ≡ map (λ x. x .cell) other → map (λ x. x .key) row ≡ map (λ x. x .key) other → keyOf c row ≡ keyOf c other
+pub keyOf-same-rows : (c : ℕ) (row other : List Node) → map (λ x. x .cell) row ≡ map (λ x. x .cell) other → map (λ x. x .key) row ≡ map (λ x. x .key) other → keyOf c row ≡ keyOf c other
 unfolding keyOf
 keyOf-same-rows c [] [] e k = refl
 keyOf-same-rows c [] (y ∷ other) e k = absurd (let l = ap length e in omega arith)
@@ -50,10 +52,10 @@ module _ (s t : State) (settings : s .settings ≡ t .settings) (position : s .p
   pub pathWord-unmoved : (d : ℕ) → pathWord s d ≡ pathWord t d
   pathWord-unmoved d =
       let key : positionKey s ≡ positionKey t =
-      ap (λ c. keyOf c (headEntry ∷ s .row)) position
-      ∙ keyOf-same-rows (t .position) (headEntry ∷ s .row) (headEntry ∷ t .row) (ap {B = List ℕ} (λ cs. 0 ∷ cs) cells) (ap {B = List ℕ} (λ ks. 0 ∷ ks) keys) in
-      ap₂ (λ r k. firstWith (r .base) (r .dimensions) k (suc d) (headEntry ∷ s .row)) settings key
-      ∙ first-same (t .settings .base) (t .settings .dimensions) (positionKey t) (suc d) (headEntry ∷ s .row) (headEntry ∷ t .row)
+      ap (λ c. keyOf c (headNode ∷ s .row)) position
+      ∙ keyOf-same-rows (t .position) (headNode ∷ s .row) (headNode ∷ t .row) (ap {B = List ℕ} (λ cs. 0 ∷ cs) cells) (ap {B = List ℕ} (λ ks. 0 ∷ ks) keys) in
+      ap₂ (λ r k. firstWith (r .base) (r .dimensions) k (suc d) (headNode ∷ s .row)) settings key
+      ∙ first-same (t .settings .base) (t .settings .dimensions) (positionKey t) (suc d) (headNode ∷ s .row) (headNode ∷ t .row)
       (ap {B = List ℕ} (λ cs. 0 ∷ cs) cells) (ap {B = List ℕ} (λ ks. 0 ∷ ks) keys)
 
   -- the position, the cells and the keys give the path
@@ -75,66 +77,66 @@ path-rewritten s = path-sets-same (picture-exact s) (path s) (path-length s) (pi
 abbrev pub linkBy : ℕ → ℕ → Bool → Bool → Place → ℕ → ℕ
 linkBy b D beforeOwes owes q d =
     cond (beforeOwes && between (q .beforeDimension) (q .dimension) d)
-    (firstSharing b D (q .before .key) d (q .entry ∷ q .later))
-    (cond (owes && between (cond owes (q .dimension) 0) (cond owes (shared b D (q .entry .key) (firstOf (q .later) .key)) 0) d) 0 (settledLink b D q d))
+    (firstSharing b D (q .before .key) d (q .node ∷ q .later))
+    (cond (owes && between (cond owes (q .dimension) 0) (cond owes (shared b D (q .node .key) (firstOf (q .later) .key)) 0) d) 0 (settledLink b D q d))
 
 -- the words of a place with a value and a mark
 unfoldable pub wordsBy : ℕ → ℕ → ℕ → Bool → Bool → Bool → Place → List ℕ
 wordsBy b D value live beforeOwes owes q =
-    q .entry .key ∷ value ∷ mark live
-    ∷ cond owes (firstOf (q .later) .cell) 0 ∷ cond owes (q .dimension) 0 ∷ cond owes (shared b D (q .entry .key) (firstOf (q .later) .key)) 0
-    ∷ (coordinates b D (q .entry .key) ++ map (linkBy b D beforeOwes owes q) (numbersFrom 0 D))
+    q .node .key ∷ value ∷ mark live
+    ∷ cond owes (firstOf (q .later) .cell) 0 ∷ cond owes (q .dimension) 0 ∷ cond owes (shared b D (q .node .key) (firstOf (q .later) .key)) 0
+    ∷ (coordinates b D (q .node .key) ++ map (linkBy b D beforeOwes owes q) (numbersFrom 0 D))
 
-pub link-by : (b D : ℕ) (q : Place) (d : ℕ) → link b D q d ≡ linkBy b D (q .before .owes) (q .entry .owes) q d
+pub link-by : (b D : ℕ) (q : Place) (d : ℕ) → link b D q d ≡ linkBy b D (q .before .owes) (q .node .owes) q d
 unfolding link
 link-by b D q d = refl
 
-pub standing-by : (b D : ℕ) (q : Place) → standingWords b D q ≡ wordsBy b D (q .entry .value) (q .entry .live) (q .before .owes) (q .entry .owes) q
+pub standing-by : (b D : ℕ) (q : Place) → standingWords b D q ≡ wordsBy b D (q .node .value) (q .node .live) (q .before .owes) (q .node .owes) q
 unfolding standingWords wordsBy link
 standing-by b D q = refl
 
 -- its first six
 abbrev sixBy : ℕ → ℕ → ℕ → Bool → Bool → Place → List ℕ
 sixBy b D value live owes q =
-    q .entry .key ∷ value ∷ mark live
-    ∷ cond owes (firstOf (q .later) .cell) 0 ∷ cond owes (q .dimension) 0 ∷ cond owes (shared b D (q .entry .key) (firstOf (q .later) .key)) 0 ∷ []
+    q .node .key ∷ value ∷ mark live
+    ∷ cond owes (firstOf (q .later) .cell) 0 ∷ cond owes (q .dimension) 0 ∷ cond owes (shared b D (q .node .key) (firstOf (q .later) .key)) 0 ∷ []
 
-pub by-coordinate : (b D value : ℕ) (live beforeOwes owes : Bool) (q : Place) (d : ℕ) → d < D → getD (wordsBy b D value live beforeOwes owes q) (fieldsBeforeCoordinates + d) 0 ≡ coordinate b D (q .entry .key) d
+pub by-coordinate : (b D value : ℕ) (live beforeOwes owes : Bool) (q : Place) (d : ℕ) → d < D → getD (wordsBy b D value live beforeOwes owes q) (fieldsBeforeCoordinates + d) 0 ≡ coordinate b D (q .node .key) d
 unfolding wordsBy
-by-coordinate b D value live beforeOwes owes q d h = words-coordinate (sixBy b D value live owes q) refl b D (q .entry .key) (linkBy b D beforeOwes owes q) d h
+by-coordinate b D value live beforeOwes owes q d h = words-coordinate (sixBy b D value live owes q) refl b D (q .node .key) (linkBy b D beforeOwes owes q) d h
 
 pub by-link : (b D value : ℕ) (live beforeOwes owes : Bool) (q : Place) (d : ℕ) → d < D → getD (wordsBy b D value live beforeOwes owes q) (linkField D d) 0 ≡ linkBy b D beforeOwes owes q d
 unfolding wordsBy
-by-link b D value live beforeOwes owes q d h = words-link (sixBy b D value live owes q) refl b D (q .entry .key) (linkBy b D beforeOwes owes q) d h
+by-link b D value live beforeOwes owes q d h = words-link (sixBy b D value live owes q) refl b D (q .node .key) (linkBy b D beforeOwes owes q) d h
 
--- Changed entries
+-- Changed nodes
 
-module _ (f : Entry → Entry) (keeping : Keeping f) where
-  sharing-changed : (b D key d : ℕ) (row : List Entry) → firstSharing b D key d (map f row) ≡ firstSharing b D key d row
+module _ (f : Node → Node) (keeping : Keeping f) where
+  sharing-changed : (b D key d : ℕ) (row : List Node) → firstSharing b D key d (map f row) ≡ firstSharing b D key d row
   unfolding firstSharing
   sharing-changed b D key d [] = refl
   sharing-changed b D key d (x ∷ row) = rw (keeping .key x, keeping .cell x, sharing-changed b D key d row) refl
 
-  first-key : (row : List Entry) → firstOf (map f row) .key ≡ firstOf row .key
+  first-key : (row : List Node) → firstOf (map f row) .key ≡ firstOf row .key
   first-key row = ap (λ x. x .key) (firstOf-changed f keeping row) ∙ keeping .key (firstOf row)
 
-  first-cell : (row : List Entry) → firstOf (map f row) .cell ≡ firstOf row .cell
+  first-cell : (row : List Node) → firstOf (map f row) .cell ≡ firstOf row .cell
   first-cell row = ap (λ x. x .cell) (firstOf-changed f keeping row) ∙ keeping .cell (firstOf row)
 
   linkBy-changed : (b D : ℕ) (beforeOwes owes : Bool) (q : Place) (d : ℕ) → linkBy b D beforeOwes owes (changedPlace f q) d ≡ linkBy b D beforeOwes owes q d
   linkBy-changed b D beforeOwes owes q d = λ i.
       cond (beforeOwes && between (q .beforeDimension) (q .dimension) d)
-      ((ap (λ k. firstSharing b D k d (f (q .entry) ∷ map f (q .later))) (keeping .key (q .before)) ∙ sharing-changed b D (q .before .key) d (q .entry ∷ q .later)) i)
-      (cond (owes && between (cond owes (q .dimension) 0) (cond owes (shared b D (keeping .key (q .entry) i) (first-key (q .later) i)) 0) d) 0
-      (cond (leb (q .dimension) d) ((ap (λ k. firstSharing b D k d (map f (q .later))) (keeping .key (q .entry)) ∙ sharing-changed b D (q .entry .key) d (q .later)) i) 0))
+      ((ap (λ k. firstSharing b D k d (f (q .node) ∷ map f (q .later))) (keeping .key (q .before)) ∙ sharing-changed b D (q .before .key) d (q .node ∷ q .later)) i)
+      (cond (owes && between (cond owes (q .dimension) 0) (cond owes (shared b D (keeping .key (q .node) i) (first-key (q .later) i)) 0) d) 0
+      (cond (leb (q .dimension) d) ((ap (λ k. firstSharing b D k d (map f (q .later))) (keeping .key (q .node)) ∙ sharing-changed b D (q .node .key) d (q .later)) i) 0))
 
   -- the words of a changed place are those of the place, with the debts after the change
   wordsBy-changed : (b D value : ℕ) (live beforeOwes owes : Bool) (q : Place) → wordsBy b D value live beforeOwes owes (changedPlace f q) ≡ wordsBy b D value live beforeOwes owes q
   unfolding wordsBy
   wordsBy-changed b D value live beforeOwes owes q = λ i.
-      keeping .key (q .entry) i ∷ value ∷ mark live
-      ∷ cond owes (first-cell (q .later) i) 0 ∷ cond owes (q .dimension) 0 ∷ cond owes (shared b D (keeping .key (q .entry) i) (first-key (q .later) i)) 0
-      ∷ (coordinates b D (keeping .key (q .entry) i) ++ map (fun-ext (linkBy-changed b D beforeOwes owes q) i) (numbersFrom 0 D))
+      keeping .key (q .node) i ∷ value ∷ mark live
+      ∷ cond owes (first-cell (q .later) i) 0 ∷ cond owes (q .dimension) 0 ∷ cond owes (shared b D (keeping .key (q .node) i) (first-key (q .later) i)) 0
+      ∷ (coordinates b D (keeping .key (q .node) i) ++ map (fun-ext (linkBy-changed b D beforeOwes owes q) i) (numbersFrom 0 D))
 
   foundChanged : Option Place → Option Place
   foundChanged none = none
@@ -144,8 +146,8 @@ module _ (f : Entry → Entry) (keeping : Keeping f) where
   unfolding placeOf foundChanged
   placeOf-changed x [] = refl
   placeOf-changed x (p ∷ ps) =
-      ap (λ c. cond (eqb c x) (some (changedPlace f p)) (placeOf x (map (changedPlace f) ps))) (keeping .cell (p .entry))
-      ∙ at (eqb (p .entry .cell) x) (placeOf-changed x ps)
+      ap (λ c. cond (eqb c x) (some (changedPlace f p)) (placeOf x (map (changedPlace f) ps))) (keeping .cell (p .node))
+      ∙ at (eqb (p .node .cell) x) (placeOf-changed x ps)
     where
       at : (t : Bool) → placeOf x (map (changedPlace f) ps) ≡ foundChanged (placeOf x ps) →
           cond t (some (changedPlace f p)) (placeOf x (map (changedPlace f) ps)) ≡ foundChanged (cond t (some p) (placeOf x ps))
@@ -161,17 +163,17 @@ picture-place s x j h k = picture-word s x j h k
 -- of a standing cell
 pub placed-word : (s : State) {x : ℕ} {q : Place} → Placed s x q → (j : ℕ) → x < s .settings .cells → j < cellWords (s .settings .dimensions) →
     wordIn (s .settings .dimensions) (picture s) x j
-    ≡ getD (wordsBy (s .settings .base) (s .settings .dimensions) (q .entry .value) (q .entry .live) (q .before .owes) (q .entry .owes) q) j 0
+    ≡ getD (wordsBy (s .settings .base) (s .settings .dimensions) (q .node .value) (q .node .live) (q .before .owes) (q .node .owes) q) j 0
 unfolding wordsOf
 placed-word s {x} {q} here j h k =
     picture-place s x j h k
     ∙ ap (λ o. getD (wordsOf (s .settings .base) (s .settings .dimensions) (s .free) x o) j 0) (here .found)
     ∙ ap (λ ws. getD ws j 0) (standing-by (s .settings .base) (s .settings .dimensions) q)
 
-module _ (s : State) (f : Entry → Entry) (keeping : Keeping f) (position : ℕ) where
-  changed-found : (x : ℕ) → placeOf x (placesIn (changedState s f position)) ≡ foundChanged f keeping (placeOf x (placesIn s))
+module _ (s : State) (f : Node → Node) (keeping : Keeping f) (position : ℕ) where
+  changed-found : (x : ℕ) → placeOf x (placesOf (changedState s f position) (changedState s f position .row)) ≡ foundChanged f keeping (placeOf x (placesOf s (s .row)))
   changed-found x =
-      ap (placeOf x) (places-changed f keeping (s .settings .base) (s .settings .dimensions) (s .row)) ∙ placeOf-changed f keeping x (placesIn s)
+      ap (placeOf x) (places-changed f keeping (s .settings .base) (s .settings .dimensions) (s .row)) ∙ placeOf-changed f keeping x (placesOf s (s .row))
 
   pub changed-placed : {x : ℕ} {q : Place} → Placed s x q → Placed (changedState s f position) x (changedPlace f q)
   unfolding foundChanged
@@ -180,14 +182,14 @@ module _ (s : State) (f : Entry → Entry) (keeping : Keeping f) (position : ℕ
   -- a standing cell's words after the change
   pub changed-word : {x : ℕ} {q : Place} → Placed s x q → (j : ℕ) → x < s .settings .cells → j < cellWords (s .settings .dimensions) →
       wordIn (s .settings .dimensions) (picture (changedState s f position)) x j
-      ≡ getD (wordsBy (s .settings .base) (s .settings .dimensions) (f (q .entry) .value) (f (q .entry) .live) (f (q .before) .owes) (f (q .entry) .owes) q) j 0
+      ≡ getD (wordsBy (s .settings .base) (s .settings .dimensions) (f (q .node) .value) (f (q .node) .live) (f (q .before) .owes) (f (q .node) .owes) q) j 0
   changed-word {x} {q} here j h k =
       placed-word (changedState s f position) (changed-placed here) j h k
       ∙ ap (λ ws. getD ws j 0)
-      (wordsBy-changed f keeping (s .settings .base) (s .settings .dimensions) (f (q .entry) .value) (f (q .entry) .live) (f (q .before) .owes) (f (q .entry) .owes) q)
+      (wordsBy-changed f keeping (s .settings .base) (s .settings .dimensions) (f (q .node) .value) (f (q .node) .live) (f (q .before) .owes) (f (q .node) .owes) q)
 
   -- a free cell's, the header and the path are as before
-  pub changed-free : (x : ℕ) → placeOf x (placesIn s) ≡ none → (j : ℕ) → x < s .settings .cells → j < cellWords (s .settings .dimensions) →
+  pub changed-free : (x : ℕ) → placeOf x (placesOf s (s .row)) ≡ none → (j : ℕ) → x < s .settings .cells → j < cellWords (s .settings .dimensions) →
       wordIn (s .settings .dimensions) (picture (changedState s f position)) x j ≡ wordIn (s .settings .dimensions) (picture s) x j
   unfolding foundChanged
   changed-free x e j h k =
@@ -207,14 +209,14 @@ module _ (s : State) (f : Entry → Entry) (keeping : Keeping f) (position : ℕ
   changed-header (suc (suc (suc (suc (suc i))))) h = absurd (omega arith)
 
 -- the path after a change is that of the position in the row before
-pub path-changed : (s : State) (f : Entry → Entry) → Keeping f → (position : ℕ) →
+pub path-changed : (s : State) (f : Node → Node) → Keeping f → (position : ℕ) →
     path (changedState s f position) ≡ path (record { settings = s .settings; row = s .row; free = s .free; position = position })
 path-changed s f keeping position =
     path-unmoved (changedState s f position) (record { settings = s .settings; row = s .row; free = s .free; position = position })
     refl refl (cells-changed f keeping (s .row)) (keys-changed f keeping (s .row))
 
 -- while the position stays
-pub changed-path : (s : State) (f : Entry → Entry) (keeping : Keeping f) (d : ℕ) → d < s .settings .dimensions → getD (picture (changedState s f (s .position))) (headerWords + d) 0 ≡ getD (picture s) (headerWords + d) 0
+pub changed-path : (s : State) (f : Node → Node) (keeping : Keeping f) (d : ℕ) → d < s .settings .dimensions → getD (picture (changedState s f (s .position))) (headerWords + d) 0 ≡ getD (picture s) (headerWords + d) 0
 changed-path s f keeping d h =
     let after = changedState s f (s .position) in
     picture-path after d h

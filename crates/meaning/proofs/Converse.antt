@@ -8,21 +8,21 @@ use Prim.Native.Nat.{ℕ, suc, _+_, _-_, _≤_, _<_}
 use native.Mathlib.Omega.{arith}
 use lib.ListN.{getD}
 use Rattle.settings.specs.Numbers.{headerWords}
+use Rattle.lists.specs.Lists.{firstNumber}
+use Rattle.lists.proofs.Occurrences.{all-occur, occurs-has}
+use Rattle.lists.proofs.All.{All, all-map, all-zip, all-mapped, all-in}
 use Rattle.meaning.specs.Keys.{coordinate, shared}
-use Rattle.meaning.specs.Row.{headEntry, Place, places}
-use Rattle.meaning.specs.Picture.{firstNumber, nextFree, firstWith, pathWord, picture}
+use Rattle.meaning.specs.Row.{headNode, Place, places}
+use Rattle.meaning.specs.Picture.{nextFree, firstWith, pathWord, picture}
 use Rattle.meaning.specs.Reading.{isList}
-use Rattle.meaning.specs.Words.{wordAt, keyAt}
-use Rattle.meaning.specs.Sentences.{dimensionsAt, baseAt, sharedAt, Standing, Chained, ended, onward, positionAt, AList}
-use Rattle.meaning.proofs.Order.{All, all-map}
+use Rattle.meaning.specs.Words.{wordAt, keyAt, dimensionsAt, baseAt, positionAt}
+use Rattle.meaning.specs.Sentences.{sharedAt, Standing, Chained, ended, chained-on, AList}
 use Rattle.meaning.proofs.Keys.{shared-sym}
-use Rattle.meaning.proofs.Cells.{all-zip, free-distinct}
-use Rattle.meaning.proofs.Places.{all-mapped, all-occur}
+use Rattle.meaning.proofs.Cells.{free-distinct}
 use Rattle.meaning.proofs.Reading.{Follow, distinct-follow, picture-is-list}
 use Rattle.meaning.proofs.WalkRead.{Held}
-use Rattle.meaning.proofs.SentencesRow.{all-in, Least, least, nowhere, SharesAtLeast, first-with}
-use Rattle.meaning.proofs.SentencesNumbers.{occurs-has}
-use Rattle.meaning.proofs.SentencesCells.{FreeHeld, held-picture}
+use Rattle.meaning.proofs.SentencesRow.{Least, least, nowhere, SharesAtLeast, first-with}
+use Rattle.meaning.proofs.Placed.{FreeHeld, held-picture}
 use Rattle.meaning.proofs.Sentences.{list-sentences}
 use Rattle.meaning.proofs.ConverseKeys.{shared-is}
 use Rattle.meaning.proofs.ConverseRow.{Shown, standingRow, head-shown}
@@ -34,20 +34,20 @@ use Rattle.meaning.proofs.ConverseState.{stateOf, standing-occurs, posi
 
 chained-first : {ws : List ℕ} {c : ℕ} {cs : List ℕ} → Chained ws c cs → firstNumber cs ≡ c
 chained-first ended = refl
-chained-first (onward h more) = refl
+chained-first (chained-on h more) = refl
 
 -- each cell of the chain is followed by the one that its first word names
 chained-next : (free : List ℕ) {ws : List ℕ} {c : ℕ} {cs : List ℕ} → Chained ws c cs → Follow free cs → All (λ x. nextFree x free ≡ wordAt ws x 0) cs
 chained-next free ended f = tt
-chained-next free (onward h more) f = (f .0 ∙ chained-first more, chained-next free more (f .1))
+chained-next free (chained-on h more) f = (f .0 ∙ chained-first more, chained-next free more (f .1))
 
 module _ (ws : List ℕ) (a : AList ws) where
   -- The path
 
   path-shown : (d : ℕ) → d < dimensionsAt ws → pathWord (stateOf ws a) d ≡ getD ws (headerWords + d) 0
   path-shown d h =
-      ap (λ key. firstWith b D key (suc d) (headEntry ∷ standingRow ws)) (position-key ws a)
-      ∙ at (first-with b D here (suc d) headEntry (standingRow ws) (row-above ws a .ascends))
+      ap (λ key. firstWith b D key (suc d) (headNode ∷ standingRow ws)) (position-key ws a)
+      ∙ at (first-with b D here (suc d) headNode (standingRow ws) (row-above ws a .ascends))
     where
       b : ℕ
       b = baseAt ws
@@ -61,30 +61,30 @@ module _ (ws : List ℕ) (a : AList ws) where
       word : ℕ
       word = getD ws (headerWords + d) 0
 
-      all-shown : All (Shown ws) (headEntry ∷ standingRow ws)
+      all-shown : All (Shown ws) (headNode ∷ standingRow ws)
       all-shown = (head-shown ws a, row-above ws a .shown)
 
       same : (y : ℕ) → Standing ws y → shared b D (keyAt ws y) here ≡ sharedAt ws (positionAt ws) y
       same y st = shared-sym b D (keyAt ws y) here ∙ sym (shared-is ws a (positionAt ws) y (a .position) st)
 
-      -- the path word is the cell of an entry that shares so many
-      has : (P : ℕ → Type 0) → All (λ y. suc d ≤ shared b D (y .key) here → P (y .cell)) (headEntry ∷ standingRow ws) → P word
+      -- the path word is the cell of a node that shares so many
+      has : (P : ℕ → Type 0) → All (λ y. suc d ≤ shared b D (y .key) here → P (y .cell)) (headNode ∷ standingRow ws) → P word
       has P all =
           let s = a .path d h .sharing in
           let k = same word (s .standing) in
           let m = s .shares in
           occurs-has (λ y. suc d ≤ shared b D (keyAt ws y) here → P y) word (0 ∷ map (λ x. x .cell) (standingRow ws)) (standing-occurs ws a word (s .standing))
-          (all-mapped (λ y. suc d ≤ shared b D (keyAt ws y) here → P y) (λ x. x .cell) (headEntry ∷ standingRow ws)
-          (all-zip (λ y t f k. f (subst (λ key. suc d ≤ shared b D key here) (sym (t .key)) k)) (headEntry ∷ standingRow ws) all-shown all))
+          (all-mapped (λ y. suc d ≤ shared b D (keyAt ws y) here → P y) (λ x. x .cell) (headNode ∷ standingRow ws)
+          (all-zip (λ y t f k. f (subst (λ key. suc d ≤ shared b D key here) (sym (t .key)) k)) (headNode ∷ standingRow ws) all-shown all))
           (omega arith)
 
-      at : {c : ℕ} → Least (SharesAtLeast b D here (suc d)) (headEntry ∷ standingRow ws) c → c ≡ word
+      at : {c : ℕ} → Least (SharesAtLeast b D here (suc d)) (headNode ∷ standingRow ws) c → c ≡ word
       at (least y m q all) =
           let t = all-in (Shown ws) m all-shown in
           let k : suc d ≤ shared b D (keyAt ws (y .cell)) here = subst (λ key. suc d ≤ shared b D key here) (t .key) q in
           let e = same (y .cell) (t .standing) in
           let least-known = a .path d h .least (y .cell) (record { standing = t .standing; shares = omega arith }) in
-          let least-met = has (λ z. keyAt ws (y .cell) ≤ keyAt ws z) (all-zip (λ z u f r. let i = t .key in let j = u .key in let l = f r in omega arith) (headEntry ∷ standingRow ws) all-shown all) in
+          let least-met = has (λ z. keyAt ws (y .cell) ≤ keyAt ws z) (all-zip (λ z u f r. let i = t .key in let j = u .key in let l = f r in omega arith) (headNode ∷ standingRow ws) all-shown all) in
           a .distinct (y .cell) word (t .standing) (a .path d h .sharing .standing) (omega arith)
       at (nowhere all) = absurd (has (λ z. ⊥) all)
 
@@ -101,7 +101,7 @@ module _ (ws : List ℕ) (a : AList ws) where
         low = sym (low-shown ws a p q);
         high = sym (high-shown ws a p q);
         coordinate = λ d h.
-            a .coordinate-words (p .entry .cell) d (shown .standing) h ∙ ap (λ key. coordinate (baseAt ws) (dimensionsAt ws) key d) (sym (shown .key));
+            a .coordinate-words (p .node .cell) d (shown .standing) h ∙ ap (λ key. coordinate (baseAt ws) (dimensionsAt ws) key d) (sym (shown .key));
         link = λ d h. sym (link-shown ws a p d q h);
       }
 

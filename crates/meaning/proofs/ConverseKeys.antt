@@ -6,10 +6,10 @@ use mathlib.Core.List.{List}
 use Prim.Native.Nat.{ℕ, _^_, _<_}
 use native.Mathlib.Decide.{ℕ-discrete, decLt}
 use native.Mathlib.Omega.{arith}
-use Rattle.settings.proofs.Laws.{base-at-least-two}
+use Rattle.settings.proofs.Numbers.{base-at-least-two}
 use Rattle.meaning.specs.Keys.{coordinate, shared}
-use Rattle.meaning.specs.Words.{keyAt, markAt}
-use Rattle.meaning.specs.Sentences.{dimensionsAt, countAt, baseAt, sharedAt, Free, Standing, NextSmaller, NextLarger, Dimension, of-head, of-other, LargerAt, Settled, leads, leads-nowhere, below-dimension, AList}
+use Rattle.meaning.specs.Words.{keyAt, markAt, dimensionsAt, cellsAt, baseAt}
+use Rattle.meaning.specs.Sentences.{sharedAt, Free, Standing, NextSmaller, NextLarger, Dimension, of-head, of-other, LargerAt, Settled, leads, leads-nowhere, below-dimension, AList}
 use Rattle.meaning.proofs.Keys.{shared-agreed, coordinate-less, coordinate-larger}
 
 module _ (ws : List ℕ) (a : AList ws) where
@@ -21,7 +21,7 @@ module _ (ws : List ℕ) (a : AList ws) where
   pub head-stands : Standing ws 0
   head-stands = record { cell = (let h = a .count .0 in omega arith); mark = inr (a .head .1 .1) }
 
-  pub free-or-standing : (x : ℕ) → x < countAt ws → Free ws x ⊎ Standing ws x
+  pub free-or-standing : (x : ℕ) → x < cellsAt ws → Free ws x ⊎ Standing ws x
   free-or-standing x h = at (ℕ-discrete (markAt ws x) 0) (ℕ-discrete (markAt ws x) 1)
     where
       at : Dec (markAt ws x ≡ 0) → Dec (markAt ws x ≡ 1) → Free ws x ⊎ Standing ws x

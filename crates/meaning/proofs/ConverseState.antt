@@ -8,22 +8,22 @@ use Prim.Native.Nat.{ℕ, _-_, _<_}
 use native.Mathlib.Decide.{ℕ-discrete}
 use native.Mathlib.Omega.{arith}
 use lib.ListN.{length}
-use Rattle.settings.proofs.Laws.{base-is, base-unique}
+use Rattle.settings.proofs.Numbers.{base-is, base-unique}
+use Rattle.lists.specs.Lists.{occurrences}
+use Rattle.lists.proofs.Counting.{each-once}
+use Rattle.lists.proofs.Occurrences.{occurrences-here, occurrences-append, occurrences-more, all-occur, none-occurs}
+use Rattle.lists.proofs.All.{All, all-map, all-append, all-mapped}
 use Rattle.meaning.specs.Keys.{shared}
-use Rattle.meaning.specs.Row.{Entry, headEntry, firstOf, Place, places}
-use Rattle.meaning.specs.State.{State, occurrences, positionKey}
+use Rattle.meaning.specs.Row.{Node, headNode, firstOf, Place, places}
+use Rattle.meaning.specs.State.{State, positionKey}
 use Rattle.meaning.specs.Picture.{mark}
 use Rattle.meaning.specs.Reading.{settingsAt}
-use Rattle.meaning.specs.Words.{keyAt, owedAt, lowAt, highAt}
-use Rattle.meaning.specs.Sentences.{dimensionsAt, largestAt, countAt, baseAt, sharedAt, Free, Standing, NextLarger, positionAt, AList}
-use Rattle.meaning.proofs.Order.{All, all-map, all-append}
+use Rattle.meaning.specs.Words.{keyAt, owedAt, lowAt, highAt, dimensionsAt, largestAt, cellsAt, baseAt, positionAt}
+use Rattle.meaning.specs.Sentences.{sharedAt, Free, Standing, NextLarger, AList}
 use Rattle.meaning.proofs.State.{cellsIn, Debt, Sound}
-use Rattle.meaning.proofs.Cells.{occurrences-here}
 use Rattle.meaning.proofs.Picture.{first-has}
-use Rattle.meaning.proofs.Places.{all-mapped, occurrences-append, occurrences-more, none-occurs, all-occur}
-use Rattle.meaning.proofs.SentencesCells.{standing-not-free}
+use Rattle.meaning.proofs.Placed.{standing-not-free}
 use Rattle.meaning.proofs.ConverseKeys.{next-larger-unique, dimension-unique, head-stands, free-or-standing}
-use Rattle.meaning.proofs.ConverseCount.{each-once}
 use Rattle.meaning.proofs.ConverseRow.{Shown, unowing-shown, standingRow, shown-key, head-shown, row-shown, row-once}
 use Rattle.meaning.proofs.ConversePlaces.{Above, above-next-larger, Stands, PlaceShown, row-above, shown-shared, row-placed}
 
@@ -33,7 +33,7 @@ abbrev pub stateOf : (ws : List ℕ) → AList ws → State
 stateOf ws a = record { settings = settingsAt ws; row = standingRow ws; free = a .free-chain .chain; position = positionAt ws }
 
 -- the words of a cell that owes, by its dimension e and the later ones
-pub record DebtShown (ws : List ℕ) (n : Entry) (e : ℕ) (later : List Entry) : Type 0 where
+pub record DebtShown (ws : List ℕ) (n : Node) (e : ℕ) (later : List Node) : Type 0 where
   pub followed : 0 < length later
   pub owed : owedAt ws (n .cell) ≡ firstOf later .cell
   pub low : lowAt ws (n .cell) ≡ e
@@ -46,7 +46,7 @@ mark-dead false e = refl
 module _ (ws : List ℕ) (a : AList ws) where
   -- Cells
 
-  cells-once : (y : ℕ) → 0 < y → y < countAt ws → occurrences y (cellsIn (stateOf ws a)) ≡ 1
+  cells-once : (y : ℕ) → 0 < y → y < cellsAt ws → occurrences y (cellsIn (stateOf ws a)) ≡ 1
   cells-once y pos less = ⊎-elim free standing (free-or-standing ws a y less)
     where
       row : List ℕ
@@ -68,7 +68,7 @@ module _ (ws : List ℕ) (a : AList ws) where
       standing : Standing ws y → occurrences y (row ++ chain) ≡ 1
       standing st =
           let none = unchained st (ℕ-discrete (occurrences y chain) 0) in
-          let one = row-once ws a y 1 (countAt ws - 1) st pos (omega arith) (omega arith) in
+          let one = row-once ws a y 1 (cellsAt ws - 1) st pos (omega arith) (omega arith) in
           omega (arith, occurrences-append y row chain)
 
   free-positive : (y : ℕ) → Free ws y → 0 < y
@@ -78,13 +78,13 @@ module _ (ws : List ℕ) (a : AList ws) where
       at (yes e) = absurd (standing-not-free (subst (Standing ws) e (head-stands ws a)) f)
       at (no ne) = omega arith
 
-  cells-range : All (λ c. (0 < c) × (c < countAt ws)) (cellsIn (stateOf ws a))
+  cells-range : All (λ c. (0 < c) × (c < cellsAt ws)) (cellsIn (stateOf ws a))
   cells-range =
-      let P : ℕ → Type 0 = λ c. (0 < c) × (c < countAt ws) in
+      let P : ℕ → Type 0 = λ c. (0 < c) × (c < cellsAt ws) in
       let chain = a .free-chain .chain in
       let least = a .count .0 in
       all-append P (map (λ x. x .cell) (standingRow ws)) chain
-      (all-mapped P (λ x. x .cell) (standingRow ws) (all-map (λ x s. (s .1, s .0 .standing .cell)) (standingRow ws) (row-shown ws a 1 (countAt ws - 1) (omega arith))))
+      (all-mapped P (λ x. x .cell) (standingRow ws) (all-map (λ x s. (s .1, s .0 .standing .cell)) (standingRow ws) (row-shown ws a 1 (cellsAt ws - 1) (omega arith))))
       (all-map (λ c h. let f = a .free-chain .no-other c h in (free-positive c f, f .cell)) chain (all-occur chain))
 
   -- a standing cell is the head or in the row
@@ -96,19 +96,19 @@ module _ (ws : List ℕ) (a : AList ws) where
 
       at : Dec (0 ≡ y) → 0 < occurrences y (0 ∷ row)
       at (yes e) = let h = occurrences-here y 0 row e in omega arith
-      at (no ne) = let less = st .cell in let h = row-once ws a y 1 (countAt ws - 1) st (omega arith) (omega arith) (omega arith) in let m = occurrences-more y 0 row in omega arith
+      at (no ne) = let less = st .cell in let h = row-once ws a y 1 (cellsAt ws - 1) st (omega arith) (omega arith) (omega arith) in let m = occurrences-more y 0 row in omega arith
 
   pub position-key : positionKey (stateOf ws a) ≡ keyAt ws (positionAt ws)
-  position-key = shown-key ws (positionAt ws) (headEntry ∷ standingRow ws) (head-shown ws a, row-above ws a .shown) (standing-occurs (positionAt ws) (a .position))
+  position-key = shown-key ws (positionAt ws) (headNode ∷ standingRow ws) (head-shown ws a, row-above ws a .shown) (standing-occurs (positionAt ws) (a .position))
 
   -- Debts
 
-  owed-first : (n : Entry) (later : List Entry) (c : ℕ) → Shown ws n → Above ws (n .key) later → NextLarger ws (n .cell) c → (0 < length later) × (c ≡ firstOf later .cell)
+  owed-first : (n : Node) (later : List Node) (c : ℕ) → Shown ws n → Above ws (n .key) later → NextLarger ws (n .cell) c → (0 < length later) × (c ≡ firstOf later .cell)
   unfolding occurrences
   owed-first n [] c s r p = absurd (let h = r .complete c (p .standing) (let k = s .key in let l = p .larger in omega arith) in omega arith)
   owed-first n (x ∷ later) c s r p = (omega arith, next-larger-unique ws a (n .cell) c (x .cell) p (above-next-larger s r))
 
-  pub debt-shown : (n : Entry) (e : ℕ) (later : List Entry) → Stands ws n e later → n .owes ≡ true → DebtShown ws n e later
+  pub debt-shown : (n : Node) (e : ℕ) (later : List Node) → Stands ws n e later → n .owes ≡ true → DebtShown ws n e later
   debt-shown n e later s o =
       let m = a .debts (n .cell) (s .shown .standing) (s .shown .owing o) in
       let first = owed-first n later (owedAt ws (n .cell)) (s .shown) (s .above) (m .owed) in
@@ -120,12 +120,12 @@ module _ (ws : List ℕ) (a : AList ws) where
         high = m .high ∙ ap (sharedAt ws (n .cell)) (first .1) ∙ sym (shown-shared ws a (s .shown) shown);
       }
 
-  debt-sound : (n : Place) → PlaceShown ws n → n .entry .owes ≡ true → Debt (baseAt ws) (dimensionsAt ws) n
+  debt-sound : (n : Place) → PlaceShown ws n → n .node .owes ≡ true → Debt (baseAt ws) (dimensionsAt ws) n
   debt-sound n p o =
-      let x = n .entry .cell in
+      let x = n .node .cell in
       let s = p .here in
       let m = a .debts x (s .shown .standing) (s .shown .owing o) in
-      let d = debt-shown (n .entry) (n .dimension) (n .later) s o in
+      let d = debt-shown (n .node) (n .dimension) (n .later) s o in
       record {
         later = d .followed;
         unowing = unowing-shown (firstOf (n .later)) (first-has (Shown ws) (n .later) (s .above .shown) (d .followed)) (ap (owedAt ws) (sym (d .owed)) ∙ m .owes-nothing);
@@ -135,7 +135,7 @@ module _ (ws : List ℕ) (a : AList ws) where
   pub state-sound : Sound (stateOf ws a)
   state-sound =
       let s = stateOf ws a in
-      let C = countAt ws in
+      let C = cellsAt ws in
       let row = standingRow ws in
       let shown = row-above ws a .shown in
       let least = a .count .0 in

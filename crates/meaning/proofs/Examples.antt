@@ -7,7 +7,7 @@ use Prim.Native.Nat.{ℕ}
 use native.Mathlib.Omega.{arith}
 use lib.ListN.{replicate}
 use Rattle.settings.specs.Numbers.{lengthOf}
-use Rattle.meaning.specs.Row.{entryAt}
+use Rattle.meaning.specs.Row.{nodeAt}
 use Rattle.meaning.specs.State.{positionKey}
 use Rattle.meaning.specs.Reading.{read, isList}
 use Rattle.meaning.specs.Words.{keyAt, owedAt}
@@ -52,7 +52,7 @@ pub example-moved : outcome (finish-key 5) example .answered .count ≡ 1
 unfolding example calls computing
 example-moved = refl
 
-pub example-absent : entryAt 9 (read example .row) ≡ none
+pub example-absent : nodeAt 9 (read example .row) ≡ none
 unfolding example calls computing
 example-absent = refl
 

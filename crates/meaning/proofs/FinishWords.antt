@@ -11,27 +11,28 @@ use native.Mathlib.Omega.{arith}
 use lib.ListN.{getD}
 use borrow.Author.Tests.{lt-leb}
 use Rattle.settings.specs.Numbers.{headerWords, fieldsBeforeCoordinates, cellWords}
+use Rattle.lists.specs.Lists.{occurrences}
 use Rattle.meaning.specs.Keys.{shared}
-use Rattle.meaning.specs.Row.{Entry, firstOf, Place, settledLink, between, placeOf, firstSharing}
-use Rattle.meaning.specs.State.{State, occurrences}
+use Rattle.meaning.specs.Row.{Node, firstOf, Place, settledLink, between, placeOf, firstSharing}
+use Rattle.meaning.specs.State.{State, placesOf}
 use Rattle.meaning.specs.Picture.{picture}
-use Rattle.meaning.specs.Operations.{paid, finished, withRow, placesOf, due}
-use Rattle.meaning.specs.Leaves.{Finished, OwesNothing, OwesSame}
-use Rattle.meaning.specs.Words.{wordAt, owedAt, lowAt, highAt}
-use Rattle.meaning.specs.Stores.{linkField, finishWords}
+use Rattle.meaning.specs.Operations.{paid, finished, withRow, linksMoved}
+use Rattle.meaning.specs.Writes.{Finished, OwesNothing, OwesSame}
+use Rattle.meaning.specs.Words.{wordAt, owedAt, lowAt, highAt, linkField}
+use Rattle.meaning.specs.Layer.Stores.{finishWords}
 use Rattle.meaning.proofs.Order.{Asc}
 use Rattle.meaning.proofs.Keys.{shared-le}
 use Rattle.meaning.proofs.State.{Sound, Debt}
 use Rattle.meaning.proofs.Picture.{picture-dimensions}
 use Rattle.meaning.proofs.Places.{onCell, onCell-cases}
-use Rattle.meaning.proofs.Keeps.{changedState}
+use Rattle.meaning.proofs.KeepsState.{changedState}
 use Rattle.meaning.proofs.KeepsFinish.{paid-keeping}
 use Rattle.meaning.proofs.WalkRead.{between-is, settled-above, between-out}
 use Rattle.meaning.proofs.SentencesRow.Led.{head, led}
-use Rattle.meaning.proofs.SentencesCells.{placesIn, Placed, placed-has, placed-cell, head-placed, occurs-placed, placed-below, place-owed, place-low, place-high, place-unowing}
+use Rattle.meaning.proofs.Placed.{Placed, placed-has, placed-cell, head-placed, occurs-placed, placed-below, place-owed, place-low, place-high, place-unowing}
 use Rattle.meaning.proofs.SentencesShape.{NextIn, LedIn, placed-ascends, placed-led, place-after}
 use Rattle.meaning.proofs.Changed.{wordsBy, by-coordinate, by-link, placed-word, changed-word, changed-free, changed-header, changed-path}
-use Rattle.meaning.proofs.Stores.{wordIn, picture-exact, words-equal, field-cases, exact-finished, finishWords-finished, finishWords-none, finishWords-below, Owing, finishWords-debt, finishWords-given, finishWords-cleared, finishWords-cell, finishWords-field, finishWords-before, finishWords-after}
+use Rattle.meaning.proofs.Stores.{wordIn, picture-exact, words-equal, field-cases, exact-finished, finishWords-finished, finishWords-none, finishWords-below, OwingWithin, finishWords-debt, finishWords-given, finishWords-cleared, finishWords-cell, finishWords-field, finishWords-before, finishWords-after}
 
 -- a cell has one place
 placed-once : {s : State} {x : ℕ} {p q : Place} → Placed s x p → Placed s x q → p ≡ q
@@ -87,89 +88,89 @@ module _ {s : State} (v : Sound s) {n : ℕ} {p : Place} (here : Placed s n p) w
   abbrev after : State
   after = changedState s (onCell n paid) (s .position)
 
-  -- an entry's debt stays, if it is not the one that is paid
-  entry-kept : {x : ℕ} {q : Place} → Placed s x q → (x ≡ n → p .entry .owes ≡ false) → onCell n paid (q .entry) .owes ≡ q .entry .owes
-  entry-kept {x} {q} there unowing =
-      onCell-cases (λ y. y .owes ≡ q .entry .owes) n paid (q .entry)
-      (λ e. let same : x ≡ n = sym (placed-cell there) ∙ e in sym (ap (λ r. r .entry .owes) (placed-once (subst (λ z. Placed s z q) same there) here) ∙ unowing same))
+  -- a node's debt stays, if it is not the one that is paid
+  node-kept : {x : ℕ} {q : Place} → Placed s x q → (x ≡ n → p .node .owes ≡ false) → onCell n paid (q .node) .owes ≡ q .node .owes
+  node-kept {x} {q} there unowing =
+      onCell-cases (λ y. y .owes ≡ q .node .owes) n paid (q .node)
+      (λ e. let same : x ≡ n = sym (placed-cell there) ∙ e in sym (ap (λ r. r .node .owes) (placed-once (subst (λ z. Placed s z q) same there) here) ∙ unowing same))
       (λ ne. refl)
 
-  before-kept : {x : ℕ} {q : Place} → Placed s x q → (NextIn s p q → p .entry .owes ≡ false) → onCell n paid (q .before) .owes ≡ q .before .owes
+  before-kept : {x : ℕ} {q : Place} → Placed s x q → (NextIn s p q → p .node .owes ≡ false) → onCell n paid (q .before) .owes ≡ q .before .owes
   before-kept {x} {q} there unowing = at (placed-led v there)
     where
       at : LedIn s q → onCell n paid (q .before) .owes ≡ q .before .owes
       at (head e) = subst (λ y. onCell n paid y .owes ≡ y .owes) (sym (ap (λ r. r .before) e)) (ap (λ y. y .owes) (paid-keeping n .head))
       at (led r found next) =
           subst (λ y. onCell n paid y .owes ≡ y .owes) (sym (next .before))
-          (entry-kept found (λ e. unowing (subst (λ t. NextIn s t q) (placed-once (subst (λ z. Placed s z r) e found) here) next)))
+          (node-kept found (λ e. unowing (subst (λ t. NextIn s t q) (placed-once (subst (λ z. Placed s z r) e found) here) next)))
 
-  paid-value : (x : Entry) → onCell n paid x .value ≡ x .value
+  paid-value : (x : Node) → onCell n paid x .value ≡ x .value
   paid-value x = onCell-cases (λ y. y .value ≡ x .value) n paid x (λ e. refl) (λ ne. refl)
 
-  paid-live : (x : Entry) → onCell n paid x .live ≡ x .live
+  paid-live : (x : Node) → onCell n paid x .live ≡ x .live
   paid-live x = onCell-cases (λ y. y .live ≡ x .live) n paid x (λ e. refl) (λ ne. refl)
 
   -- a standing cell's words afterwards: value and mark stay
   paid-word : {x : ℕ} {q : Place} → Placed s x q → (j : ℕ) → j < cellWords D →
       wordIn D (picture after) x j
-      ≡ getD (wordsBy b D (q .entry .value) (q .entry .live) (onCell n paid (q .before) .owes) (onCell n paid (q .entry) .owes) q) j 0
+      ≡ getD (wordsBy b D (q .node .value) (q .node .live) (onCell n paid (q .before) .owes) (onCell n paid (q .node) .owes) q) j 0
   paid-word {x} {q} there j h =
       changed-word s (onCell n paid) (paid-keeping n) (s .position) there j (placed-below v there) h
-      ∙ ap₂ (λ value live. getD (wordsBy b D value live (onCell n paid (q .before) .owes) (onCell n paid (q .entry) .owes) q) j 0)
-      (paid-value (q .entry)) (paid-live (q .entry))
+      ∙ ap₂ (λ value live. getD (wordsBy b D value live (onCell n paid (q .before) .owes) (onCell n paid (q .node) .owes) q) j 0)
+      (paid-value (q .node)) (paid-live (q .node))
 
   -- the words of a cell stay, if neither its debt nor that of the cell before it is the one that is paid
-  word-kept : {x : ℕ} {q : Place} → Placed s x q → (x ≡ n → p .entry .owes ≡ false) → (NextIn s p q → p .entry .owes ≡ false) → (j : ℕ) → j < cellWords D →
+  word-kept : {x : ℕ} {q : Place} → Placed s x q → (x ≡ n → p .node .owes ≡ false) → (NextIn s p q → p .node .owes ≡ false) → (j : ℕ) → j < cellWords D →
       wordIn D (picture after) x j ≡ wordIn D (picture s) x j
   word-kept {x} {q} there unowing unled j h =
       paid-word there j h
-      ∙ ap₂ (λ a c. getD (wordsBy b D (q .entry .value) (q .entry .live) a c q) j 0) (before-kept there unled) (entry-kept there unowing)
+      ∙ ap₂ (λ a c. getD (wordsBy b D (q .node .value) (q .node .live) a c q) j 0) (before-kept there unled) (node-kept there unowing)
       ∙ sym (placed-word s there j (placed-below v there) h)
 
   -- If n owes nothing, nothing changes.
-  paid-nothing : p .entry .owes ≡ false → picture after ≡ picture s
+  paid-nothing : p .node .owes ≡ false → picture after ≡ picture s
   paid-nothing unowing =
       words-equal (picture-exact after) (picture-exact s) (changed-header s (onCell n paid) (paid-keeping n) (s .position)) (changed-path s (onCell n paid) (paid-keeping n))
-      (λ x j h k. at x j h k (placeOf x (placesIn s)) refl)
+      (λ x j h k. at x j h k (placeOf x (placesOf s (s .row))) refl)
     where
-      at : (x j : ℕ) → x < s .settings .cells → j < cellWords D → (o : Option Place) → placeOf x (placesIn s) ≡ o →
+      at : (x j : ℕ) → x < s .settings .cells → j < cellWords D → (o : Option Place) → placeOf x (placesOf s (s .row)) ≡ o →
           wordIn D (picture after) x j ≡ wordIn D (picture s) x j
       at x j h k none e = changed-free s (onCell n paid) (paid-keeping n) (s .position) x e j h k
       at x j h k (some q) e = word-kept (record { found = e }) (λ same. unowing) (λ next. unowing) j k
 
   -- If n owes, q is the place after it.
-  module _ (owes : p .entry .owes ≡ true) {q : Place} (there : Placed s (q .entry .cell) q) (next : NextIn s p q) (debt : Debt b D p) where
-    owed-is : owedAt (picture s) n ≡ q .entry .cell
+  module _ (owes : p .node .owes ≡ true) {q : Place} (there : Placed s (q .node .cell) q) (next : NextIn s p q) (debt : Debt b D p) where
+    owed-is : owedAt (picture s) n ≡ q .node .cell
     owed-is = place-owed v here ∙ ap (λ t. cond t (firstOf (p .later) .cell) 0) owes ∙ ap (λ l. firstOf l .cell) (next .later)
 
     low-is : lowAt (picture s) n ≡ p .dimension
     low-is = place-low v here ∙ ap (λ t. cond t (p .dimension) 0) owes
 
-    high-shared : shared b D (p .entry .key) (firstOf (p .later) .key) ≡ q .dimension
-    high-shared = ap (λ l. shared b D (p .entry .key) (firstOf l .key)) (next .later) ∙ sym (next .dimension)
+    high-shared : shared b D (p .node .key) (firstOf (p .later) .key) ≡ q .dimension
+    high-shared = ap (λ l. shared b D (p .node .key) (firstOf l .key)) (next .later) ∙ sym (next .dimension)
 
     high-is : highAt (picture s) n ≡ q .dimension
-    high-is = place-high v here ∙ ap (λ t. cond t (shared b D (p .entry .key) (firstOf (p .later) .key)) 0) owes ∙ high-shared
+    high-is = place-high v here ∙ ap (λ t. cond t (shared b D (p .node .key) (firstOf (p .later) .key)) 0) owes ∙ high-shared
 
-    next-above : p .entry .key < q .entry .key
-    next-above = subst (Asc (p .entry .key)) (next .later) (placed-ascends v here) .0
+    next-above : p .node .key < q .node .key
+    next-above = subst (Asc (p .node .key)) (next .later) (placed-ascends v here) .0
 
-    next-other : q .entry .cell ≡ n → ⊥
+    next-other : q .node .cell ≡ n → ⊥
     next-other e =
         let same = placed-once (subst (λ z. Placed s z q) e there) here in
-        omega (arith, next-above, ap (λ r. r .entry .key) same)
+        omega (arith, next-above, ap (λ r. r .node .key) same)
 
-    next-standing : q .entry .cell ≡ 0 → ⊥
+    next-standing : q .node .cell ≡ 0 → ⊥
     next-standing e =
         let same = placed-once (subst (λ z. Placed s z q) e there) (head-placed s) in
-        omega (arith, next-above, ap (λ r. r .entry .key) same)
+        omega (arith, next-above, ap (λ r. r .node .key) same)
 
     lower : p .dimension < q .dimension
     lower = omega (arith, debt .lower, high-shared)
 
-    owing : Owing D (s .settings .cells) (picture s) n
+    owing : OwingWithin D (s .settings .cells) (picture s) n
     owing =
-        let most = shared-le b D (p .entry .key) (q .entry .key) in
+        let most = shared-le b D (p .node .key) (q .node .key) in
         record {
           cell = placed-below v here;
           owes = pos-of-ne-zero (λ e. next-standing (sym owed-is ∙ e));
@@ -185,82 +186,82 @@ module _ {s : State} (v : Sound s) {n : ℕ} {p : Place} (here : Placed s n p) w
       where
         at : LedIn s p → p .before .owes ≡ false
         at (head e) = ap (λ r. r .before .owes) e
-        at (led r found step) = ap (λ y. y .owes) (step .before) ∙ owing-not (r .entry .owes) refl
+        at (led r found step) = ap (λ y. y .owes) (step .before) ∙ owing-not (r .node .owes) refl
           where
-            owing-not : (t : Bool) → r .entry .owes ≡ t → t ≡ false
+            owing-not : (t : Bool) → r .node .owes ≡ t → t ≡ false
             owing-not false e = refl
             owing-not true e =
-                let other = placed-has found (λ m. m .entry .owes ≡ true → Debt b D m) (v .debts) e in
+                let other = placed-has found (λ m. m .node .owes ≡ true → Debt b D m) (v .debts) e in
                 let first = ap (λ l. firstOf l .owes) (step .later) in
                 absurd (let z : _≡_ {A = ℕ} 0 1 = cc (other .unowing) in omega arith)
 
     -- a debt that is not there is not there afterwards
-    paid-unowing : (x : Entry) → x .owes ≡ false → onCell n paid x .owes ≡ false
+    paid-unowing : (x : Node) → x .owes ≡ false → onCell n paid x .owes ≡ false
     paid-unowing x e = onCell-cases (λ y. y .owes ≡ false) n paid x (λ same. refl) (λ ne. e)
 
-    paid-own : onCell n paid (p .entry) .owes ≡ false
-    paid-own = onCell-cases (λ y. y .owes ≡ false) n paid (p .entry) (λ same. refl) (λ ne. absurd (ne (placed-cell here)))
+    paid-own : onCell n paid (p .node) .owes ≡ false
+    paid-own = onCell-cases (λ y. y .owes ≡ false) n paid (p .node) (λ same. refl) (λ ne. absurd (ne (placed-cell here)))
 
-    next-unowing : q .entry .owes ≡ false
+    next-unowing : q .node .owes ≡ false
     next-unowing = ap (λ l. firstOf l .owes) (sym (next .later)) ∙ debt .unowing
 
     -- the words of n, and of the cell after it, before and after
-    own-before : (j : ℕ) → j < cellWords D → wordIn D (picture s) n j ≡ getD (wordsBy b D (p .entry .value) (p .entry .live) false true p) j 0
+    own-before : (j : ℕ) → j < cellWords D → wordIn D (picture s) n j ≡ getD (wordsBy b D (p .node .value) (p .node .live) false true p) j 0
     own-before j h =
         placed-word s here j (placed-below v here) h
-        ∙ ap₂ (λ a c. getD (wordsBy b D (p .entry .value) (p .entry .live) a c p) j 0) unled owes
+        ∙ ap₂ (λ a c. getD (wordsBy b D (p .node .value) (p .node .live) a c p) j 0) unled owes
 
-    own-after : (j : ℕ) → j < cellWords D → wordIn D (picture after) n j ≡ getD (wordsBy b D (p .entry .value) (p .entry .live) false false p) j 0
+    own-after : (j : ℕ) → j < cellWords D → wordIn D (picture after) n j ≡ getD (wordsBy b D (p .node .value) (p .node .live) false false p) j 0
     own-after j h =
         paid-word here j h
-        ∙ ap₂ (λ a c. getD (wordsBy b D (p .entry .value) (p .entry .live) a c p) j 0) (paid-unowing (p .before) unled) paid-own
+        ∙ ap₂ (λ a c. getD (wordsBy b D (p .node .value) (p .node .live) a c p) j 0) (paid-unowing (p .before) unled) paid-own
 
-    next-before : (j : ℕ) → j < cellWords D → wordIn D (picture s) (q .entry .cell) j ≡ getD (wordsBy b D (q .entry .value) (q .entry .live) true false q) j 0
+    next-before : (j : ℕ) → j < cellWords D → wordIn D (picture s) (q .node .cell) j ≡ getD (wordsBy b D (q .node .value) (q .node .live) true false q) j 0
     next-before j h =
         placed-word s there j (placed-below v there) h
-        ∙ ap₂ (λ a c. getD (wordsBy b D (q .entry .value) (q .entry .live) a c q) j 0) (ap (λ y. y .owes) (next .before) ∙ owes) next-unowing
+        ∙ ap₂ (λ a c. getD (wordsBy b D (q .node .value) (q .node .live) a c q) j 0) (ap (λ y. y .owes) (next .before) ∙ owes) next-unowing
 
-    next-after : (j : ℕ) → j < cellWords D → wordIn D (picture after) (q .entry .cell) j ≡ getD (wordsBy b D (q .entry .value) (q .entry .live) false false q) j 0
+    next-after : (j : ℕ) → j < cellWords D → wordIn D (picture after) (q .node .cell) j ≡ getD (wordsBy b D (q .node .value) (q .node .live) false false q) j 0
     next-after j h =
         paid-word there j h
-        ∙ ap₂ (λ a c. getD (wordsBy b D (q .entry .value) (q .entry .live) a c q) j 0)
-        (ap (λ y. onCell n paid y .owes) (next .before) ∙ paid-own) (paid-unowing (q .entry) next-unowing)
+        ∙ ap₂ (λ a c. getD (wordsBy b D (q .node .value) (q .node .live) a c q) j 0)
+        (ap (λ y. onCell n paid y .owes) (next .before) ∙ paid-own) (paid-unowing (q .node) next-unowing)
 
     -- The links of the two
 
     own-settled : (d : ℕ) → d < D → wordIn D (picture after) n (linkField D d) ≡ settledLink b D p d
     own-settled d h =
         own-after (linkField D d) (omega arith)
-        ∙ by-link b D (p .entry .value) (p .entry .live) false false p d h
+        ∙ by-link b D (p .node .value) (p .node .live) false false p d h
 
     -- the links that n does not owe are settled before too
     own-outside : (d : ℕ) → d < D → (p .dimension ≤ d → d < q .dimension → ⊥) → wordIn D (picture s) n (linkField D d) ≡ settledLink b D p d
     own-outside d h out =
         own-before (linkField D d) (omega arith)
-        ∙ by-link b D (p .entry .value) (p .entry .live) false true p d h
+        ∙ by-link b D (p .node .value) (p .node .live) false true p d h
         ∙ ap (λ t. cond t 0 (settledLink b D p d))
         (ap (λ m. between (p .dimension) m d) high-shared ∙ between-out (p .dimension) (q .dimension) d out)
 
     -- "Links low to high-1 of n are then 0 and those of c are n's settled ones."
-    next-inside : (d : ℕ) → d < D → p .dimension ≤ d → d < q .dimension → wordIn D (picture s) (q .entry .cell) (linkField D d) ≡ settledLink b D p d
+    next-inside : (d : ℕ) → d < D → p .dimension ≤ d → d < q .dimension → wordIn D (picture s) (q .node .cell) (linkField D d) ≡ settledLink b D p d
     next-inside d h l u =
         next-before (linkField D d) (omega arith)
-        ∙ by-link b D (q .entry .value) (q .entry .live) true false q d h
-        ∙ ap (λ t. cond t (firstSharing b D (q .before .key) d (q .entry ∷ q .later)) (settledLink b D q d))
+        ∙ by-link b D (q .node .value) (q .node .live) true false q d h
+        ∙ ap (λ t. cond t (firstSharing b D (q .before .key) d (q .node ∷ q .later)) (settledLink b D q d))
         (ap (λ m. between m (q .dimension) d) (next .beforeDimension) ∙ between-is (p .dimension) (q .dimension) d l u)
         ∙ ap₂ (λ y r. firstSharing b D (y .key) d r) (next .before) (sym (next .later))
         ∙ sym (settled-above b D p d l)
 
-    next-settled : (d : ℕ) → d < D → wordIn D (picture after) (q .entry .cell) (linkField D d) ≡ settledLink b D q d
+    next-settled : (d : ℕ) → d < D → wordIn D (picture after) (q .node .cell) (linkField D d) ≡ settledLink b D q d
     next-settled d h =
         next-after (linkField D d) (omega arith)
-        ∙ by-link b D (q .entry .value) (q .entry .live) false false q d h
+        ∙ by-link b D (q .node .value) (q .node .live) false false q d h
 
-    next-outside : (d : ℕ) → d < D → (p .dimension ≤ d → d < q .dimension → ⊥) → wordIn D (picture s) (q .entry .cell) (linkField D d) ≡ settledLink b D q d
+    next-outside : (d : ℕ) → d < D → (p .dimension ≤ d → d < q .dimension → ⊥) → wordIn D (picture s) (q .node .cell) (linkField D d) ≡ settledLink b D q d
     next-outside d h out =
         next-before (linkField D d) (omega arith)
-        ∙ by-link b D (q .entry .value) (q .entry .live) true false q d h
-        ∙ ap (λ t. cond t (firstSharing b D (q .before .key) d (q .entry ∷ q .later)) (settledLink b D q d))
+        ∙ by-link b D (q .node .value) (q .node .live) true false q d h
+        ∙ ap (λ t. cond t (firstSharing b D (q .before .key) d (q .node ∷ q .later)) (settledLink b D q d))
         (ap (λ m. between m (q .dimension) d) (next .beforeDimension) ∙ between-out (p .dimension) (q .dimension) d out)
 
     next-cut : (d : ℕ) → d < q .dimension → settledLink b D q d ≡ 0
@@ -285,14 +286,14 @@ module _ {s : State} (v : Sound s) {n : ℕ} {p : Place} (here : Placed s n p) w
     own-first : (j : ℕ) → j < fieldsBeforeCoordinates → Dec (j < 3) → wordIn D (picture after) n j ≡ wordIn D (finishWords D (picture s) n) n j
     own-first j h (yes l) =
         own-after j (omega arith)
-        ∙ owes-apart b D (p .entry .value) (p .entry .live) p false false true j l
+        ∙ owes-apart b D (p .node .value) (p .node .live) p false false true j l
         ∙ sym (own-before j (omega arith))
         ∙ sym (finishWords-before (picture-exact s) n owing j l)
     own-first j h (no l) =
         let there : 3 + (j - 3) ≡ j = omega arith in
         subst (λ i. wordIn D (picture after) n i ≡ wordIn D (finishWords D (picture s) n) n i) there
         (own-after (3 + (j - 3)) (omega arith)
-        ∙ unowing-debt b D (p .entry .value) (p .entry .live) p false (j - 3) (omega arith)
+        ∙ unowing-debt b D (p .node .value) (p .node .live) p false (j - 3) (omega arith)
         ∙ sym (finishWords-debt (picture-exact s) n owing (j - 3) (omega arith)))
 
     own-word : (j : ℕ) → j < cellWords D → wordIn D (picture after) n j ≡ wordIn D (finishWords D (picture s) n) n j
@@ -301,17 +302,17 @@ module _ {s : State} (v : Sound s) {n : ℕ} {p : Place} (here : Placed s n p) w
         (λ j h. own-first j h (decLt j 3))
         (λ d h.
         own-after (fieldsBeforeCoordinates + d) (omega arith)
-        ∙ by-coordinate b D (p .entry .value) (p .entry .live) false false p d h
-        ∙ sym (by-coordinate b D (p .entry .value) (p .entry .live) false true p d h)
+        ∙ by-coordinate b D (p .node .value) (p .node .live) false false p d h
+        ∙ sym (by-coordinate b D (p .node .value) (p .node .live) false true p d h)
         ∙ sym (own-before (fieldsBeforeCoordinates + d) (omega arith))
         ∙ sym (finishWords-after (picture-exact s) n owing (fieldsBeforeCoordinates + d) (omega arith) (omega arith) (λ i l u e. omega arith)))
         own-link
 
     next-kept : (j : ℕ) → j < cellWords D → ((i : ℕ) → lowAt (picture s) n ≤ i → i < highAt (picture s) n → j ≡ linkField D i → ⊥) →
-        wordIn D (picture s) (q .entry .cell) j ≡ wordIn D (finishWords D (picture s) n) (q .entry .cell) j
-    next-kept j h other = sym (finishWords-field (picture-exact s) n owing (q .entry .cell) j h next-other other)
+        wordIn D (picture s) (q .node .cell) j ≡ wordIn D (finishWords D (picture s) n) (q .node .cell) j
+    next-kept j h other = sym (finishWords-field (picture-exact s) n owing (q .node .cell) j h next-other other)
 
-    next-link : (d : ℕ) → d < D → wordIn D (picture after) (q .entry .cell) (linkField D d) ≡ wordIn D (finishWords D (picture s) n) (q .entry .cell) (linkField D d)
+    next-link : (d : ℕ) → d < D → wordIn D (picture after) (q .node .cell) (linkField D d) ≡ wordIn D (finishWords D (picture s) n) (q .node .cell) (linkField D d)
     next-link d h =
         next-settled d h
         ∙ inside-cases (p .dimension) (q .dimension) d
@@ -321,28 +322,28 @@ module _ {s : State} (v : Sound s) {n : ℕ} {p : Place} (here : Placed s n p) w
         ∙ ap (λ c. wordIn D (finishWords D (picture s) n) c (linkField D d)) owed-is)
         (λ out. sym (next-outside d h out) ∙ next-kept (linkField D d) (omega arith) (outside d out))
 
-    next-word : (j : ℕ) → j < cellWords D → wordIn D (picture after) (q .entry .cell) j ≡ wordIn D (finishWords D (picture s) n) (q .entry .cell) j
+    next-word : (j : ℕ) → j < cellWords D → wordIn D (picture after) (q .node .cell) j ≡ wordIn D (finishWords D (picture s) n) (q .node .cell) j
     next-word =
-        field-cases (λ j. wordIn D (picture after) (q .entry .cell) j ≡ wordIn D (finishWords D (picture s) n) (q .entry .cell) j) D
+        field-cases (λ j. wordIn D (picture after) (q .node .cell) j ≡ wordIn D (finishWords D (picture s) n) (q .node .cell) j) D
         (λ j h.
         next-after j (omega arith)
-        ∙ led-apart b D (q .entry .value) (q .entry .live) q false true false j h
+        ∙ led-apart b D (q .node .value) (q .node .live) q false true false j h
         ∙ sym (next-before j (omega arith))
         ∙ next-kept j (omega arith) (λ i l u e. omega arith))
         (λ d h.
         next-after (fieldsBeforeCoordinates + d) (omega arith)
-        ∙ by-coordinate b D (q .entry .value) (q .entry .live) false false q d h
-        ∙ sym (by-coordinate b D (q .entry .value) (q .entry .live) true false q d h)
+        ∙ by-coordinate b D (q .node .value) (q .node .live) false false q d h
+        ∙ sym (by-coordinate b D (q .node .value) (q .node .live) true false q d h)
         ∙ sym (next-before (fieldsBeforeCoordinates + d) (omega arith))
         ∙ next-kept (fieldsBeforeCoordinates + d) (omega arith) (λ i l u e. omega arith))
         next-link
 
-    other-word : (x j : ℕ) → x < s .settings .cells → j < cellWords D → (x ≡ n → ⊥) → (x ≡ q .entry .cell → ⊥) →
+    other-word : (x j : ℕ) → x < s .settings .cells → j < cellWords D → (x ≡ n → ⊥) → (x ≡ q .node .cell → ⊥) →
         wordIn D (picture after) x j ≡ wordIn D (finishWords D (picture s) n) x j
     other-word x j h k not-n not-next =
-        at (placeOf x (placesIn s)) refl ∙ sym (finishWords-cell (picture-exact s) n owing x j k not-n (λ e. not-next (e ∙ owed-is)))
+        at (placeOf x (placesOf s (s .row))) refl ∙ sym (finishWords-cell (picture-exact s) n owing x j k not-n (λ e. not-next (e ∙ owed-is)))
       where
-        at : (o : Option Place) → placeOf x (placesIn s) ≡ o → wordIn D (picture after) x j ≡ wordIn D (picture s) x j
+        at : (o : Option Place) → placeOf x (placesOf s (s .row)) ≡ o → wordIn D (picture after) x j ≡ wordIn D (picture s) x j
         at none e = changed-free s (onCell n paid) (paid-keeping n) (s .position) x e j h k
         at (some r) e =
             let found : Placed s x r = record { found = e } in
@@ -354,9 +355,9 @@ module _ {s : State} (v : Sound s) {n : ℕ} {p : Place} (here : Placed s n p) w
         words-equal (picture-exact after) (exact-finished (picture-exact s) n)
         (λ i h. changed-header s (onCell n paid) (paid-keeping n) (s .position) i h ∙ sym (finishWords-below D (picture s) n i (omega arith)))
         (λ d h. changed-path s (onCell n paid) (paid-keeping n) d h ∙ sym (finishWords-below D (picture s) n (headerWords + d) (omega arith)))
-        (λ x j h k. at x j h k (ℕ-discrete x n) (ℕ-discrete x (q .entry .cell)))
+        (λ x j h k. at x j h k (ℕ-discrete x n) (ℕ-discrete x (q .node .cell)))
       where
-        at : (x j : ℕ) → x < s .settings .cells → j < cellWords D → Dec (x ≡ n) → Dec (x ≡ q .entry .cell) →
+        at : (x j : ℕ) → x < s .settings .cells → j < cellWords D → Dec (x ≡ n) → Dec (x ≡ q .node .cell) →
             wordIn D (picture after) x j ≡ wordIn D (finishWords D (picture s) n) x j
         at x j h k (yes e) more =
             subst (λ z. wordIn D (picture after) z j ≡ wordIn D (finishWords D (picture s) n) z j) (sym e) (own-word j k)
@@ -368,20 +369,20 @@ module _ {s : State} (v : Sound s) {n : ℕ} {p : Place} (here : Placed s n p) w
 
 module _ {s : State} (v : Sound s) {n : ℕ} {p : Place} (here : Placed s n p) where
   -- it owes nothing, or owes to the standing cell after it
-  debt-cases : {R : Type 0} → (OwesNothing (picture s) n → p .entry .owes ≡ false → R) →
-      (p .entry .owes ≡ true → (q : Place) → Placed s (q .entry .cell) q → NextIn s p q → Debt (s .settings .base) (s .settings .dimensions) p → R) → R
-  debt-cases {R} nothing something = at (p .entry .owes) refl
+  debt-cases : {R : Type 0} → (OwesNothing (picture s) n → p .node .owes ≡ false → R) →
+      (p .node .owes ≡ true → (q : Place) → Placed s (q .node .cell) q → NextIn s p q → Debt (s .settings .base) (s .settings .dimensions) p → R) → R
+  debt-cases {R} nothing something = at (p .node .owes) refl
     where
-      at : (t : Bool) → p .entry .owes ≡ t → R
+      at : (t : Bool) → p .node .owes ≡ t → R
       at true owes =
-          let debt = placed-has here (λ m. m .entry .owes ≡ true → Debt (s .settings .base) (s .settings .dimensions) m) (v .debts) owes in
+          let debt = placed-has here (λ m. m .node .owes ≡ true → Debt (s .settings .base) (s .settings .dimensions) m) (v .debts) owes in
           let (q, there, next) = place-after v here (debt .later) in
           something owes q there next debt
       at false unowing = nothing (place-unowing v here unowing) unowing
 
 module _ (s : State) (v : Sound s) (n : ℕ) (stands : 0 < occurrences n (0 ∷ map (λ x. x .cell) (s .row))) where
   -- what a standing cell owes can be finished
-  pub picture-owing : 0 < owedAt (picture s) n → Owing (s .settings .dimensions) (s .settings .cells) (picture s) n
+  pub picture-owing : 0 < owedAt (picture s) n → OwingWithin (s .settings .dimensions) (s .settings .cells) (picture s) n
   picture-owing o =
       let (p, here) = occurs-placed s n stands in
       debt-cases v here (λ nothing unowing. absurd (omega (arith, o, nothing .0))) (λ owes q there next debt. owing v here owes there next debt)
@@ -396,11 +397,11 @@ module _ (s : State) (v : Sound s) (n : ℕ) (stands : 0 < occurrences n (0 ∷ 
       (λ owes q there next debt. paid-something v here owes there next debt)
 
   -- "number of links moved (high minus low, or 0 if nothing was owed)"
-  pub finish-moved : due s (placeOf n (placesOf s (s .row))) ≡ highAt (picture s) n - lowAt (picture s) n
-  unfolding due
+  pub finish-moved : linksMoved s (placeOf n (placesOf s (s .row))) ≡ highAt (picture s) n - lowAt (picture s) n
+  unfolding linksMoved
   finish-moved =
       let (p, here) = occurs-placed s n stands in
-      ap (due s) (here .found) ∙ ap₂ (λ a l. a - l) (sym (place-high v here)) (sym (place-low v here))
+      ap (linksMoved s) (here .found) ∙ ap₂ (λ a l. a - l) (sym (place-high v here)) (sym (place-low v here))
 
   -- the words after finishing a cell that owes, in document 01's words
   pub finish-finished : 0 < owedAt (picture s) n → Finished (picture s) (picture (withRow s (finished n (s .row)))) n

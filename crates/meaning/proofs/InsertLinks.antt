@@ -1,6 +1,6 @@
--- What a new entry x changes of the links of a row, where nothing is owed that it touches. A link of an entry before x changes only if it
--- leads to x, and that is link p of the parent. The next larger entry's dimension becomes q: if that is more than it was, x owes, and
--- what the entry then has below q is just what x is due. What comes later keeps its links.
+-- What a new node x changes of the links of a row, where nothing is owed that it touches. A link of a node before x changes only if it
+-- leads to x, and that is link p of the parent. The next larger node's dimension becomes q: if that is more than it was, x owes, and
+-- what the node then has below q is just what x is due. What comes later keeps its links.
 use mathlib.Core.Path.{_≡_, refl, sym, _∙_, ap, subst, subst₂}
 use mathlib.Core.Bool.{Bool, true, false, cond, _&&_, and-false}
 use mathlib.Core.List.{List, [], _∷_, _++_}
@@ -10,12 +10,13 @@ use native.Mathlib.Omega.{arith}
 use native.Mathlib.Decide.{ℕ-discrete, decLt, decLe}
 use lib.Dec.{eqb, leb, ltb}
 use borrow.Author.Tests.{leb-true, eq-eqb, ne-eqb, le-leb, lt-leb, lt-ltb, le-ltb}
+use Rattle.lists.proofs.All.{All, all-map, all-zip}
+use Rattle.lists.proofs.Tests.{both, and-both}
 use Rattle.meaning.specs.Keys.{shared}
-use Rattle.meaning.specs.Row.{Entry, headEntry, firstOf, firstSharing, Place, placesAfter, places, settledLink, owed, low, high, between, link, placeOf}
+use Rattle.meaning.specs.Row.{Node, headNode, firstOf, firstSharing, Place, placesAfter, places, settledLink, owed, low, high, between, link, placeOf}
 use Rattle.meaning.specs.State.{State}
-use Rattle.meaning.proofs.Order.{All, Asc, both, and-both, all-map, asc-above}
+use Rattle.meaning.proofs.Order.{Asc, asc-above}
 use Rattle.meaning.proofs.Keys.{shared-less, ultra}
-use Rattle.meaning.proofs.Cells.{all-zip}
 use Rattle.meaning.proofs.Picture.{place-here, place-past, Told, told}
 use Rattle.meaning.proofs.Places.{asc-left, lastFrom}
 use Rattle.meaning.proofs.Parent.{dimensionAfter, parentAfter, placesFrom, Apart, ParentPlace, asc-last, apart-left, sharing-skips, sharing-hits, sharing-none, link-leads, first-place, parent-unique, sharing-alike, sharing-above}
@@ -44,8 +45,8 @@ zero-or true v e = e
 zero-or false v e = refl
 
 -- x of dimension d, after a of dimension e
-abbrev pub placeAfter : Entry → ℕ → Entry → ℕ → List Entry → Place
-placeAfter a e x d later = record { entry = x; dimension = d; before = a; beforeDimension = e; later = later }
+abbrev pub placeAfter : Node → ℕ → Node → ℕ → List Node → Place
+placeAfter a e x d later = record { node = x; dimension = d; before = a; beforeDimension = e; later = later }
 
 -- Links as they stand, by who owes
 
@@ -58,30 +59,30 @@ module _ (b D : ℕ) where
       cond-same (linkDue p d) (linkDue q d) (dueLink b D p d) (cond (linkOwing b D p d) 0 (settledLink b D p d)) (dueLink b D q d) (cond (linkOwing b D q d) 0 (settledLink b D q d)) e f
       (λ undue. cond-same (linkOwing b D p d) (linkOwing b D q d) 0 (settledLink b D p d) 0 (settledLink b D q d) g (λ y. refl) h)
 
-  -- after an entry that owes nothing
+  -- after a node that owes nothing
   pub link-undue : (p : Place) (d : ℕ) → p .before .owes ≡ false → link b D p d ≡ cond (linkOwing b D p d) 0 (settledLink b D p d)
   link-undue p d e = link-tested b D p d (ap (λ t. t && between (p .beforeDimension) (p .dimension) d) e) refl
 
-  -- of an entry that owes nothing
-  unowing : (p : Place) (d : ℕ) → p .entry .owes ≡ false → linkOwing b D p d ≡ false
+  -- of a node that owes nothing
+  unowing : (p : Place) (d : ℕ) → p .node .owes ≡ false → linkOwing b D p d ≡ false
   unowing p d e = ap (λ t. t && between (low p) (high b D p) d) e
 
-  pub link-unowing : (p : Place) (d : ℕ) → p .entry .owes ≡ false → link b D p d ≡ cond (linkDue p d) (dueLink b D p d) (settledLink b D p d)
+  pub link-unowing : (p : Place) (d : ℕ) → p .node .owes ≡ false → link b D p d ≡ cond (linkDue p d) (dueLink b D p d) (settledLink b D p d)
   link-unowing p d e = link-tested b D p d refl (unowing p d e)
 
   -- where neither owes, every link is settled
-  pub link-unowed : (p : Place) (d : ℕ) → p .before .owes ≡ false → p .entry .owes ≡ false → link b D p d ≡ settledLink b D p d
+  pub link-unowed : (p : Place) (d : ℕ) → p .before .owes ≡ false → p .node .owes ≡ false → link b D p d ≡ settledLink b D p d
   link-unowed p d e f = link-undue p d e ∙ ap (λ t. cond t 0 (settledLink b D p d)) (unowing p d f)
 
   -- from the dimension up, the links of a place that owes nothing are settled
-  pub link-above : (p : Place) (d : ℕ) → p .entry .owes ≡ false → p .dimension ≤ d → link b D p d ≡ firstSharing b D (p .entry .key) d (p .later)
+  pub link-above : (p : Place) (d : ℕ) → p .node .owes ≡ false → p .dimension ≤ d → link b D p d ≡ firstSharing b D (p .node .key) d (p .later)
   link-above p d e h = link-settled b D p d h (unowing p d e) ∙ settled-above b D p d h
 
 -- Two rows, place by place
 
 -- Place p, in a row where cell n stands, has the words that q has where it does not, but for links that lead to n.
 pub record Kept (b D n : ℕ) (p q : Place) : Type 0 where
-  pub entry : p .entry ≡ q .entry
+  pub node : p .node ≡ q .node
   pub owed : owed p ≡ owed q
   pub low : low p ≡ low q
   pub high : high b D p ≡ high b D q
@@ -96,7 +97,7 @@ OnBoth R (some p) (some q) = R p q
 
 module _ (b D n : ℕ) where
   kept-itself : (p : Place) → Kept b D n p p
-  kept-itself p = record { entry = refl; owed = refl; low = refl; high = refl; links = λ d h. refl }
+  kept-itself p = record { node = refl; owed = refl; low = refl; high = refl; links = λ d h. refl }
 
   both-itself : (o : Option Place) → OnBoth (Kept b D n) o o
   both-itself none = tt
@@ -105,12 +106,12 @@ module _ (b D n : ℕ) where
   both-step :
       (c : ℕ) (p q : Place) (ps qs : List Place) → Kept b D n p q → OnBoth (Kept b D n) (placeOf c ps) (placeOf c qs) →
       OnBoth (Kept b D n) (placeOf c (p ∷ ps)) (placeOf c (q ∷ qs))
-  both-step c p q ps qs k more = at (ℕ-discrete (q .entry .cell) c)
+  both-step c p q ps qs k more = at (ℕ-discrete (q .node .cell) c)
     where
-      same : p .entry .cell ≡ q .entry .cell
-      same = ap (λ y. y .cell) (k .entry)
+      same : p .node .cell ≡ q .node .cell
+      same = ap (λ y. y .cell) (k .node)
 
-      at : Dec (q .entry .cell ≡ c) → OnBoth (Kept b D n) (placeOf c (p ∷ ps)) (placeOf c (q ∷ qs))
+      at : Dec (q .node .cell ≡ c) → OnBoth (Kept b D n) (placeOf c (p ∷ ps)) (placeOf c (q ∷ qs))
       at (yes e) = subst₂ (OnBoth (Kept b D n)) (sym (place-here c p ps (same ∙ e))) (sym (place-here c q qs e)) k
       at (no ne) = subst₂ (OnBoth (Kept b D n)) (sym (place-past c p ps (λ e. ne (sym same ∙ e)))) (sym (place-past c q qs ne)) more
 
@@ -119,7 +120,7 @@ module _ (b D n : ℕ) where
 module _ (b D : ℕ) where
   -- a link that does not lead to x leads where it would lead without x
   pub sharing-put :
-      (key d : ℕ) (pre : List Entry) (x : Entry) (post : List Entry) → (firstSharing b D key d (pre ++ x ∷ post) ≡ x .cell → ⊥) →
+      (key d : ℕ) (pre : List Node) (x : Node) (post : List Node) → (firstSharing b D key d (pre ++ x ∷ post) ≡ x .cell → ⊥) →
       firstSharing b D key d (pre ++ x ∷ post) ≡ firstSharing b D key d (pre ++ post)
   unfolding firstSharing
   sharing-put key d [] x post other = at (ℕ-discrete (shared b D key (x .key)) d)
@@ -137,38 +138,38 @@ module _ (b D : ℕ) where
           let same = ih (rw (ne-eqb (shared b D key (y .key)) d ne) at o) in
           rw (ne-eqb (shared b D key (y .key)) d ne) same
 
-  -- below what x shares with the next larger entry, the links of the two lead to the same
-  pub sharing-next : 0 < b → (key d : ℕ) (z : Entry) (rest : List Entry) → key < z .key → Asc (z .key) rest → d < shared b D key (z .key) → firstSharing b D key d (z ∷ rest) ≡ firstSharing b D (z .key) d rest
+  -- below what x shares with the next larger node, the links of the two lead to the same
+  pub sharing-next : 0 < b → (key d : ℕ) (z : Node) (rest : List Node) → key < z .key → Asc (z .key) rest → d < shared b D key (z .key) → firstSharing b D key d (z ∷ rest) ≡ firstSharing b D (z .key) d rest
   sharing-next pos key d z rest h a l =
       sharing-skips b D key d (z ∷ []) rest (λ e. omega arith, tt)
       ∙ sharing-alike b D key (z .key) d rest (all-map (λ u k. let m = ultra b D key (z .key) (u .key) pos (omega arith) (omega arith) in (λ e. omega arith, λ e. omega arith)) rest (asc-above (z .key) rest a))
 
--- The new entry and what comes behind it
+-- The new node and what comes behind it
 
--- whether a new entry of dimension p owes, by what is above it: if p is below what it shares with the next larger entry
-abbrev pub newOwes : ℕ → ℕ → ℕ → ℕ → List Entry → Bool
+-- whether a new node of dimension p owes, by what is above it: if p is below what it shares with the next larger node
+abbrev pub newOwes : ℕ → ℕ → ℕ → ℕ → List Node → Bool
 newOwes b D key p [] = false
 newOwes b D key p (z ∷ rest) = ltb p (shared b D key (z .key))
 
--- its link d: to the next larger entry, if that has the slot, as the number of coordinates that they share, and no other
-abbrev pub newLink : ℕ → ℕ → ℕ → ℕ → List Entry → ℕ → ℕ
+-- its link d: to the next larger node, if that has the slot, as the number of coordinates that they share, and no other
+abbrev pub newLink : ℕ → ℕ → ℕ → ℕ → List Node → ℕ → ℕ
 newLink b D key p [] d = 0
 newLink b D key p (z ∷ rest) d = cond (leb p (shared b D key (z .key)) && eqb d (shared b D key (z .key))) (z .cell) 0
 
--- the next larger entry, if it has the slot, owes nothing
-abbrev pub NextUnowing : ℕ → ℕ → ℕ → ℕ → List Entry → Type 0
+-- the next larger node, if it has the slot, owes nothing
+abbrev pub NextUnowing : ℕ → ℕ → ℕ → ℕ → List Node → Type 0
 NextUnowing b D key p [] = Unit {0}
 NextUnowing b D key p (z ∷ rest) = p ≤ shared b D key (z .key) → z .owes ≡ false
 
 module _ (b D : ℕ) (pos : 0 < b) where
-  -- the links of a place of dimension p, after an entry that owes nothing, if it owes just the links p to q-1
+  -- the links of a place of dimension p, after a node that owes nothing, if it owes just the links p to q-1
   pub link-of-new :
-      (p : Place) (d : ℕ) → p .before .owes ≡ false → Asc (p .entry .key) (p .later) → p .entry .owes ≡ newOwes b D (p .entry .key) (p .dimension) (p .later) →
-      link b D p d ≡ newLink b D (p .entry .key) (p .dimension) (p .later) d
+      (p : Place) (d : ℕ) → p .before .owes ≡ false → Asc (p .node .key) (p .later) → p .node .owes ≡ newOwes b D (p .node .key) (p .dimension) (p .later) →
+      link b D p d ≡ newLink b D (p .node .key) (p .dimension) (p .later) d
   link-of-new p d un a own = at (p .later) refl a own
     where
       key : ℕ
-      key = p .entry .key
+      key = p .node .key
 
       e : ℕ
       e = p .dimension
@@ -176,7 +177,7 @@ module _ (b D : ℕ) (pos : 0 < b) where
       unsettled : settledLink b D p d ≡ 0 → link b D p d ≡ 0
       unsettled f = link-undue b D p d un ∙ zero-either (linkOwing b D p d) (settledLink b D p d) f
 
-      at : (later : List Entry) → p .later ≡ later → Asc key later → p .entry .owes ≡ newOwes b D key e later → link b D p d ≡ newLink b D key e later d
+      at : (later : List Node) → p .later ≡ later → Asc key later → p .node .owes ≡ newOwes b D key e later → link b D p d ≡ newLink b D key e later d
       at [] is a own = unsettled (zero-or (leb e d) (firstSharing b D key d (p .later)) (ap (firstSharing b D key d) is ∙ sharing-none b D key d [] tt))
       at (z ∷ rest) is a own = split (decLt d e) (decLt d q) (ℕ-discrete d q)
         where
@@ -195,18 +196,18 @@ module _ (b D : ℕ) (pos : 0 < b) where
 
           owned : e < q → d < q → e ≤ d → linkOwing b D p d ≡ true
           owned h l g =
-              let o : p .entry .owes ≡ true = own ∙ lt-ltb e q h in
+              let o : p .node .owes ≡ true = own ∙ lt-ltb e q h in
               let low-is = ap (λ t. cond t e 0) o in
               let high-is = ap (λ t. cond t (shared b D key (firstOf (p .later) .key)) 0) o ∙ ap (λ r. shared b D key (firstOf r .key)) is in
-              and-both (p .entry .owes) (between (low p) (high b D p) d) o (between-is (low p) (high b D p) d (omega arith) (omega arith))
+              and-both (p .node .owes) (between (low p) (high b D p) d) o (between-is (low p) (high b D p) d (omega arith) (omega arith))
 
           unowned : d ≡ q → linkOwing b D p d ≡ false
           unowned g =
-              and-same (p .entry .owes) (between (low p) (high b D p) d) false
+              and-same (p .node .owes) (between (low p) (high b D p) d) false
               (λ o.
               let high-is = ap (λ t. cond t (shared b D key (firstOf (p .later) .key)) 0) o ∙ ap (λ r. shared b D key (firstOf r .key)) is in
               between-not (low p) (high b D p) d (omega arith))
-              ∙ and-false (p .entry .owes)
+              ∙ and-false (p .node .owes)
 
           split : Dec (d < e) → Dec (d < q) → Dec (d ≡ q) → link b D p d ≡ cond (leb e q && eqb d q) (z .cell) 0
           split (yes h) l g =
@@ -223,9 +224,9 @@ module _ (b D : ℕ) (pos : 0 < b) where
           split (no h) (no l) (no g) =
               unsettled (sought (omega arith) ∙ sharing-above b D pos key d z rest (let h = a .0 in omega arith) (a .1) (omega arith)) ∙ sym (no-link (λ m n. g n))
 
-  -- The next larger entry z: before x stood it came after a and had dimension min p q, now it comes after x and has dimension q.
+  -- The next larger node z: before x stood it came after a and had dimension min p q, now it comes after x and has dimension q.
   pub link-of-next :
-      (a x z : Entry) (e d : ℕ) (rest : List Entry) → a .key < x .key → Asc (x .key) (z ∷ rest) → a .owes ≡ false →
+      (a x z : Node) (e d : ℕ) (rest : List Node) → a .key < x .key → Asc (x .key) (z ∷ rest) → a .owes ≡ false →
       x .owes ≡ newOwes b D (x .key) (shared b D (a .key) (x .key)) (z ∷ rest) → NextUnowing b D (x .key) (shared b D (a .key) (x .key)) (z ∷ rest) →
       link b D (placeAfter x (shared b D (a .key) (x .key)) z (shared b D (x .key) (z .key)) rest) d
       ≡ link b D (placeAfter a e z (shared b D (a .key) (z .key)) rest) d
@@ -281,7 +282,7 @@ module _ (b D : ℕ) (pos : 0 < b) where
 
   -- if it owes, it does not have the slot, and its dimension stays
   next-stays :
-      (a x z : Entry) (rest : List Entry) → a .key < x .key → x .key < z .key → NextUnowing b D (x .key) (shared b D (a .key) (x .key)) (z ∷ rest) →
+      (a x z : Node) (rest : List Node) → a .key < x .key → x .key < z .key → NextUnowing b D (x .key) (shared b D (a .key) (x .key)) (z ∷ rest) →
       z .owes ≡ true → shared b D (x .key) (z .key) ≡ shared b D (a .key) (z .key)
   next-stays a x z rest h l next o = at (decLe (shared b D (a .key) (x .key)) (shared b D (x .key) (z .key)))
     where
@@ -290,27 +291,27 @@ module _ (b D : ℕ) (pos : 0 < b) where
       at (no g) = omega (arith, g, ultra b D (a .key) (x .key) (z .key) pos (omega arith) (omega arith))
 
   kept-next :
-      (n : ℕ) (a x z : Entry) (e : ℕ) (rest : List Entry) → a .key < x .key → Asc (x .key) (z ∷ rest) → a .owes ≡ false →
+      (n : ℕ) (a x z : Node) (e : ℕ) (rest : List Node) → a .key < x .key → Asc (x .key) (z ∷ rest) → a .owes ≡ false →
       x .owes ≡ newOwes b D (x .key) (shared b D (a .key) (x .key)) (z ∷ rest) → NextUnowing b D (x .key) (shared b D (a .key) (x .key)) (z ∷ rest) →
       Kept b D n (placeAfter x (shared b D (a .key) (x .key)) z (shared b D (x .key) (z .key)) rest)
       (placeAfter a e z (shared b D (a .key) (z .key)) rest)
   kept-next n a x z e rest h asc un own next =
       record {
-        entry = refl;
+        node = refl;
         owed = refl;
         low = cond-same (z .owes) (z .owes) (shared b D (x .key) (z .key)) 0 (shared b D (a .key) (z .key)) 0 refl (next-stays a x z rest h (asc .0) next) (λ f. refl);
         high = refl;
         links = λ d f. link-of-next a x z e d rest h asc un own next;
       }
 
-  -- the dimension of the entry before matters only if that one owes
-  kept-behind : (n : ℕ) (z : Entry) (e f : ℕ) (rest : List Entry) → (z .owes ≡ true → e ≡ f) → (c : ℕ) → OnBoth (Kept b D n) (placeOf c (placesAfter b D z e rest)) (placeOf c (placesAfter b D z f rest))
+  -- the dimension of the node before matters only if that one owes
+  kept-behind : (n : ℕ) (z : Node) (e f : ℕ) (rest : List Node) → (z .owes ≡ true → e ≡ f) → (c : ℕ) → OnBoth (Kept b D n) (placeOf c (placesAfter b D z e rest)) (placeOf c (placesAfter b D z f rest))
   unfolding placesAfter placeOf
   kept-behind n z e f [] same c = tt
   kept-behind n z e f (u ∷ rest) same c =
       both-step b D n c (place e) (place f) behind behind
       (record {
-        entry = refl;
+        node = refl;
         owed = refl;
         low = refl;
         high = refl;
@@ -328,7 +329,7 @@ module _ (b D : ℕ) (pos : 0 < b) where
       behind = placesAfter b D u (shared b D (z .key) (u .key)) rest
 
   kept-above :
-      (n : ℕ) (a x : Entry) (e : ℕ) (post : List Entry) → a .key < x .key → Asc (x .key) post → a .owes ≡ false →
+      (n : ℕ) (a x : Node) (e : ℕ) (post : List Node) → a .key < x .key → Asc (x .key) post → a .owes ≡ false →
       x .owes ≡ newOwes b D (x .key) (shared b D (a .key) (x .key)) post → NextUnowing b D (x .key) (shared b D (a .key) (x .key)) post →
       (c : ℕ) → OnBoth (Kept b D n) (placeOf c (placesAfter b D x (shared b D (a .key) (x .key)) post)) (placeOf c (placesAfter b D a e post))
   unfolding placesAfter placeOf
@@ -341,18 +342,18 @@ module _ (b D : ℕ) (pos : 0 < b) where
       (kept-next n a x z e rest h asc un own next)
       (kept-behind n z (shared b D (x .key) (z .key)) (shared b D (a .key) (z .key)) rest (next-stays a x z rest h (asc .0) next) c)
 
-  -- The entries before x
+  -- The nodes before x
 
-  -- An entry y before x, after an entry w of dimension f. If w owes, it has no link to x; if y owes, x is not the next after it.
+  -- A node y before x, after a node w of dimension f. If w owes, it has no link to x; if y owes, x is not the next after it.
   kept-front :
-      (w : Entry) (f : ℕ) (y : Entry) (e : ℕ) (front : List Entry) (x : Entry) (post : List Entry) →
+      (w : Node) (f : ℕ) (y : Node) (e : ℕ) (front : List Node) (x : Node) (post : List Node) →
       (w .owes ≡ true → (d : ℕ) → f ≤ d → firstSharing b D (w .key) d (y ∷ (front ++ x ∷ post)) ≡ x .cell → ⊥) →
       (y .owes ≡ true → firstOf (front ++ x ∷ post) ≡ firstOf (front ++ post)) →
       Kept b D (x .cell) (placeAfter w f y e (front ++ x ∷ post))
       (placeAfter w f y e (front ++ post))
   kept-front w f y e front x post clear first =
       record {
-        entry = refl;
+        node = refl;
         owed = cond-same (y .owes) (y .owes) (firstOf (front ++ x ∷ post) .cell) 0 (firstOf (front ++ post) .cell) 0 refl (λ o. ap (λ z. z .cell) (first o)) (λ n. refl);
         low = refl;
         high = high-same;
@@ -377,9 +378,9 @@ module _ (b D : ℕ) (pos : 0 < b) where
       high-same = cond-same (y .owes) (y .owes) (shared b D (y .key) (firstOf (front ++ x ∷ post) .key)) 0 (shared b D (y .key) (firstOf (front ++ post) .key)) 0 refl (λ o. ap (λ z. shared b D (y .key) (z .key)) (first o)) (λ n. refl)
 
   kept-from :
-      (w : Entry) (f : ℕ) (y : Entry) (e : ℕ) (pre : List Entry) (x : Entry) (post : List Entry) → Asc (y .key) (pre ++ x ∷ post) → lastFrom y pre .owes ≡ false →
+      (w : Node) (f : ℕ) (y : Node) (e : ℕ) (pre : List Node) (x : Node) (post : List Node) → Asc (y .key) (pre ++ x ∷ post) → lastFrom y pre .owes ≡ false →
       (w .owes ≡ true → (d : ℕ) → f ≤ d → firstSharing b D (w .key) d (y ∷ (pre ++ x ∷ post)) ≡ x .cell → ⊥) →
-      All (λ p. p .entry .owes ≡ true → (d : ℕ) → settledLink b D p d ≡ x .cell → ⊥) (placesFrom b D w f y e (pre ++ x ∷ post)) →
+      All (λ p. p .node .owes ≡ true → (d : ℕ) → settledLink b D p d ≡ x .cell → ⊥) (placesFrom b D w f y e (pre ++ x ∷ post)) →
       x .owes ≡ newOwes b D (x .key) (dimensionAfter b D y pre (x .key)) post → NextUnowing b D (x .key) (dimensionAfter b D y pre (x .key)) post →
       (c : ℕ) → (x .cell ≡ c → ⊥) → OnBoth (Kept b D (x .cell)) (placeOf c (placesFrom b D w f y e (pre ++ x ∷ post))) (placeOf c (placesFrom b D w f y e (pre ++ post)))
   unfolding placesAfter lastFrom
@@ -399,25 +400,25 @@ module _ (b D : ℕ) (pos : 0 < b) where
 
 -- In a row
 
--- Nothing is owed that the new entry x touches: the entry before it, its parent, and the next larger entry if that has the slot, owe
+-- Nothing is owed that the new node x touches: the node before it, its parent, and the next larger node if that has the slot, owe
 -- nothing; and x itself owes exactly if that one has the slot and shares more with x than p coordinates.
-pub record Cleared (b D : ℕ) (pre : List Entry) (x : Entry) (post : List Entry) : Type 0 where
-  pub last : lastFrom headEntry pre .owes ≡ false
-  pub parent : All (λ y. y .cell ≡ parentAfter b D headEntry pre (x .key) → y .owes ≡ false) (headEntry ∷ (pre ++ x ∷ post))
-  pub next : NextUnowing b D (x .key) (dimensionAfter b D headEntry pre (x .key)) post
-  pub own : x .owes ≡ newOwes b D (x .key) (dimensionAfter b D headEntry pre (x .key)) post
+pub record Cleared (b D : ℕ) (pre : List Node) (x : Node) (post : List Node) : Type 0 where
+  pub last : lastFrom headNode pre .owes ≡ false
+  pub parent : All (λ y. y .cell ≡ parentAfter b D headNode pre (x .key) → y .owes ≡ false) (headNode ∷ (pre ++ x ∷ post))
+  pub next : NextUnowing b D (x .key) (dimensionAfter b D headNode pre (x .key)) post
+  pub own : x .owes ≡ newOwes b D (x .key) (dimensionAfter b D headNode pre (x .key)) post
 
-module _ (s : State) (pre : List Entry) (x : Entry) (post : List Entry) (pos : 0 < s .settings .base) (deep : 0 < s .settings .dimensions) (a : Asc 0 (pre ++ x ∷ post)) (o : Apart (headEntry ∷ (pre ++ x ∷ post))) (clear : Cleared (s .settings .base) (s .settings .dimensions) pre x post) where
+module _ (s : State) (pre : List Node) (x : Node) (post : List Node) (pos : 0 < s .settings .base) (deep : 0 < s .settings .dimensions) (a : Asc 0 (pre ++ x ∷ post)) (o : Apart (headNode ∷ (pre ++ x ∷ post))) (clear : Cleared (s .settings .base) (s .settings .dimensions) pre x post) where
   -- a place that owes has no link to x
   owing-leads-elsewhere :
-      All (λ p. p .entry .owes ≡ true → (d : ℕ) → settledLink (s .settings .base) (s .settings .dimensions) p d ≡ x .cell → ⊥)
+      All (λ p. p .node .owes ≡ true → (d : ℕ) → settledLink (s .settings .base) (s .settings .dimensions) p d ≡ x .cell → ⊥)
       (places (s .settings .base) (s .settings .dimensions) (pre ++ x ∷ post))
   owing-leads-elsewhere =
       let b = s .settings .base in
       let D = s .settings .dimensions in
       all-zip (λ p unique paid owes d leads. let f = paid (unique d leads .0) in let z : _≡_ {A = ℕ} 0 1 = cc in omega arith)
       (places b D (pre ++ x ∷ post)) (parent-unique s pre x post pos deep a o)
-      (all-places (λ y. y .cell ≡ parentAfter b D headEntry pre (x .key) → y .owes ≡ false) b D (pre ++ x ∷ post) (clear .parent .0) (clear .parent .1))
+      (all-places (λ y. y .cell ≡ parentAfter b D headNode pre (x .key) → y .owes ≡ false) b D (pre ++ x ∷ post) (clear .parent .0) (clear .parent .1))
 
   -- every other cell that stands stood, and keeps its words but for links that lead to x
   pub kept-places :
@@ -426,20 +427,20 @@ module _ (s : State) (pre : List Entry) (x : Entry) (post : List Entry) (pos : 0
       (placeOf c (places (s .settings .base) (s .settings .dimensions) (pre ++ x ∷ post))) (placeOf c (places (s .settings .base) (s .settings .dimensions) (pre ++ post)))
   unfolding places
   kept-places c other =
-      kept-from (s .settings .base) (s .settings .dimensions) pos headEntry 0 headEntry 0 pre x post a (clear .last)
+      kept-from (s .settings .base) (s .settings .dimensions) pos headNode 0 headNode 0 pre x post a (clear .last)
       (λ owes. absurd (let z : _≡_ {A = ℕ} 0 1 = cc in omega arith)) owing-leads-elsewhere (clear .own) (clear .next) c other
 
   -- link p of the parent leads to x
   pub link-of-parent :
-      (p : Place) → placeOf (parentAfter (s .settings .base) (s .settings .dimensions) headEntry pre (x .key)) (places (s .settings .base) (s .settings .dimensions) (pre ++ x ∷ post)) ≡ some p →
-      link (s .settings .base) (s .settings .dimensions) p (dimensionAfter (s .settings .base) (s .settings .dimensions) headEntry pre (x .key)) ≡ x .cell
+      (p : Place) → placeOf (parentAfter (s .settings .base) (s .settings .dimensions) headNode pre (x .key)) (places (s .settings .base) (s .settings .dimensions) (pre ++ x ∷ post)) ≡ some p →
+      link (s .settings .base) (s .settings .dimensions) p (dimensionAfter (s .settings .base) (s .settings .dimensions) headNode pre (x .key)) ≡ x .cell
   unfolding places
   link-of-parent p found =
       subst (λ q. link b D q d ≡ x .cell) same
       (link-above b D t d unowing (h .low)
-      ∙ ap (firstSharing b D (t .entry .key) d) (h .later-is)
-      ∙ subst (λ m. shared b D (m .key) (x .key) < shared b D (t .entry .key) (m .key) → firstSharing b D (t .entry .key) (shared b D (m .key) (x .key)) (h .between ++ x ∷ post) ≡ x .cell) (h .last-is)
-      (link-leads b D pos deep (t .entry) (h .between) x post (subst (Asc (t .entry .key)) (h .later-is) ascends)) (h .shares))
+      ∙ ap (firstSharing b D (t .node .key) d) (h .later-is)
+      ∙ subst (λ m. shared b D (m .key) (x .key) < shared b D (t .node .key) (m .key) → firstSharing b D (t .node .key) (shared b D (m .key) (x .key)) (h .between ++ x ∷ post) ≡ x .cell) (h .last-is)
+      (link-leads b D pos deep (t .node) (h .between) x post (subst (Asc (t .node .key)) (h .later-is) ascends)) (h .shares))
     where
       b : ℕ
       b = s .settings .base
@@ -447,21 +448,21 @@ module _ (s : State) (pre : List Entry) (x : Entry) (post : List Entry) (pos : 0
       D : ℕ
       D = s .settings .dimensions
 
-      A : Entry
-      A = lastFrom headEntry pre
+      A : Node
+      A = lastFrom headNode pre
 
       d : ℕ
       d = shared b D (A .key) (x .key)
 
-      row : List Entry
+      row : List Node
       row = pre ++ x ∷ post
 
       low : A .key < x .key
-      low = asc-last headEntry pre (x ∷ post) a .0
+      low = asc-last headNode pre (x ∷ post) a .0
 
-      at : (t : Place) × (placeOf (parentAfter b D headEntry pre (x .key)) (places b D row) ≡ some t) × ParentPlace b D d A (x ∷ post) t
+      at : (t : Place) × (placeOf (parentAfter b D headNode pre (x .key)) (places b D row) ≡ some t) × ParentPlace b D d A (x ∷ post) t
       at =
-          first-place b D pos deep d headEntry 0 headEntry 0 pre (x ∷ post) (asc-left 0 pre (x ∷ post) a) (apart-left (headEntry ∷ pre) (x ∷ post) o)
+          first-place b D pos deep d headNode 0 headNode 0 pre (x ∷ post) (asc-left 0 pre (x ∷ post) a) (apart-left (headNode ∷ pre) (x ∷ post) o)
           (shared-less b D (A .key) (x .key) deep (omega (arith, low))) (λ q. omega arith)
 
       t : Place
@@ -473,31 +474,31 @@ module _ (s : State) (pre : List Entry) (x : Entry) (post : List Entry) (pos : 0
       same : t ≡ p
       same = let e = at .1 in let f : some t ≡ some p = sym e ∙ found in cc
 
-      fact : (t .entry .cell ≡ parentAfter b D headEntry pre (x .key)) × ((t .entry .cell ≡ parentAfter b D headEntry pre (x .key) → t .entry .owes ≡ false) × Asc (t .entry .key) (t .later))
+      fact : (t .node .cell ≡ parentAfter b D headNode pre (x .key)) × ((t .node .cell ≡ parentAfter b D headNode pre (x .key) → t .node .owes ≡ false) × Asc (t .node .key) (t .later))
       fact =
-          subst (Told (λ q. (q .entry .cell ≡ parentAfter b D headEntry pre (x .key) → q .entry .owes ≡ false) × Asc (q .entry .key) (q .later)) (parentAfter b D headEntry pre (x .key))) (at .1)
-          (told (λ q. (q .entry .cell ≡ parentAfter b D headEntry pre (x .key) → q .entry .owes ≡ false) × Asc (q .entry .key) (q .later)) (parentAfter b D headEntry pre (x .key)) (places b D row)
+          subst (Told (λ q. (q .node .cell ≡ parentAfter b D headNode pre (x .key) → q .node .owes ≡ false) × Asc (q .node .key) (q .later)) (parentAfter b D headNode pre (x .key))) (at .1)
+          (told (λ q. (q .node .cell ≡ parentAfter b D headNode pre (x .key) → q .node .owes ≡ false) × Asc (q .node .key) (q .later)) (parentAfter b D headNode pre (x .key)) (places b D row)
           (all-zip (λ q f g. (f, g)) (places b D row)
-          (all-places (λ y. y .cell ≡ parentAfter b D headEntry pre (x .key) → y .owes ≡ false) b D row (clear .parent .0) (clear .parent .1))
+          (all-places (λ y. y .cell ≡ parentAfter b D headNode pre (x .key) → y .owes ≡ false) b D row (clear .parent .0) (clear .parent .1))
           (places-ascend b D row a)))
 
-      unowing : t .entry .owes ≡ false
+      unowing : t .node .owes ≡ false
       unowing = fact .1 .0 (fact .0)
 
-      ascends : Asc (t .entry .key) (t .later)
+      ascends : Asc (t .node .key) (t .later)
       ascends = fact .1 .1
 
   -- every other link of a cell other than x is as it was
   pub link-of-other :
       (c d : ℕ) (p q : Place) → placeOf c (places (s .settings .base) (s .settings .dimensions) (pre ++ x ∷ post)) ≡ some p →
       placeOf c (places (s .settings .base) (s .settings .dimensions) (pre ++ post)) ≡ some q → (x .cell ≡ c → ⊥) →
-      (c ≡ parentAfter (s .settings .base) (s .settings .dimensions) headEntry pre (x .key) → d ≡ dimensionAfter (s .settings .base) (s .settings .dimensions) headEntry pre (x .key) → ⊥) →
+      (c ≡ parentAfter (s .settings .base) (s .settings .dimensions) headNode pre (x .key) → d ≡ dimensionAfter (s .settings .base) (s .settings .dimensions) headNode pre (x .key) → ⊥) →
       link (s .settings .base) (s .settings .dimensions) p d ≡ link (s .settings .base) (s .settings .dimensions) q d
   link-of-other c d p q now before other elsewhere =
       let b = s .settings .base in
       let D = s .settings .dimensions in
       let kept = subst₂ (OnBoth (Kept b D (x .cell))) now before (kept-places c other) in
       let unique =
-      subst (Told (λ r. (m : ℕ) → settledLink b D r m ≡ x .cell → (r .entry .cell ≡ parentAfter b D headEntry pre (x .key)) × (m ≡ dimensionAfter b D headEntry pre (x .key))) c) now
-      (told (λ r. (m : ℕ) → settledLink b D r m ≡ x .cell → (r .entry .cell ≡ parentAfter b D headEntry pre (x .key)) × (m ≡ dimensionAfter b D headEntry pre (x .key))) c (places b D (pre ++ x ∷ post)) (parent-unique s pre x post pos deep a o)) in
+      subst (Told (λ r. (m : ℕ) → settledLink b D r m ≡ x .cell → (r .node .cell ≡ parentAfter b D headNode pre (x .key)) × (m ≡ dimensionAfter b D headNode pre (x .key))) c) now
+      (told (λ r. (m : ℕ) → settledLink b D r m ≡ x .cell → (r .node .cell ≡ parentAfter b D headNode pre (x .key)) × (m ≡ dimensionAfter b D headNode pre (x .key))) c (places b D (pre ++ x ∷ post)) (parent-unique s pre x post pos deep a o)) in
       kept .links d (λ leads. let u = unique .1 d leads in elsewhere (sym (unique .0) ∙ u .0) (u .1))

@@ -1,5 +1,5 @@
 -- What an insert of a key that does not stand writes, word by word: the words after the debts of the parent and of c are finished, with
--- the new cell written, taken off the free chain and set as link p of the parent. Finishing does not move the slot, so the new entry
+-- the new cell written, taken off the free chain and set as link p of the parent. Finishing does not move the slot, so the new node
 -- comes into the row of the state with both debts paid, where it changes only those words.
 use mathlib.Core.Path.{_≡_, refl, sym, _∙_, ap, subst, subst₂}
 use mathlib.Core.Bool.{Bool, true, false, cond, _&&_, not, and-false}
@@ -12,23 +12,24 @@ use lib.Dec.{eqb, ltb}
 use lib.ListN.{length, getD, drop}
 use borrow.Author.Tests.{eq-eqb, ne-eqb, lt-ltb, le-ltb, le-leb, lt-leb}
 use Rattle.settings.specs.Numbers.{fieldsBeforeCoordinates, cellWords}
+use Rattle.lists.specs.Lists.{occurrences}
+use Rattle.lists.proofs.All.{All, all-map, all-each, all-mapped}
+use Rattle.lists.proofs.Tests.{and-both}
 use Rattle.meaning.specs.Keys.{shared}
-use Rattle.meaning.specs.Row.{Entry, headEntry, Place, entryAt}
-use Rattle.meaning.specs.State.{State, occurrences, positionKey}
+use Rattle.meaning.specs.Row.{Node, headNode, Place, nodeAt}
+use Rattle.meaning.specs.State.{State, positionKey}
 use Rattle.meaning.specs.Picture.{path, picture}
-use Rattle.meaning.specs.Operations.{paid, finished, withRow, Slot, newEntry, slotFor, slotOwes, added, settledLinkAt}
-use Rattle.meaning.specs.Leaves.{Unmoved, OwesNothing, OwesSame, Inserted}
-use Rattle.meaning.specs.Words.{wordAt, keyAt, owedAt, lowAt, highAt, linkAt}
+use Rattle.meaning.specs.Operations.{paid, finished, withRow, Slot, newNode, slotFor, slotOwes, added, settledLinkAt}
+use Rattle.meaning.specs.Writes.{Unmoved, OwesNothing, OwesSame, Inserted}
+use Rattle.meaning.specs.Words.{wordAt, keyAt, owedAt, lowAt, highAt, linkAt, linkField}
 use Rattle.meaning.specs.Sentences.{Settled}
-use Rattle.meaning.specs.Stores.{linkField, finishWords, writePath, newWords, insertWords}
-use Rattle.meaning.proofs.Order.{All, and-both, all-map}
+use Rattle.meaning.specs.Layer.Stores.{finishWords, writePath, newWords, insertWords}
 use Rattle.meaning.proofs.State.{Sound}
-use Rattle.meaning.proofs.Cells.{all-each}
-use Rattle.meaning.proofs.Places.{all-mapped, cells-changed, keys-changed, onCell, onCell-cases, keyOf-other}
+use Rattle.meaning.proofs.Places.{cells-changed, keys-changed, onCell, onCell-cases, keyOf-other}
 use Rattle.meaning.proofs.KeepsFinish.{paid-keeping, finished-sound}
 use Rattle.meaning.proofs.Slot.{Gap, gap, SlotIs, slot-is, gap-changed}
 use Rattle.meaning.proofs.KeepsInsert.{added-row, added-position, added-sound-at, parentPaid, bothPaid, both-sound, both-gap, both-position}
-use Rattle.meaning.proofs.SentencesCells.{Placed, head-placed, placed-keyOf, placed-below, place-standing, place-word, place-key, place-value, place-mark, place-owed, place-coordinate, place-link}
+use Rattle.meaning.proofs.Placed.{Placed, head-placed, placed-keyOf, placed-below, place-standing, place-word, place-key, place-value, place-mark, place-owed, place-coordinate, place-link}
 use Rattle.meaning.proofs.Stores.{finishWords-none}
 use Rattle.meaning.proofs.SentencesShape.{place-settled}
 use Rattle.meaning.proofs.Sentences.{position-is, position-key-is}
@@ -124,7 +125,7 @@ module _ (s : State) (v : Sound s) (key value : ℕ) (positive : 0 < key) (g : G
       (all-mapped Unowing (onCell (t .parent) paid) (s .row)
       (all-each (λ y. onCell-cases Unowing (t .parent) paid y (λ here e. refl) (λ other e. absurd (other e))) (s .row))))
     where
-      Unowing : Entry → Type 0
+      Unowing : Node → Type 0
       Unowing y = y .cell ≡ t .parent → y .owes ≡ false
 
   -- The path
@@ -142,7 +143,7 @@ module _ (s : State) (v : Sound s) (key value : ℕ) (positive : 0 < key) (g : G
       ∙ keys-changed (onCell (t .parent) paid) (paid-keeping (t .parent)) (s .row)
 
   abbrev now : State
-  now = withNew two (two-gap .pre) (newEntry (t .n) key value (slotOwes t)) (two-gap .post) (added s key value t .position)
+  now = withNew two (two-gap .pre) (newNode (t .n) key value (slotOwes t)) (two-gap .post) (added s key value t .position)
 
   added-is : added s key value t ≡ now
   unfolding added finished both-gap gap-changed
@@ -159,7 +160,7 @@ module _ (s : State) (v : Sound s) (key value : ℕ) (positive : 0 < key) (g : G
 
   pub added-path-at : positionKey s < key → path (added s key value t) ≡ path s
   added-path-at h =
-      let x = newEntry (t .n) key value (slotOwes t) in
+      let x = newNode (t .n) key value (slotOwes t) in
       ap path added-is
       ∙ ap (λ p. path (withNew two (two-gap .pre) x (two-gap .post) p)) (added-position-kept h)
       ∙ put-path two two-sound x two-gap (slot-new two two-sound key positive two-gap f t two-slot) (subst (λ k. k < key) (sym (both-position s t)) h)
@@ -205,7 +206,7 @@ module _ (s : State) (v : Sound s) (key value : ℕ) (positive : 0 < key) (g : G
   two-unmoved : (x j : ℕ) → j < cellWords D → Unmoved (picture s) (t .parent) x j → Unmoved (picture s) (t .c) x j → wordAt (picture two) x j ≡ wordAt (picture s) x j
   two-unmoved x j h parent c = finish-unmoved one one-sound (t .c) c-stands x j h (c-unmoved x j c) ∙ finish-unmoved s v (t .parent) parent-stands x j h parent
 
-  -- The new entry
+  -- The new node
 
   module _ (most : key ≤ s .settings .largest) where
     now-sound : Sound now
@@ -220,7 +221,7 @@ module _ (s : State) (v : Sound s) (key value : ℕ) (positive : 0 < key) (g : G
         ∙ ap (λ ws. writePath (writeNew b D ws key value t) (path (added s key value t))) (sym both-words)
 
     abbrev new : Place
-    new = newPlace b D (two-gap .pre) (newEntry (t .n) key value (slotOwes t)) (two-gap .post)
+    new = newPlace b D (two-gap .pre) (newNode (t .n) key value (slotOwes t)) (two-gap .post)
 
     here : Placed now (t .n) new
     here = put-new two two-sound key value positive two-gap f t two-slot parent-unowing c-unowing (added s key value t .position) now-sound
@@ -254,7 +255,7 @@ module _ (s : State) (v : Sound s) (key value : ℕ) (positive : 0 < key) (g : G
     now-settled : Settled (picture now) (t .parent) (t .p) (t .n)
     now-settled =
         subst₂ (λ y d. Settled (picture now) y d (t .n)) (sym (two-slot .parent-is)) (sym (two-slot .p-is))
-        (parent-leads now now-sound (two-gap .pre) (newEntry (t .n) key value (slotOwes t)) (two-gap .post) refl)
+        (parent-leads now now-sound (two-gap .pre) (newNode (t .n) key value (slotOwes t)) (two-gap .post) refl)
 
     now-inserted : Settled (picture s) (t .parent) (t .p) (t .c) → ((t .c ≡ 0 → ⊥) → t .q ≡ shared b D key (keyAt (picture s) (t .c))) → Inserted (picture s) (picture now) key value t
     unfolding picture
@@ -309,7 +310,7 @@ module _ (s : State) (v : Sound s) (key value : ℕ) (positive : 0 < key) (g : G
 
 -- A key that does not stand, and a free cell
 
-module _ (s : State) (v : Sound s) (key value : ℕ) (positive : 1 ≤ key) (most : key ≤ s .settings .largest) (absent : entryAt key (s .row) ≡ none) (f : 0 < length (s .free)) where
+module _ (s : State) (v : Sound s) (key value : ℕ) (positive : 1 ≤ key) (most : key ≤ s .settings .largest) (absent : nodeAt key (s .row) ≡ none) (f : 0 < length (s .free)) where
   abbrev around : Gap key (s .row)
   around = gap key 0 (s .row) (v .ascends) absent
 
@@ -334,7 +335,7 @@ module _ (s : State) (v : Sound s) (key value : ℕ) (positive : 1 ≤ key) (mos
   unfolding slotFor
   slot-shared held =
       let (q, here) = slot-c-placed s v key positive around f (slotFor s key) slot in
-      ap (shared (s .settings .base) (s .settings .dimensions) key) (sym (keyOf-other (slotFor s key .c) headEntry (s .row) (λ e. held (sym e))) ∙ placed-keyOf here ∙ sym (place-key v here))
+      ap (shared (s .settings .base) (s .settings .dimensions) key) (sym (keyOf-other (slotFor s key .c) headNode (s .row) (λ e. held (sym e))) ∙ placed-keyOf here ∙ sym (place-key v here))
 
   -- which words change, and which cells owe
   pub added-inserted : Inserted (picture s) (picture (added s key value (slotFor s key))) key value (slotFor s key)

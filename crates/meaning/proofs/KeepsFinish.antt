@@ -1,13 +1,13 @@
--- Finishing keeps a state in order: it changes the debt of one entry, and takes debts only away.
+-- Finishing keeps a state in order: it changes the debt of one node, and takes debts only away.
 use mathlib.Core.Path.{_≡_, refl}
 use mathlib.Core.Bool.{false}
 use Prim.Native.Nat.{ℕ}
+use Rattle.lists.proofs.All.{all-map}
 use Rattle.meaning.specs.State.{State}
 use Rattle.meaning.specs.Operations.{paid, finished, withRow}
-use Rattle.meaning.proofs.Order.{all-map}
 use Rattle.meaning.proofs.State.{Sound}
 use Rattle.meaning.proofs.Places.{Keeping, onCell, onCell-cases, onCell-keeping}
-use Rattle.meaning.proofs.Keeps.{changed-sound}
+use Rattle.meaning.proofs.KeepsState.{changed-sound}
 
 pub paid-keeping : (c : ℕ) → Keeping (onCell c paid)
 paid-keeping c = onCell-keeping c paid (λ x. refl) (λ x. refl) (λ e. refl)

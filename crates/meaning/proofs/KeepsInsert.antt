@@ -1,6 +1,6 @@
 -- Inserting keeps a state in order. The position stays or becomes the parent of the key's cell; either way its key is then below the
--- inserted one and not above the old position's, and up to there all are dead. Of debts, a new entry can touch that of the entry
--- before it, which then is its parent, and, by a new dimension, that of the next larger entry, which then has the slot: the two that
+-- inserted one and not above the old position's, and up to there all are dead. Of debts, a new node can touch that of the node
+-- before it, which then is its parent, and, by a new dimension, that of the next larger node, which then has the slot: the two that
 -- an insert finishes.
 use mathlib.Core.Path.{_≡_, refl, _∙_, sym, ap, ap₂, subst, subst₂}
 use mathlib.Core.Bool.{Bool, true, false, cond, not}
@@ -12,17 +12,20 @@ use native.Mathlib.Decide.{ℕ-discrete, decLe}
 use lib.Dec.{eqb, leb, ltb}
 use lib.ListN.{length, drop, length-append, length-map}
 use borrow.Author.Tests.{eq-eqb, ne-eqb, le-leb, lt-leb, ltb-true, eqb-false, not-true}
+use Rattle.lists.specs.Lists.{occurrences}
+use Rattle.lists.proofs.Occurrences.{occurrences-here, occurrences-append, occurrences-more, none-occurs}
+use Rattle.lists.proofs.All.{All, all-map, all-append, all-left, all-right, all-zip, all-mapped}
+use Rattle.lists.proofs.Tests.{both}
 use Rattle.meaning.specs.Keys.{shared}
-use Rattle.meaning.specs.Row.{Entry, headEntry, firstOf, placesAfter, places, entryAt}
-use Rattle.meaning.specs.State.{State, keyOf, occurrences, positionKey}
-use Rattle.meaning.specs.Operations.{paid, finished, withRow, parentIn, positionAfter, revivedEntry, revived, Slot, newEntry, slotFor, slotOwes, added}
-use Rattle.meaning.proofs.Order.{All, Asc, both, all-map, all-left, all-right, all-append}
+use Rattle.meaning.specs.Row.{Node, headNode, firstOf, placesAfter, places, nodeAt}
+use Rattle.meaning.specs.State.{State, keyOf, positionKey}
+use Rattle.meaning.specs.Operations.{paid, finished, withRow, parentIn, positionAfter, revivedNode, revived, Slot, newNode, slotFor, slotOwes, added}
+use Rattle.meaning.proofs.Order.{Asc}
 use Rattle.meaning.proofs.Keys.{shared-less, ultra}
 use Rattle.meaning.proofs.State.{Sound, Debt, cellsIn, base-positive}
-use Rattle.meaning.proofs.Cells.{all-zip, occurrences-here}
 use Rattle.meaning.proofs.Picture.{first-has}
-use Rattle.meaning.proofs.Places.{all-mapped, occurrences-append, occurrences-more, none-occurs, asc-left, lastFrom, dimensionFrom, Keeping, cells-changed, keyOf-head-changed, asc-changed, firstOf-changed, onCell, onCell-cases, onCell-keeping, keyOf-put}
-use Rattle.meaning.proofs.Keeps.{changed-sound}
+use Rattle.meaning.proofs.Places.{asc-left, lastFrom, dimensionFrom, Keeping, cells-changed, keyOf-head-changed, asc-changed, firstOf-changed, onCell, onCell-cases, onCell-keeping, keyOf-put}
+use Rattle.meaning.proofs.KeepsState.{changed-sound}
 use Rattle.meaning.proofs.KeepsFinish.{paid-keeping, finished-sound}
 use Rattle.meaning.proofs.Parent.{dimensionAfter, parentAfter, placesFrom, Without, Apart, asc-last, apart-left, apart-at, first-among, first-key, last-shares, last-first, parent-is}
 use Rattle.meaning.proofs.Slot.{Gap, gap, put-gap, asc-put, apart-put, sound-apart, first-free, dimensions-positive, cellAfter, SlotIs, slot-is, without-changed, apart-changed, gap-changed, last-changed, parent-changed, gap-last, first-free-apart}
@@ -30,39 +33,39 @@ use Rattle.meaning.proofs.Slot.{Gap, gap, put-gap, asc-put, apart-put, 
 -- The position
 
 -- a cell that can be the position after a key was inserted: standing, below the key and not above the old position
-pub record Lowered (s : State) (key c : ℕ) (row : List Entry) : Type 0 where
+pub record Lowered (s : State) (key c : ℕ) (row : List Node) : Type 0 where
   pub stands : 0 < occurrences c (0 ∷ map (λ x. x .cell) row)
-  pub below : keyOf c (headEntry ∷ row) < key
-  pub least : keyOf c (headEntry ∷ row) ≤ positionKey s
+  pub below : keyOf c (headNode ∷ row) < key
+  pub least : keyOf c (headNode ∷ row) ≤ positionKey s
 
-all-stand : (row : List Entry) → All (λ z. 0 < occurrences (z .cell) (map (λ x. x .cell) row)) row
+all-stand : (row : List Node) → All (λ z. 0 < occurrences (z .cell) (map (λ x. x .cell) row)) row
 all-stand [] = tt
 all-stand (x ∷ row) = (
   omega (arith, occurrences-here (x .cell) (x .cell) (map (λ y. y .cell) row) refl),
   all-map (λ z h. let m = occurrences-more (z .cell) (x .cell) (map (λ y. y .cell) row) in omega arith) row (all-stand row),
 )
 
-module _ (s : State) (pos : 0 < s .settings .base) (deep : 0 < s .settings .dimensions) (pre : List Entry) (x : Entry) (post : List Entry) (a : Asc 0 (pre ++ x ∷ post)) (o : Apart (headEntry ∷ (pre ++ x ∷ post))) where
-  parent-lowers : x .key ≤ positionKey s → Lowered s (x .key) (parentAfter (s .settings .base) (s .settings .dimensions) headEntry pre (x .key)) (pre ++ x ∷ post)
+module _ (s : State) (pos : 0 < s .settings .base) (deep : 0 < s .settings .dimensions) (pre : List Node) (x : Node) (post : List Node) (a : Asc 0 (pre ++ x ∷ post)) (o : Apart (headNode ∷ (pre ++ x ∷ post))) where
+  parent-lowers : x .key ≤ positionKey s → Lowered s (x .key) (parentAfter (s .settings .base) (s .settings .dimensions) headNode pre (x .key)) (pre ++ x ∷ post)
   parent-lowers h =
       let b = s .settings .base in
       let D = s .settings .dimensions in
-      let A = lastFrom headEntry pre in
+      let A = lastFrom headNode pre in
       let row = pre ++ x ∷ post in
-      let n = suc (dimensionAfter b D headEntry pre (x .key)) in
-      let l = last-shares b D deep headEntry pre x post a in
-      let k = first-key b D (A .key) n headEntry pre (x ∷ post) (asc-left 0 pre (x ∷ post) a) (apart-left (headEntry ∷ pre) (x ∷ post) o) l in
-      let m = asc-last headEntry pre (x ∷ post) a .0 in
-      let all = all-stand (headEntry ∷ row) in
+      let n = suc (dimensionAfter b D headNode pre (x .key)) in
+      let l = last-shares b D deep headNode pre x post a in
+      let k = first-key b D (A .key) n headNode pre (x ∷ post) (asc-left 0 pre (x ∷ post) a) (apart-left (headNode ∷ pre) (x ∷ post) o) l in
+      let m = asc-last headNode pre (x ∷ post) a .0 in
+      let all = all-stand (headNode ∷ row) in
       record {
-        stands = first-among b D (λ c. 0 < occurrences c (map (λ y. y .cell) (headEntry ∷ row))) (A .key) n headEntry pre l (all .0) (all-left (λ z. 0 < occurrences (z .cell) (map (λ y. y .cell) (headEntry ∷ row))) pre (x ∷ post) (all .1));
+        stands = first-among b D (λ c. 0 < occurrences c (map (λ y. y .cell) (headNode ∷ row))) (A .key) n headNode pre l (all .0) (all-left (λ z. 0 < occurrences (z .cell) (map (λ y. y .cell) (headNode ∷ row))) pre (x ∷ post) (all .1));
         below = omega arith;
         least = omega arith;
       }
 
   -- the position after the call, where the old one stands, and with its old key
   position-lowers :
-      0 < occurrences (s .position) (0 ∷ map (λ y. y .cell) (pre ++ x ∷ post)) → keyOf (s .position) (headEntry ∷ (pre ++ x ∷ post)) ≡ positionKey s →
+      0 < occurrences (s .position) (0 ∷ map (λ y. y .cell) (pre ++ x ∷ post)) → keyOf (s .position) (headNode ∷ (pre ++ x ∷ post)) ≡ positionKey s →
       Lowered s (x .key) (positionAfter s (x .key) (x .cell) (pre ++ x ∷ post)) (pre ++ x ∷ post)
   unfolding positionAfter
   position-lowers stands same = at (decLe (x .key) (positionKey s))
@@ -75,25 +78,25 @@ module _ (s : State) (pos : 0 < s .settings .base) (deep : 0 < s .settings .dime
 
 -- A dead standing key
 
--- the entry with a key stands between two parts
-pub entry-split : (key : ℕ) (x : Entry) (row : List Entry) → entryAt key row ≡ some x → (pre : List Entry) × (post : List Entry) × (row ≡ pre ++ x ∷ post)
-unfolding entryAt
-entry-split key x [] e = absurd (let z : _≡_ {A = ℕ} 0 1 = cc in omega arith)
-entry-split key x (y ∷ row) e = at (ℕ-discrete (y .key) key) e (entry-split key x row)
+-- the node with a key stands between two parts
+pub node-split : (key : ℕ) (x : Node) (row : List Node) → nodeAt key row ≡ some x → (pre : List Node) × (post : List Node) × (row ≡ pre ++ x ∷ post)
+unfolding nodeAt
+node-split key x [] e = absurd (let z : _≡_ {A = ℕ} 0 1 = cc in omega arith)
+node-split key x (y ∷ row) e = at (ℕ-discrete (y .key) key) e (node-split key x row)
   where
-    Split : List Entry → Type 0
-    Split r = (pre : List Entry) × (post : List Entry) × (r ≡ pre ++ x ∷ post)
+    Split : List Node → Type 0
+    Split r = (pre : List Node) × (post : List Node) × (r ≡ pre ++ x ∷ post)
 
-    at : Dec (y .key ≡ key) → cond (eqb (y .key) key) (some y) (entryAt key row) ≡ some x → (entryAt key row ≡ some x → Split row) → Split (y ∷ row)
-    at (yes h) q ih = ([], row, (let r : some y ≡ some x = rw (eq-eqb (y .key) key h) at q in let same : y ≡ x = cc in ap {B = List Entry} (λ z. z ∷ row) same))
-    at (no h) q ih = let t = ih (rw (ne-eqb (y .key) key h) at q) in (y ∷ t .0, t .1, ap {B = List Entry} (λ r. y ∷ r) (t .2))
+    at : Dec (y .key ≡ key) → cond (eqb (y .key) key) (some y) (nodeAt key row) ≡ some x → (nodeAt key row ≡ some x → Split row) → Split (y ∷ row)
+    at (yes h) q ih = ([], row, (let r : some y ≡ some x = rw (eq-eqb (y .key) key h) at q in let same : y ≡ x = cc in ap {B = List Node} (λ z. z ∷ row) same))
+    at (no h) q ih = let t = ih (rw (ne-eqb (y .key) key h) at q) in (y ∷ t .0, t .1, ap {B = List Node} (λ r. y ∷ r) (t .2))
 
-module _ (s : State) (x : Entry) (value : ℕ) (v : Sound s) (pre post : List Entry) (split : s .row ≡ pre ++ x ∷ post) where
-  abbrev revive : Entry → Entry
-  revive = onCell (x .cell) (revivedEntry value)
+module _ (s : State) (x : Node) (value : ℕ) (v : Sound s) (pre post : List Node) (split : s .row ≡ pre ++ x ∷ post) where
+  abbrev revive : Node → Node
+  revive = onCell (x .cell) (revivedNode value)
 
-  alone : Without (x .cell) (headEntry ∷ (pre ++ post))
-  alone = apart-at headEntry pre x post (subst (λ r. Apart (headEntry ∷ r)) split (sound-apart s v))
+  alone : Without (x .cell) (headNode ∷ (pre ++ post))
+  alone = apart-at headNode pre x post (subst (λ r. Apart (headNode ∷ r)) split (sound-apart s v))
 
   -- only x has its cell
   same-cell : All (λ y. y .cell ≡ x .cell → y .key ≡ x .key) (s .row)
@@ -103,8 +106,8 @@ module _ (s : State) (x : Entry) (value : ℕ) (v : Sound s) (pre post : List En
       (all-map (λ y n h. absurd (n h)) pre (all-left (λ y. y .cell ≡ x .cell → ⊥) pre post (alone .1)))
       (λ h. refl, all-map (λ y n h. absurd (n h)) post (all-right (λ y. y .cell ≡ x .cell → ⊥) pre post (alone .1))))
 
-  pub revived-keeping : Keeping (onCell (x .cell) (revivedEntry value))
-  revived-keeping = onCell-keeping (x .cell) (revivedEntry value) (λ y. refl) (λ y. refl) (λ z. absurd (alone .0 z))
+  pub revived-keeping : Keeping (onCell (x .cell) (revivedNode value))
+  revived-keeping = onCell-keeping (x .cell) (revivedNode value) (λ y. refl) (λ y. refl) (λ z. absurd (alone .0 z))
 
   revived-row : map revive (s .row) ≡ map revive pre ++ revive x ∷ map revive post
   revived-row = ap (map revive) split ∙ map-append revive pre (x ∷ post)
@@ -112,10 +115,10 @@ module _ (s : State) (x : Entry) (value : ℕ) (v : Sound s) (pre post : List En
   revived-ascends : Asc 0 (map revive pre ++ revive x ∷ map revive post)
   revived-ascends = subst (Asc 0) revived-row (asc-changed revive revived-keeping 0 (s .row) (v .ascends))
 
-  revived-apart : Apart (headEntry ∷ (map revive pre ++ revive x ∷ map revive post))
+  revived-apart : Apart (headNode ∷ (map revive pre ++ revive x ∷ map revive post))
   revived-apart =
       let o = sound-apart s v in
-      subst (λ r. Apart (headEntry ∷ r)) revived-row (without-changed revive revived-keeping 0 (s .row) (o .0), apart-changed revive revived-keeping (s .row) (o .1))
+      subst (λ r. Apart (headNode ∷ r)) revived-row (without-changed revive revived-keeping 0 (s .row) (o .0), apart-changed revive revived-keeping (s .row) (o .1))
 
   revived-lowered : Lowered s (x .key) (positionAfter s (x .key) (x .cell) (map revive (s .row))) (map revive (s .row))
   revived-lowered =
@@ -123,7 +126,7 @@ module _ (s : State) (x : Entry) (value : ℕ) (v : Sound s) (pre post : List En
       (subst₂ (λ i c. Lowered s i (positionAfter s i c (map revive pre ++ revive x ∷ map revive post)) (map revive pre ++ revive x ∷ map revive post)) (revived-keeping .key x) (revived-keeping .cell x)
       (position-lowers s (base-positive s v) (dimensions-positive s v) (map revive pre) (revive x) (map revive post) revived-ascends revived-apart
       (subst (λ r. 0 < occurrences (s .position) (0 ∷ map (λ y. y .cell) r)) revived-row (subst (λ cs. 0 < occurrences (s .position) (0 ∷ cs)) (sym (cells-changed revive revived-keeping (s .row))) (v .position)))
-      (ap (λ r. keyOf (s .position) (headEntry ∷ r)) (sym revived-row) ∙ keyOf-head-changed revive revived-keeping (s .position) (s .row))))
+      (ap (λ r. keyOf (s .position) (headNode ∷ r)) (sym revived-row) ∙ keyOf-head-changed revive revived-keeping (s .position) (s .row))))
 
   revived-sound-at : Sound (revived s x value)
   unfolding revived
@@ -133,25 +136,25 @@ module _ (s : State) (x : Entry) (value : ℕ) (v : Sound s) (pre post : List En
       let below = revived-lowered .below in
       let least = revived-lowered .least in
       changed-sound s revive p v revived-keeping
-      (λ y h. onCell-cases (λ z. z .owes ≡ false) (x .cell) (revivedEntry value) y (λ here. h) (λ other. h))
-      (all-map (λ y h. onCell-cases (λ z. z .live ≡ false → z .value ≡ 0) (x .cell) (revivedEntry value) y (λ here l. absurd (let z : _≡_ {A = ℕ} 0 1 = cc in omega arith)) (λ other. h)) (s .row) (v .values))
+      (λ y h. onCell-cases (λ z. z .owes ≡ false) (x .cell) (revivedNode value) y (λ here. h) (λ other. h))
+      (all-map (λ y h. onCell-cases (λ z. z .live ≡ false → z .value ≡ 0) (x .cell) (revivedNode value) y (λ here l. absurd (let z : _≡_ {A = ℕ} 0 1 = cc in omega arith)) (λ other. h)) (s .row) (v .values))
       (subst (λ cs. 0 < occurrences p (0 ∷ cs)) (cells-changed revive revived-keeping (s .row)) (revived-lowered .stands))
-      (all-zip (λ y only dead l. onCell-cases (λ z. z .live ≡ false) (x .cell) (revivedEntry value) y (λ here. absurd (let q = only here in omega arith)) (λ other. dead (omega arith))) (s .row) same-cell (v .dead))
+      (all-zip (λ y only dead l. onCell-cases (λ z. z .live ≡ false) (x .cell) (revivedNode value) y (λ here. absurd (let q = only here in omega arith)) (λ other. dead (omega arith))) (s .row) same-cell (v .dead))
 
   -- the parent is that of the settled shape before the call
-  pub revived-parent : parentIn s (x .cell) (map (onCell (x .cell) (revivedEntry value)) (s .row)) ≡ parentAfter (s .settings .base) (s .settings .dimensions) headEntry pre (x .key)
+  pub revived-parent : parentIn s (x .cell) (map (onCell (x .cell) (revivedNode value)) (s .row)) ≡ parentAfter (s .settings .base) (s .settings .dimensions) headNode pre (x .key)
   revived-parent =
       let b = s .settings .base in
       let D = s .settings .dimensions in
       ap₂ (parentIn s) (sym (revived-keeping .cell x)) revived-row
       ∙ parent-is s (map revive pre) (revive x) (map revive post) (base-positive s v) (dimensions-positive s v) revived-ascends revived-apart
-      ∙ ap (parentAfter b D headEntry (map revive pre)) (revived-keeping .key x)
+      ∙ ap (parentAfter b D headNode (map revive pre)) (revived-keeping .key x)
       ∙ parent-changed revive revived-keeping b D pre (x .key)
 
-pub revived-sound : (s : State) (x : Entry) (value : ℕ) → Sound s → entryAt (x .key) (s .row) ≡ some x → x .live ≡ false → Sound (revived s x value)
-revived-sound s x value v e dead = let t = entry-split (x .key) x (s .row) e in revived-sound-at s x value v (t .0) (t .1) (t .2)
+pub revived-sound : (s : State) (x : Node) (value : ℕ) → Sound s → nodeAt (x .key) (s .row) ≡ some x → x .live ≡ false → Sound (revived s x value)
+revived-sound s x value v e dead = let t = node-split (x .key) x (s .row) e in revived-sound-at s x value v (t .0) (t .1) (t .2)
 
--- A new entry
+-- A new node
 
 -- a cell goes from the free ones to the standing ones
 moved-all : (P : ℕ → Type 0) (front back : List ℕ) (c : ℕ) (free : List ℕ) → All P ((front ++ back) ++ (c ∷ free)) → All P ((front ++ c ∷ back) ++ free)
@@ -169,17 +172,17 @@ moved-length front back c free =
     omega (arith, length-append (front ++ c ∷ back) free, length-append front (c ∷ back), length-append (front ++ back) (c ∷ free), length-append front back)
 
 module _ (b D : ℕ) where
-  abbrev Allowed : List Entry → Entry → ℕ → Type 0
-  Allowed row y e = All (λ n. n .entry .owes ≡ true → Debt b D n) (placesAfter b D y e row)
+  abbrev Allowed : List Node → Node → ℕ → Type 0
+  Allowed row y e = All (λ n. n .node .owes ≡ true → Debt b D n) (placesAfter b D y e row)
 
-  -- a debt does not depend on the dimension of the entry before
-  debts-any : (y : Entry) (e f : ℕ) (row : List Entry) → Allowed row y e → Allowed row y f
+  -- a debt does not depend on the dimension of the node before
+  debts-any : (y : Node) (e f : ℕ) (row : List Node) → Allowed row y e → Allowed row y f
   unfolding placesAfter
   debts-any y e f [] a = tt
   debts-any y e f (x ∷ row) a = (λ h. let d = a .0 h in record { later = d .later; unowing = d .unowing; lower = d .lower }, a .1)
 
-  -- nor, but for the next larger entry's, on what comes before
-  debts-behind : (y x : Entry) (e f : ℕ) (post : List Entry) → (firstOf post .owes ≡ true → shared b D (y .key) (firstOf post .key) ≡ shared b D (x .key) (firstOf post .key)) → Allowed post y e → Allowed post x f
+  -- nor, but for the next larger node's, on what comes before
+  debts-behind : (y x : Node) (e f : ℕ) (post : List Node) → (firstOf post .owes ≡ true → shared b D (y .key) (firstOf post .key) ≡ shared b D (x .key) (firstOf post .key)) → Allowed post y e → Allowed post x f
   unfolding placesAfter
   debts-behind y x e f [] same a = tt
   debts-behind y x e f (z ∷ post) same a = (
@@ -187,23 +190,23 @@ module _ (b D : ℕ) where
     debts-any z (shared b D (y .key) (z .key)) (shared b D (x .key) (z .key)) post (a .1),
   )
 
-  -- Debts stay allowed where a new entry x comes after one that does not owe, if the debt of x is allowed and the next larger entry,
+  -- Debts stay allowed where a new node x comes after one that does not owe, if the debt of x is allowed and the next larger node,
   -- if it owes, shares as much with x as with the one before.
   debts-put :
-      (w : Entry) (f : ℕ) (y : Entry) (e : ℕ) (pre : List Entry) (x : Entry) (post : List Entry) → lastFrom y pre .owes ≡ false →
-      (x .owes ≡ true → Debt b D (record { entry = x; dimension = dimensionAfter b D y pre (x .key); before = lastFrom y pre; beforeDimension = dimensionFrom b D y e pre; later = post })) →
+      (w : Node) (f : ℕ) (y : Node) (e : ℕ) (pre : List Node) (x : Node) (post : List Node) → lastFrom y pre .owes ≡ false →
+      (x .owes ≡ true → Debt b D (record { node = x; dimension = dimensionAfter b D y pre (x .key); before = lastFrom y pre; beforeDimension = dimensionFrom b D y e pre; later = post })) →
       (firstOf post .owes ≡ true → dimensionAfter b D y pre (firstOf post .key) ≡ shared b D (x .key) (firstOf post .key)) →
-      All (λ n. n .entry .owes ≡ true → Debt b D n) (placesFrom b D w f y e (pre ++ post)) → All (λ n. n .entry .owes ≡ true → Debt b D n) (placesFrom b D w f y e (pre ++ x ∷ post))
+      All (λ n. n .node .owes ≡ true → Debt b D n) (placesFrom b D w f y e (pre ++ post)) → All (λ n. n .node .owes ≡ true → Debt b D n) (placesFrom b D w f y e (pre ++ x ∷ post))
   unfolding placesAfter lastFrom dimensionFrom
   debts-put w f y e [] x post un own same a = (λ h. absurd (let z : _≡_ {A = ℕ} 0 1 = cc in omega arith), (own, debts-behind y x e (shared b D (y .key) (x .key)) post same (a .1)))
   debts-put w f y e (z ∷ pre) x post un own same a = (λ h. let d = a .0 h in record { later = omega arith; unowing = d .unowing; lower = d .lower }, debts-put y e z (shared b D (y .key) (z .key)) pre x post un own same (a .1))
 
--- a state in order with an entry more, in the first free cell, and another position
+-- a state in order with a node more, in the first free cell, and another position
 pub put-sound :
-    (s : State) (x : Entry) (free : List ℕ) (p : ℕ) → Sound s → 0 < x .key → x .key ≤ s .settings .largest → (g : Gap (x .key) (s .row)) → s .free ≡ x .cell ∷ free →
-    (x .live ≡ false → x .value ≡ 0) → lastFrom headEntry (g .pre) .owes ≡ false →
-    (x .owes ≡ true → Debt (s .settings .base) (s .settings .dimensions) (record { entry = x; dimension = dimensionAfter (s .settings .base) (s .settings .dimensions) headEntry (g .pre) (x .key); before = lastFrom headEntry (g .pre); beforeDimension = dimensionFrom (s .settings .base) (s .settings .dimensions) headEntry 0 (g .pre); later = g .post })) →
-    (firstOf (g .post) .owes ≡ true → dimensionAfter (s .settings .base) (s .settings .dimensions) headEntry (g .pre) (firstOf (g .post) .key) ≡ shared (s .settings .base) (s .settings .dimensions) (x .key) (firstOf (g .post) .key)) →
+    (s : State) (x : Node) (free : List ℕ) (p : ℕ) → Sound s → 0 < x .key → x .key ≤ s .settings .largest → (g : Gap (x .key) (s .row)) → s .free ≡ x .cell ∷ free →
+    (x .live ≡ false → x .value ≡ 0) → lastFrom headNode (g .pre) .owes ≡ false →
+    (x .owes ≡ true → Debt (s .settings .base) (s .settings .dimensions) (record { node = x; dimension = dimensionAfter (s .settings .base) (s .settings .dimensions) headNode (g .pre) (x .key); before = lastFrom headNode (g .pre); beforeDimension = dimensionFrom (s .settings .base) (s .settings .dimensions) headNode 0 (g .pre); later = g .post })) →
+    (firstOf (g .post) .owes ≡ true → dimensionAfter (s .settings .base) (s .settings .dimensions) headNode (g .pre) (firstOf (g .post) .key) ≡ shared (s .settings .base) (s .settings .dimensions) (x .key) (firstOf (g .post) .key)) →
     Lowered s (x .key) p (g .pre ++ x ∷ g .post) → Sound (record { settings = s .settings; row = g .pre ++ x ∷ g .post; free = free; position = p })
 unfolding places
 put-sound s x free p v h most g first value un own same lowered =
@@ -211,7 +214,7 @@ put-sound s x free p v h most g first value un own same lowered =
       ranges = v .ranges;
       base = v .base;
       ascends = asc-put 0 x pre post h (subst (Asc 0) (g .splits) (v .ascends)) (g .below) (g .above);
-      keys = entries (λ y. y .key ≤ s .settings .largest) most (v .keys);
+      keys = nodes (λ y. y .key ≤ s .settings .largest) most (v .keys);
       count = ap length new ∙ moved-length front back (x .cell) free ∙ sym (ap length old) ∙ v .count;
       range = subst (All Range) (sym new) (moved-all Range front back (x .cell) free (subst (All Range) old (v .range)));
       once =
@@ -219,11 +222,11 @@ put-sound s x free p v h most g first value un own same lowered =
           (all-map (λ c e. moved-occurrences c front back (x .cell) free ∙ e) ((front ++ x .cell ∷ back) ++ free)
           (moved-all (λ c. occurrences c ((front ++ back) ++ (x .cell ∷ free)) ≡ 1) front back (x .cell) free
           (subst (λ cs. All (λ c. occurrences c cs ≡ 1) cs) old (v .once))));
-      values = entries (λ y. y .live ≡ false → y .value ≡ 0) value (v .values);
-      debts = debts-put b D headEntry 0 headEntry 0 pre x post un own same (subst (λ r. All (λ n. n .entry .owes ≡ true → Debt b D n) (places b D r)) (g .splits) (v .debts));
+      values = nodes (λ y. y .live ≡ false → y .value ≡ 0) value (v .values);
+      debts = debts-put b D headNode 0 headNode 0 pre x post un own same (subst (λ r. All (λ n. n .node .owes ≡ true → Debt b D n) (places b D r)) (g .splits) (v .debts));
       position = lowered .stands;
       dead =
-          entries (λ y. y .key ≤ keyOf p (headEntry ∷ (pre ++ x ∷ post)) → y .live ≡ false) (λ l. absurd (let k = lowered .below in omega arith))
+          nodes (λ y. y .key ≤ keyOf p (headNode ∷ (pre ++ x ∷ post)) → y .live ≡ false) (λ l. absurd (let k = lowered .below in omega arith))
           (all-map (λ y dead l. dead (let k = lowered .least in omega arith)) (s .row) (v .dead));
     }
   where
@@ -233,10 +236,10 @@ put-sound s x free p v h most g first value un own same lowered =
     D : ℕ
     D = s .settings .dimensions
 
-    pre : List Entry
+    pre : List Node
     pre = g .pre
 
-    post : List Entry
+    post : List Node
     post = g .post
 
     Range : ℕ → Type 0
@@ -254,17 +257,17 @@ put-sound s x free p v h most g first value un own same lowered =
     new : map (λ y. y .cell) (pre ++ x ∷ post) ++ free ≡ (front ++ x .cell ∷ back) ++ free
     new = ap (λ cs. cs ++ free) (map-append (λ y. y .cell) pre (x ∷ post))
 
-    entries : (P : Entry → Type 0) → P x → All P (s .row) → All P (pre ++ x ∷ post)
-    entries P q a = let c = subst (All P) (g .splits) a in all-append P pre (x ∷ post) (all-left P pre post c) (q, all-right P pre post c)
+    nodes : (P : Node → Type 0) → P x → All P (s .row) → All P (pre ++ x ∷ post)
+    nodes P q a = let c = subst (All P) (g .splits) a in all-append P pre (x ∷ post) (all-left P pre post c) (q, all-right P pre post c)
 
--- What the slot says of the next larger entry
+-- What the slot says of the next larger node
 
-first-owes : (post : List Entry) → firstOf post .owes ≡ true → 0 < length post
+first-owes : (post : List Node) → firstOf post .owes ≡ true → 0 < length post
 first-owes [] h = absurd (let z : _≡_ {A = ℕ} 0 1 = cc in omega arith)
 first-owes (x ∷ post) h = omega arith
 
 -- it has the slot
-pub slot-first : (b D key p : ℕ) (post : List Entry) → (cellAfter b D key p post ≡ 0 → ⊥) → (0 < length post) × (cellAfter b D key p post ≡ firstOf post .cell)
+pub slot-first : (b D key p : ℕ) (post : List Node) → (cellAfter b D key p post ≡ 0 → ⊥) → (0 < length post) × (cellAfter b D key p post ≡ firstOf post .cell)
 slot-first b D key p [] n = absurd (n refl)
 slot-first b D key p (x ∷ post) n = at (decLe p (shared b D key (x .key))) n
   where
@@ -273,7 +276,7 @@ slot-first b D key p (x ∷ post) n = at (decLe p (shared b D key (x .key))) n
     at (no h) m = absurd (m (rw (lt-leb p (shared b D key (x .key)) (omega arith)) refl))
 
 -- or it shares less with the key
-pub slot-not-first : (b D key p : ℕ) (post : List Entry) → 0 < length post → (firstOf post .cell ≡ cellAfter b D key p post → ⊥) → shared b D key (firstOf post .key) < p
+pub slot-not-first : (b D key p : ℕ) (post : List Node) → 0 < length post → (firstOf post .cell ≡ cellAfter b D key p post → ⊥) → shared b D key (firstOf post .key) < p
 slot-not-first b D key p [] h n = absurd (omega arith)
 slot-not-first b D key p (x ∷ post) h n = at (decLe p (shared b D key (x .key))) n
   where
@@ -281,36 +284,36 @@ slot-not-first b D key p (x ∷ post) h n = at (decLe p (shared b D key (x .key)
     at (yes q) m = absurd (m (rw (le-leb p (shared b D key (x .key)) q) refl))
     at (no q) m = omega arith
 
--- The entry before a new key
+-- The node before a new key
 
 debt-last :
-    (b D : ℕ) (w : Entry) (f : ℕ) (y : Entry) (e : ℕ) (pre post : List Entry) → All (λ n. n .entry .owes ≡ true → Debt b D n) (placesFrom b D w f y e (pre ++ post)) →
+    (b D : ℕ) (w : Node) (f : ℕ) (y : Node) (e : ℕ) (pre post : List Node) → All (λ n. n .node .owes ≡ true → Debt b D n) (placesFrom b D w f y e (pre ++ post)) →
     lastFrom y pre .owes ≡ true → (0 < length post) × (dimensionFrom b D y e pre < dimensionAfter b D y pre (firstOf post .key))
 unfolding placesAfter lastFrom dimensionFrom
 debt-last b D w f y e [] post a h = let d = a .0 h in (d .later, d .lower)
 debt-last b D w f y e (z ∷ pre) post a h = debt-last b D y e z (shared b D (y .key) (z .key)) pre post (a .1) h
 
--- If it owes, it is the key's parent: its dimension is below what it shares with the next larger entry, and that is no more than what
+-- If it owes, it is the key's parent: its dimension is below what it shares with the next larger node, and that is no more than what
 -- it shares with the key.
 pub owing-parent :
-    (s : State) → Sound s → (key : ℕ) → 0 < key → (g : Gap key (s .row)) → lastFrom headEntry (g .pre) .owes ≡ true →
-    parentAfter (s .settings .base) (s .settings .dimensions) headEntry (g .pre) key ≡ lastFrom headEntry (g .pre) .cell
+    (s : State) → Sound s → (key : ℕ) → 0 < key → (g : Gap key (s .row)) → lastFrom headNode (g .pre) .owes ≡ true →
+    parentAfter (s .settings .base) (s .settings .dimensions) headNode (g .pre) key ≡ lastFrom headNode (g .pre) .cell
 unfolding places
 owing-parent s v key h g owes =
     let b = s .settings .base in
     let D = s .settings .dimensions in
-    let A = lastFrom headEntry (g .pre) in
-    let t = debt-last b D headEntry 0 headEntry 0 (g .pre) (g .post) (subst (λ r. All (λ n. n .entry .owes ≡ true → Debt b D n) (places b D r)) (g .splits) (v .debts)) owes in
+    let A = lastFrom headNode (g .pre) in
+    let t = debt-last b D headNode 0 headNode 0 (g .pre) (g .post) (subst (λ r. All (λ n. n .node .owes ≡ true → Debt b D n) (places b D r)) (g .splits) (v .debts)) owes in
     let low = gap-last h g in
     let high = first-has (λ y. key < y .key) (g .post) (g .above) (t .0) in
     let u = ultra b D (A .key) key (firstOf (g .post) .key) (base-positive s v) (omega arith) (omega arith) in
     let l = t .1 in
     let m = shared-less b D (A .key) key (dimensions-positive s v) (omega arith) in
-    last-first b D (base-positive s v) (dimensions-positive s v) (shared b D (A .key) key) headEntry 0 (g .pre) (asc-left 0 (g .pre) (g .post) (subst (Asc 0) (g .splits) (v .ascends))) m (omega arith)
+    last-first b D (base-positive s v) (dimensions-positive s v) (shared b D (A .key) key) headNode 0 (g .pre) (asc-left 0 (g .pre) (g .post) (subst (Asc 0) (g .splits) (v .ascends))) m (omega arith)
 
--- The row with one entry more
+-- The row with one node more
 
-occurrences-put : (c : ℕ) (x : Entry) (pre post : List Entry) → occurrences c (map (λ y. y .cell) (pre ++ post)) ≤ occurrences c (map (λ y. y .cell) (pre ++ x ∷ post))
+occurrences-put : (c : ℕ) (x : Node) (pre post : List Node) → occurrences c (map (λ y. y .cell) (pre ++ post)) ≤ occurrences c (map (λ y. y .cell) (pre ++ x ∷ post))
 occurrences-put c x pre post =
     let front = map (λ y. y .cell) pre in
     let back = map (λ y. y .cell) post in
@@ -322,7 +325,7 @@ occurrences-put c x pre post =
 -- A key that does not stand
 
 -- what still owes owed before and was not finished
-pub paid-owes : (c : ℕ) (x : Entry) → onCell c paid x .owes ≡ true → (x .owes ≡ true) × (x .cell ≡ c → ⊥)
+pub paid-owes : (c : ℕ) (x : Node) → onCell c paid x .owes ≡ true → (x .owes ≡ true) × (x .cell ≡ c → ⊥)
 paid-owes c x = onCell-cases (λ y. y .owes ≡ true → (x .owes ≡ true) × (x .cell ≡ c → ⊥)) c paid x (λ here h. absurd (let z : _≡_ {A = ℕ} 0 1 = cc in omega arith)) (λ other h. (h, other))
 
 -- the state with what the parent owes finished, and then what c owes
@@ -355,8 +358,8 @@ module _ (s : State) (v : Sound s) (key value : ℕ) (positive : 0 < key) (g : G
   abbrev D : ℕ
   D = s .settings .dimensions
 
-  abbrev x : Entry
-  x = newEntry (t .n) key value (slotOwes t)
+  abbrev x : Node
+  x = newNode (t .n) key value (slotOwes t)
 
   -- the state before x is put into it
   abbrev settled : State
@@ -365,19 +368,19 @@ module _ (s : State) (v : Sound s) (key value : ℕ) (positive : 0 < key) (g : G
   settled-sound : Sound settled
   settled-sound = both-sound s t v
 
-  abbrev pay : Entry → Entry
+  abbrev pay : Node → Node
   pay y = onCell (t .c) paid (onCell (t .parent) paid y)
 
-  abbrev front : List Entry
+  abbrev front : List Node
   front = finished (t .c) (finished (t .parent) (g .pre))
 
-  abbrev back : List Entry
+  abbrev back : List Node
   back = finished (t .c) (finished (t .parent) (g .post))
 
-  pay-key : (y : Entry) → pay y .key ≡ y .key
+  pay-key : (y : Node) → pay y .key ≡ y .key
   pay-key y = paid-keeping (t .c) .key (onCell (t .parent) paid y) ∙ paid-keeping (t .parent) .key y
 
-  last-paid : lastFrom headEntry front ≡ pay (lastFrom headEntry (g .pre))
+  last-paid : lastFrom headNode front ≡ pay (lastFrom headNode (g .pre))
   unfolding finished
   last-paid = last-changed (onCell (t .c) paid) (paid-keeping (t .c)) (finished (t .parent) (g .pre)) ∙ ap (onCell (t .c) paid) (last-changed (onCell (t .parent) paid) (paid-keeping (t .parent)) (g .pre))
 
@@ -385,30 +388,30 @@ module _ (s : State) (v : Sound s) (key value : ℕ) (positive : 0 < key) (g : G
   unfolding finished
   next-paid = firstOf-changed (onCell (t .c) paid) (paid-keeping (t .c)) (finished (t .parent) (g .post)) ∙ ap (onCell (t .c) paid) (firstOf-changed (onCell (t .parent) paid) (paid-keeping (t .parent)) (g .post))
 
-  last-key : lastFrom headEntry front .key ≡ lastFrom headEntry (g .pre) .key
-  last-key = ap (λ y. y .key) last-paid ∙ pay-key (lastFrom headEntry (g .pre))
+  last-key : lastFrom headNode front .key ≡ lastFrom headNode (g .pre) .key
+  last-key = ap (λ y. y .key) last-paid ∙ pay-key (lastFrom headNode (g .pre))
 
   next-key : firstOf back .key ≡ firstOf (g .post) .key
   next-key = ap (λ y. y .key) next-paid ∙ pay-key (firstOf (g .post))
 
-  -- if the entry before x owed, it is the parent, whose debt is finished
-  last-unowing : lastFrom headEntry front .owes ≡ false
-  last-unowing = ap (λ y. y .owes) last-paid ∙ at (pay (lastFrom headEntry (g .pre)) .owes) refl
+  -- if the node before x owed, it is the parent, whose debt is finished
+  last-unowing : lastFrom headNode front .owes ≡ false
+  last-unowing = ap (λ y. y .owes) last-paid ∙ at (pay (lastFrom headNode (g .pre)) .owes) refl
     where
-      at : (o : Bool) → pay (lastFrom headEntry (g .pre)) .owes ≡ o → o ≡ false
+      at : (o : Bool) → pay (lastFrom headNode (g .pre)) .owes ≡ o → o ≡ false
       at false e = refl
       at true e =
-          let p = paid-owes (t .parent) (lastFrom headEntry (g .pre)) (paid-owes (t .c) (onCell (t .parent) paid (lastFrom headEntry (g .pre))) e .0) in
+          let p = paid-owes (t .parent) (lastFrom headNode (g .pre)) (paid-owes (t .c) (onCell (t .parent) paid (lastFrom headNode (g .pre))) e .0) in
           absurd (p .1 (sym (i .parent-is ∙ owing-parent s v key positive g (p .0))))
 
   -- x owes to c, whose debt is finished
-  new-debt : x .owes ≡ true → Debt b D (record { entry = x; dimension = dimensionAfter b D headEntry front key; before = lastFrom headEntry front; beforeDimension = dimensionFrom b D headEntry 0 front; later = back })
+  new-debt : x .owes ≡ true → Debt b D (record { node = x; dimension = dimensionAfter b D headNode front key; before = lastFrom headNode front; beforeDimension = dimensionFrom b D headNode 0 front; later = back })
   unfolding finished
   new-debt owes =
       let two = both (not (eqb (t .c) 0)) (ltb (t .p) (t .q)) owes in
       let held : t .c ≡ 0 → ⊥ = eqb-false (t .c) 0 (not-true (eqb (t .c) 0) (two .0)) in
       let less = ltb-true (t .p) (t .q) (two .1) in
-      let next = slot-first b D key (dimensionAfter b D headEntry (g .pre) key) (g .post) (λ e. held (i .c-is ∙ e)) in
+      let next = slot-first b D key (dimensionAfter b D headNode (g .pre) key) (g .post) (λ e. held (i .c-is ∙ e)) in
       let here : onCell (t .parent) paid (firstOf (g .post)) .cell ≡ t .c = paid-keeping (t .parent) .cell (firstOf (g .post)) ∙ sym (i .c-is ∙ next .1) in
       record {
         later = rw (length-map (map (onCell (t .parent) paid) (g .post)) (onCell (t .c) paid), length-map (g .post) (onCell (t .parent) paid)) (next .0);
@@ -416,27 +419,27 @@ module _ (s : State) (v : Sound s) (key value : ℕ) (positive : 0 < key) (g : G
         lower = subst₂ (λ m n. shared b D m key < shared b D key n) (sym last-key) (sym next-key) (subst₂ (λ m n. m < n) (i .p-is) (i .q-is held) less);
       }
 
-  -- if the next larger entry still owes, it does not have the slot, and its dimension stays
-  next-same : firstOf back .owes ≡ true → dimensionAfter b D headEntry front (firstOf back .key) ≡ shared b D key (firstOf back .key)
+  -- if the next larger node still owes, it does not have the slot, and its dimension stays
+  next-same : firstOf back .owes ≡ true → dimensionAfter b D headNode front (firstOf back .key) ≡ shared b D key (firstOf back .key)
   next-same owes =
       let c = paid-owes (t .c) (onCell (t .parent) paid (firstOf (g .post))) (sym (ap (λ y. y .owes) next-paid) ∙ owes) in
       let stands = first-owes (g .post) (paid-owes (t .parent) (firstOf (g .post)) (c .0) .0) in
-      let less = slot-not-first b D key (dimensionAfter b D headEntry (g .pre) key) (g .post) stands (λ e. c .1 (paid-keeping (t .parent) .cell (firstOf (g .post)) ∙ e ∙ sym (i .c-is))) in
+      let less = slot-not-first b D key (dimensionAfter b D headNode (g .pre) key) (g .post) stands (λ e. c .1 (paid-keeping (t .parent) .cell (firstOf (g .post)) ∙ e ∙ sym (i .c-is))) in
       let low = gap-last positive g in
       let high = first-has (λ y. key < y .key) (g .post) (g .above) stands in
-      let u = ultra b D (lastFrom headEntry (g .pre) .key) key (firstOf (g .post) .key) (base-positive s v) (omega arith) (omega arith) in
-      let same : shared b D (lastFrom headEntry (g .pre) .key) (firstOf (g .post) .key) ≡ shared b D key (firstOf (g .post) .key) = omega arith in
+      let u = ultra b D (lastFrom headNode (g .pre) .key) key (firstOf (g .post) .key) (base-positive s v) (omega arith) (omega arith) in
+      let same : shared b D (lastFrom headNode (g .pre) .key) (firstOf (g .post) .key) ≡ shared b D key (firstOf (g .post) .key) = omega arith in
       subst₂ (λ m n. shared b D m n ≡ shared b D key n) (sym last-key) (sym next-key) same
 
   -- The cell of x is new, and the position's is not
 
-  new-cell : Without (x .cell) (headEntry ∷ settled .row)
-  new-cell = subst (λ c. Without c (headEntry ∷ settled .row)) (sym (i .n-is)) (first-free-apart settled settled-sound f)
+  new-cell : Without (x .cell) (headNode ∷ settled .row)
+  new-cell = subst (λ c. Without c (headNode ∷ settled .row)) (sym (i .n-is)) (first-free-apart settled settled-sound f)
 
   position-old : x .cell ≡ s .position → ⊥
   position-old e =
-      let absent = none-occurs (x .cell) (map (λ y. y .cell) (headEntry ∷ settled .row)) (all-mapped (λ c. x .cell ≡ c → ⊥) (λ y. y .cell) (headEntry ∷ settled .row) (all-map (λ y n m. n (sym m)) (headEntry ∷ settled .row) new-cell)) in
-      let stands = subst (λ c. 0 < occurrences c (map (λ y. y .cell) (headEntry ∷ settled .row))) (sym e) (settled-sound .position) in
+      let absent = none-occurs (x .cell) (map (λ y. y .cell) (headNode ∷ settled .row)) (all-mapped (λ c. x .cell ≡ c → ⊥) (λ y. y .cell) (headNode ∷ settled .row) (all-map (λ y n m. n (sym m)) (headNode ∷ settled .row) new-cell)) in
+      let stands = subst (λ c. 0 < occurrences c (map (λ y. y .cell) (headNode ∷ settled .row))) (sym e) (settled-sound .position) in
       omega arith
 
   settled-row : settled .row ≡ front ++ back
@@ -447,20 +450,20 @@ module _ (s : State) (v : Sound s) (key value : ℕ) (positive : 0 < key) (g : G
   unfolding both-gap finished gap-changed
   new-ascends = asc-put 0 x front back positive (subst (Asc 0) settled-row (settled-sound .ascends)) (both-gap s t key g .below) (both-gap s t key g .above)
 
-  new-apart : Apart (headEntry ∷ (front ++ x ∷ back))
-  new-apart = apart-put headEntry x front back (subst (λ r. Apart (headEntry ∷ r)) settled-row (sound-apart settled settled-sound)) (subst (λ r. Without (x .cell) (headEntry ∷ r)) settled-row new-cell)
+  new-apart : Apart (headNode ∷ (front ++ x ∷ back))
+  new-apart = apart-put headNode x front back (subst (λ r. Apart (headNode ∷ r)) settled-row (sound-apart settled settled-sound)) (subst (λ r. Without (x .cell) (headNode ∷ r)) settled-row new-cell)
 
   new-lowered : Lowered settled key (positionAfter s key (t .n) (front ++ x ∷ back)) (front ++ x ∷ back)
   new-lowered =
-      let more = occurrences-put (s .position) x (headEntry ∷ front) back in
+      let more = occurrences-put (s .position) x (headNode ∷ front) back in
       let stands = subst (λ r. 0 < occurrences (s .position) (0 ∷ map (λ y. y .cell) r)) settled-row (settled-sound .position) in
       let l = position-lowers s (base-positive s v) (dimensions-positive s v) front x back new-ascends new-apart (omega arith)
-      (keyOf-put (s .position) x (headEntry ∷ front) back position-old ∙ ap (λ r. keyOf (s .position) (headEntry ∷ r)) (sym settled-row) ∙ both-position s t) in
-      record { stands = l .stands; below = l .below; least = subst (λ k. keyOf (positionAfter s key (t .n) (front ++ x ∷ back)) (headEntry ∷ (front ++ x ∷ back)) ≤ k) (sym (both-position s t)) (l .least) }
+      (keyOf-put (s .position) x (headNode ∷ front) back position-old ∙ ap (λ r. keyOf (s .position) (headNode ∷ r)) (sym settled-row) ∙ both-position s t) in
+      record { stands = l .stands; below = l .below; least = subst (λ k. keyOf (positionAfter s key (t .n) (front ++ x ∷ back)) (headNode ∷ (front ++ x ∷ back)) ≤ k) (sym (both-position s t)) (l .least) }
 
   pub added-row :
       added s key value t .row
-      ≡ finished (t .c) (finished (t .parent) (g .pre)) ++ newEntry (t .n) key value (slotOwes t) ∷ finished (t .c) (finished (t .parent) (g .post))
+      ≡ finished (t .c) (finished (t .parent) (g .pre)) ++ newNode (t .n) key value (slotOwes t) ∷ finished (t .c) (finished (t .parent) (g .post))
   unfolding added both-gap finished gap-changed
   added-row = put-gap x (settled .row) (both-gap s t key g)
 
@@ -486,7 +489,7 @@ module _ (s : State) (v : Sound s) (key value : ℕ) (positive : 0 < key) (g : G
       (first-free (s .free) f ∙ ap {B = List ℕ} (λ c. c ∷ drop 1 (s .free)) (sym (i .n-is)))
       (λ l. absurd (let z : _≡_ {A = ℕ} 0 1 = cc in omega arith)) last-unowing new-debt next-same new-lowered)
 
-pub added-sound : (s : State) (key value : ℕ) → Sound s → 1 ≤ key → key ≤ s .settings .largest → entryAt key (s .row) ≡ none → 0 < length (s .free) → Sound (added s key value (slotFor s key))
+pub added-sound : (s : State) (key value : ℕ) → Sound s → 1 ≤ key → key ≤ s .settings .largest → nodeAt key (s .row) ≡ none → 0 < length (s .free) → Sound (added s key value (slotFor s key))
 added-sound s key value v positive most e f =
     let g = gap key 0 (s .row) (v .ascends) e in
     added-sound-at s v key value positive g f (slotFor s key) (slot-is s v key positive g f) most

@@ -6,22 +6,24 @@ use mathlib.Core.List.{List, _∷_, _++_, map, reverseAux, map-append, append-as
 use Prim.Native.Nat.{ℕ, _≤_, _<_}
 use native.Mathlib.Omega.{arith}
 use lib.ListN.{length, length-append, length-reverseAux}
-use Rattle.meaning.specs.Row.{Entry, headEntry}
-use Rattle.meaning.specs.State.{State, keyOf, occurrences}
+use Rattle.lists.specs.Lists.{occurrences}
+use Rattle.lists.proofs.Occurrences.{occurrences-here, occurrences-append, occurrences-reverseAux, occurrences-more}
+use Rattle.lists.proofs.All.{All, all-map, all-append, all-left, all-right, all-each, all-zip, all-mapped, all-reverseAux}
+use Rattle.meaning.specs.Row.{Node, headNode}
+use Rattle.meaning.specs.State.{State, keyOf}
 use Rattle.meaning.specs.Operations.{paid, deadFront, fromLive, lastOf, lastAlone, freedBy, swept}
-use Rattle.meaning.proofs.Order.{All, Asc, all-map, all-append, all-left, all-right, asc-above}
+use Rattle.meaning.proofs.Order.{Asc, asc-above}
 use Rattle.meaning.proofs.State.{Sound, cellsIn}
-use Rattle.meaning.proofs.Cells.{all-each, all-zip, occurrences-here}
-use Rattle.meaning.proofs.Places.{all-mapped, all-reverseAux, occurrences-append, occurrences-reverseAux, occurrences-more, keyOf-same, keyOf-other, asc-right, Keeping, cells-changed, keyOf-head-changed, asc-changed}
-use Rattle.meaning.proofs.Keeps.{cells-positive, unowing-debts, row-split, deadFront-dead, last-split, last-cases}
+use Rattle.meaning.proofs.Places.{keyOf-same, keyOf-other, asc-right, Keeping, cells-changed, keyOf-head-changed, asc-changed}
+use Rattle.meaning.proofs.KeepsState.{cells-positive, unowing-debts, row-split, deadFront-dead, last-split, last-cases}
 
 -- The row
 
--- the entries that a sweep keeps
-abbrev pub keptBy : List Entry → List Entry
+-- the nodes that a sweep keeps
+abbrev pub keptBy : List Node → List Node
 keptBy row = lastAlone (deadFront row) ++ fromLive row
 
-pub swept-split : (row : List Entry) → row ≡ freedBy row ++ keptBy row
+pub swept-split : (row : List Node) → row ≡ freedBy row ++ keptBy row
 unfolding freedBy
 swept-split row =
     sym (row-split row) ∙ ap (λ r. r ++ fromLive row) (sym (last-split (deadFront row)))
@@ -31,10 +33,10 @@ pub paid-all-keeping : Keeping paid
 paid-all-keeping = record { cell = λ x. refl; key = λ x. refl; head = refl }
 
 -- what is kept is part of the row
-pub kept-all : (P : Entry → Type 0) (row : List Entry) → All P row → All P (keptBy row)
+pub kept-all : (P : Node → Type 0) (row : List Node) → All P row → All P (keptBy row)
 kept-all P row a = all-right P (freedBy row) (keptBy row) (subst (All P) (swept-split row) a)
 
-pub kept-asc : (key : ℕ) (row : List Entry) → Asc key row → Asc key (keptBy row)
+pub kept-asc : (key : ℕ) (row : List Node) → Asc key row → Asc key (keptBy row)
 kept-asc key row a = asc-right key (freedBy row) (keptBy row) (subst (Asc key) (swept-split row) a)
 
 -- Freed cells go to the front of the chain
@@ -80,42 +82,42 @@ swept-occurrences s c =
 
 -- The position
 
--- the dead front's entries are dead, and their cells are not the head
+-- the dead front's nodes are dead, and their cells are not the head
 pub front-all : (s : State) → Sound s → All (λ x. (x .live ≡ false) × (0 < x .cell)) (deadFront (s .row))
 front-all s v =
     all-zip (λ x d p. (d, p)) (deadFront (s .row)) (deadFront-dead (s .row))
     (all-left (λ x. 0 < x .cell) (deadFront (s .row)) (fromLive (s .row)) (subst (All (λ x. 0 < x .cell)) (sym (row-split (s .row))) (cells-positive s v)))
 
 -- the new position's key, its standing, and that all up to it are dead
-pub swept-key : (s : State) → Sound s → keyOf (lastOf (deadFront (s .row)) .cell) (headEntry ∷ keptBy (s .row)) ≡ lastOf (deadFront (s .row)) .key
+pub swept-key : (s : State) → Sound s → keyOf (lastOf (deadFront (s .row)) .cell) (headNode ∷ keptBy (s .row)) ≡ lastOf (deadFront (s .row)) .key
 swept-key s v =
-    last-cases (λ z last. keyOf (z .cell) (headEntry ∷ (last ++ later)) ≡ z .key) (λ x. (x .live ≡ false) × (0 < x .cell)) (deadFront (s .row)) (front-all s v)
-    (keyOf-same 0 headEntry later refl)
-    (λ z q. keyOf-other (z .cell) headEntry (z ∷ later) (λ e. let h = q .1 in omega arith) ∙ keyOf-same (z .cell) z later refl)
+    last-cases (λ z last. keyOf (z .cell) (headNode ∷ (last ++ later)) ≡ z .key) (λ x. (x .live ≡ false) × (0 < x .cell)) (deadFront (s .row)) (front-all s v)
+    (keyOf-same 0 headNode later refl)
+    (λ z q. keyOf-other (z .cell) headNode (z ∷ later) (λ e. let h = q .1 in omega arith) ∙ keyOf-same (z .cell) z later refl)
   where
-    later : List Entry
+    later : List Node
     later = fromLive (s .row)
 
-pub swept-stands : (row : List Entry) → 0 < occurrences (lastOf (deadFront row) .cell) (0 ∷ map (λ x. x .cell) (keptBy row))
+pub swept-stands : (row : List Node) → 0 < occurrences (lastOf (deadFront row) .cell) (0 ∷ map (λ x. x .cell) (keptBy row))
 swept-stands row =
     last-cases (λ z last. 0 < occurrences (z .cell) (0 ∷ map (λ x. x .cell) (last ++ later))) (λ x. x .live ≡ false) (deadFront row) (deadFront-dead row)
     (omega (arith, occurrences-here 0 0 cells refl))
     (λ z q. omega (arith, occurrences-more (z .cell) 0 (z .cell ∷ cells), occurrences-here (z .cell) (z .cell) cells refl))
   where
-    later : List Entry
+    later : List Node
     later = fromLive row
 
     cells : List ℕ
     cells = map (λ x. x .cell) later
 
-pub swept-dead : (row : List Entry) → Asc 0 row → All (λ x. x .key ≤ lastOf (deadFront row) .key → x .live ≡ false) (keptBy row)
+pub swept-dead : (row : List Node) → Asc 0 row → All (λ x. x .key ≤ lastOf (deadFront row) .key → x .live ≡ false) (keptBy row)
 swept-dead row a =
     last-cases (λ z last. Asc 0 (last ++ later) → All (λ x. x .key ≤ z .key → x .live ≡ false) (last ++ later)) (λ x. x .live ≡ false) (deadFront row) (deadFront-dead row)
     (λ up. all-map (λ x h l. absurd (omega arith)) later (asc-above 0 later up))
     (λ z q up. (λ l. q, all-map (λ x h l. absurd (omega arith)) later (asc-above (z .key) later (up .1))))
     (kept-asc 0 row a)
   where
-    later : List Entry
+    later : List Node
     later = fromLive row
 
 pub swept-sound : (s : State) → Sound s → Sound (swept s)
@@ -135,6 +137,6 @@ swept-sound s v =
       debts = unowing-debts (s .settings .base) (s .settings .dimensions) (map paid kept) (all-mapped (λ x. x .owes ≡ false) paid kept (all-each (λ x. refl) kept));
       position = subst (λ cs. 0 < occurrences position (0 ∷ cs)) (sym (cells-changed paid paid-all-keeping kept)) (swept-stands (s .row));
       dead =
-          all-mapped (λ x. x .key ≤ keyOf position (headEntry ∷ map paid kept) → x .live ≡ false) paid kept
+          all-mapped (λ x. x .key ≤ keyOf position (headNode ∷ map paid kept) → x .live ≡ false) paid kept
           (subst (λ k. All (λ x. x .key ≤ k → x .live ≡ false) kept) (sym (keyOf-head-changed paid paid-all-keeping position kept ∙ swept-key s v)) (swept-dead (s .row) (v .ascends)));
     }

@@ -11,8 +11,8 @@ use native.Mathlib.Omega.{arith}
 use lib.ListN.{length, getD, length-append, List·getD-append, List·getD-eq-default}
 use lib.Seq.{getD-at}
 use borrow.Author.Tests.{eq-eqb, ne-eqb, lt-ltb, le-ltb}
+use Rattle.lists.specs.Lists.{agreed, precedes}
 use Rattle.meaning.specs.Keys.{coordinates, coordinate, shared}
-use Rattle.meaning.specs.Sentences.{agreed, precedes}
 
 -- Quotients by the base, and remainders
 

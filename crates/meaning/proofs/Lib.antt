@@ -7,7 +7,6 @@ pub mod AgainstSlips
 pub mod Order
 pub mod Keys
 pub mod State
-pub mod Blocks
 pub mod Cells
 pub mod Picture
 pub mod Places
@@ -19,7 +18,7 @@ pub mod WalkRead
 pub mod Walk
 pub mod WalkStop
 pub mod WalkSteps
-pub mod Keeps
+pub mod KeepsState
 pub mod KeepsSetUp
 pub mod KeepsFinish
 pub mod KeepsTake
@@ -36,7 +35,7 @@ pub mod InsertSlot
 pub mod InsertPut
 pub mod InsertPath
 pub mod InsertWords
-pub mod PathWithin
+pub mod CellsWithin
 pub mod Path
 pub mod PathNext
 pub mod PathTake
@@ -50,10 +49,9 @@ pub mod SweepTarget
 pub mod SweepSentences
 pub mod SentencesNumbers
 pub mod SentencesRow
-pub mod SentencesCells
+pub mod Placed
 pub mod SentencesShape
 pub mod Sentences
-pub mod ConverseCount
 pub mod ConverseKeys
 pub mod ConverseRow
 pub mod ConversePlaces
@@ -67,5 +65,5 @@ pub mod BookCalls
 pub mod Book
 pub mod BookPresent
 pub mod Serves
-pub mod Leaves
+pub mod Writes
 pub mod Promises

@@ -14,18 +14,18 @@ use lib.Dec.{eqb, leb}
 use lib.ListN.{length, getD, List·getD-eq-default}
 use borrow.Author.Tests.{eq-eqb, ne-eqb, le-leb, lt-leb}
 use Rattle.settings.specs.Numbers.{inRange, lengthOf, headerWords, cellWords}
-use Rattle.meaning.specs.Row.{Entry, firstOf, Place, places, owed, placeOf, entryAt}
-use Rattle.meaning.specs.State.{State, positionKey}
+use Rattle.lists.proofs.All.{All, all-zip}
+use Rattle.lists.proofs.Tests.{cond-has}
+use Rattle.meaning.specs.Row.{Node, firstOf, Place, places, owed, placeOf, nodeAt}
+use Rattle.meaning.specs.State.{State, positionKey, placesOf}
 use Rattle.meaning.specs.Picture.{mark, standingWords, wordsOf, picture, nextFree}
 use Rattle.meaning.specs.Reading.{read, isList}
 use Rattle.meaning.specs.Refusals.{Outcome, accepted, Refusal, outOfRange, wrongLength, notAList, badKey, keyLive, noFreeCell, nothingLive, keyNotLive, keyNotStanding, owedNotStanding, refused}
 use Rattle.meaning.specs.Words.{markAt, owedAt}
-use Rattle.meaning.specs.Operations.{onList, onKey, owesFromFree, placesOf, looked, fresh, setUpOut, finished, withRow, due, finishAt, finishOut, findAt, findOut, revived, slotFor, added, insertNew, insertAt, insertOut, fromLive, keysAbove, keysPassed, taken, takeFrom, takeOut, freedBy, swept, someOwesFromFree, sweepOn, sweepOut}
+use Rattle.meaning.specs.Operations.{onList, onKey, owesFromFree, looked, fresh, setUpOut, finished, withRow, linksMoved, finishAt, finishOut, findAt, findOut, revived, slotFor, added, insertNew, insertAt, insertOut, fromLive, keysAbove, keysPassed, taken, takeFrom, takeOut, freedBy, swept, someOwesFromFree, sweepOn, sweepOut}
 use Rattle.meaning.specs.Calls.{set-up, insert-key, find-key, finish-key, take-least, sweep-dead, outcome}
 use Rattle.meaning.specs.Promises.{RefusedAltersNothing}
-use Rattle.meaning.proofs.Order.{All, cond-has}
 use Rattle.meaning.proofs.State.{Sound}
-use Rattle.meaning.proofs.Cells.{all-zip}
 use Rattle.meaning.proofs.Picture.{picture-length, picture-dimensions, picture-word, Told, told, first-has, freeWords-rest, places-later}
 use Rattle.meaning.proofs.Reading.{mark-stands, read-of-picture, picture-is-list, list-is-picture, list-sound}
 use Rattle.meaning.proofs.WalkRead.{row-mark-read}
@@ -48,7 +48,7 @@ debt-clear ws x o e f = ap (λ n. not (eqb n 0) && eqb (markAt ws n) 0) e ∙ at
     at zero g = refl
     at (suc n) g = rw (g (omega arith), ne-eqb (suc n) 0 (λ q. omega arith)) refl
 
-owed-marked : (ws : List ℕ) (owes : Bool) (y : Entry) → (owes ≡ true → markAt ws (y .cell) ≡ mark (y .live)) →
+owed-marked : (ws : List ℕ) (owes : Bool) (y : Node) → (owes ≡ true → markAt ws (y .cell) ≡ mark (y .live)) →
     0 < cond owes (y .cell) 0 → eqb (markAt ws (cond owes (y .cell) 0)) 0 ≡ false
 owed-marked ws true y f h = ap (λ n. eqb n 0) (f refl) ∙ mark-stands (y .live)
 owed-marked ws false y f h = absurd (omega arith)
@@ -59,7 +59,7 @@ places-owed s v =
     let b = s .settings .base in
     let D = s .settings .dimensions in
     all-zip (λ p debt later.
-    owed-marked (picture s) (p .entry .owes) (firstOf (p .later)) (λ o. first-has (λ x. markAt (picture s) (x .cell) ≡ mark (x .live)) (p .later) later (debt o .later)))
+    owed-marked (picture s) (p .node .owes) (firstOf (p .later)) (λ o. first-has (λ x. markAt (picture s) (x .cell) ≡ mark (x .live)) (p .later) later (debt o .later)))
     (places b D (s .row)) (v .debts) (places-later (λ x. markAt (picture s) (x .cell) ≡ mark (x .live)) b D (s .row) (row-mark-read s v))
 
 -- "a cell owed from is not standing": of no cell of the picture of a state in order
@@ -97,7 +97,7 @@ owed-never-free s v x = at (decLt x (s .settings .cells))
     at (yes h) = owed-stands s v x h
     at (no h) = owed-beyond s x (omega arith)
 
-pub row-owed-never-free : (s : State) → Sound s → (row : List Entry) → someOwesFromFree (picture s) row ≡ false
+pub row-owed-never-free : (s : State) → Sound s → (row : List Node) → someOwesFromFree (picture s) row ≡ false
 unfolding someOwesFromFree
 row-owed-never-free s v [] = refl
 row-owed-never-free s v (x ∷ row) = rw (owed-never-free s v (x .cell), row-owed-never-free s v row) refl
@@ -150,39 +150,39 @@ set-up-outcome D K C ws e l = rw (e, setUpOut, eq-eqb (length ws) (lengthOf D C)
 
 pub insert-outcome-not-a-list : (ws : List ℕ) (key value : ℕ) → isList ws ≡ false → insertOut ws key value ≡ refused notAList ws
 unfolding insertOut
-insert-outcome-not-a-list ws key value e = not-on-list ws (λ s. onKey ws s key (insertAt ws s key value (entryAt key (s .row)))) e
+insert-outcome-not-a-list ws key value e = not-on-list ws (λ s. onKey ws s key (insertAt ws s key value (nodeAt key (s .row)))) e
 
 pub insert-outcome-bad-key : (s : State) → Sound s → (key value : ℕ) → (1 ≤ key → s .settings .largest < key) → insertOut (picture s) key value ≡ refused badKey (picture s)
 unfolding insertOut
-insert-outcome-bad-key s v key value f = on-picture-bad-key s v key (λ t. insertAt (picture s) t key value (entryAt key (t .row))) f
+insert-outcome-bad-key s v key value f = on-picture-bad-key s v key (λ t. insertAt (picture s) t key value (nodeAt key (t .row))) f
 
 insert-outcome : (s : State) → Sound s → (key value : ℕ) → 1 ≤ key → key ≤ s .settings .largest →
-    insertOut (picture s) key value ≡ insertAt (picture s) s key value (entryAt key (s .row))
+    insertOut (picture s) key value ≡ insertAt (picture s) s key value (nodeAt key (s .row))
 unfolding insertOut
-insert-outcome s v key value l h = on-picture-key s v key (λ t. insertAt (picture s) t key value (entryAt key (t .row))) l h
+insert-outcome s v key value l h = on-picture-key s v key (λ t. insertAt (picture s) t key value (nodeAt key (t .row))) l h
 
 pub insert-outcome-live : (s : State) → Sound s → (key value : ℕ) → 1 ≤ key → key ≤ s .settings .largest →
-    (x : Entry) → entryAt key (s .row) ≡ some x → x .live ≡ true → insertOut (picture s) key value ≡ refused (keyLive key (looked s key)) (picture s)
+    (x : Node) → nodeAt key (s .row) ≡ some x → x .live ≡ true → insertOut (picture s) key value ≡ refused (keyLive key (looked s key)) (picture s)
 unfolding insertAt
 insert-outcome-live s v key value l h x e live =
     insert-outcome s v key value l h ∙ ap (insertAt (picture s) s key value) e
     ∙ ap (λ t. cond t (refused (keyLive key (looked s key)) (picture s)) (accepted key 0 (looked s key) (picture (revived s x value)))) live
 
 pub insert-outcome-dead : (s : State) → Sound s → (key value : ℕ) → 1 ≤ key → key ≤ s .settings .largest →
-    (x : Entry) → entryAt key (s .row) ≡ some x → x .live ≡ false → insertOut (picture s) key value ≡ accepted key 0 (looked s key) (picture (revived s x value))
+    (x : Node) → nodeAt key (s .row) ≡ some x → x .live ≡ false → insertOut (picture s) key value ≡ accepted key 0 (looked s key) (picture (revived s x value))
 unfolding insertAt
 insert-outcome-dead s v key value l h x e dead =
     insert-outcome s v key value l h ∙ ap (insertAt (picture s) s key value) e
     ∙ ap (λ t. cond t (refused (keyLive key (looked s key)) (picture s)) (accepted key 0 (looked s key) (picture (revived s x value)))) dead
 
 pub insert-outcome-full : (s : State) → Sound s → (key value : ℕ) → 1 ≤ key → key ≤ s .settings .largest →
-    entryAt key (s .row) ≡ none → length (s .free) ≡ 0 → insertOut (picture s) key value ≡ refused (noFreeCell key (looked s key)) (picture s)
+    nodeAt key (s .row) ≡ none → length (s .free) ≡ 0 → insertOut (picture s) key value ≡ refused (noFreeCell key (looked s key)) (picture s)
 unfolding insertAt insertNew
 insert-outcome-full s v key value l h e full =
     insert-outcome s v key value l h ∙ ap (insertAt (picture s) s key value) e ∙ rw (eq-eqb (length (s .free)) 0 full) refl
 
 pub insert-outcome-new : (s : State) → Sound s → (key value : ℕ) → 1 ≤ key → key ≤ s .settings .largest →
-    entryAt key (s .row) ≡ none → 0 < length (s .free) → insertOut (picture s) key value ≡ accepted key 0 (looked s key) (picture (added s key value (slotFor s key)))
+    nodeAt key (s .row) ≡ none → 0 < length (s .free) → insertOut (picture s) key value ≡ accepted key 0 (looked s key) (picture (added s key value (slotFor s key)))
 unfolding insertAt insertNew
 insert-outcome-new s v key value l h e room =
     insert-outcome s v key value l h ∙ ap (insertAt (picture s) s key value) e
@@ -192,30 +192,30 @@ insert-outcome-new s v key value l h e room =
 
 pub find-outcome-not-a-list : (ws : List ℕ) (key : ℕ) → isList ws ≡ false → findOut ws key ≡ refused notAList ws
 unfolding findOut
-find-outcome-not-a-list ws key e = not-on-list ws (λ s. onKey ws s key (findAt ws s key (entryAt key (s .row)))) e
+find-outcome-not-a-list ws key e = not-on-list ws (λ s. onKey ws s key (findAt ws s key (nodeAt key (s .row)))) e
 
 pub find-outcome-bad-key : (s : State) → Sound s → (key : ℕ) → (1 ≤ key → s .settings .largest < key) → findOut (picture s) key ≡ refused badKey (picture s)
 unfolding findOut
-find-outcome-bad-key s v key f = on-picture-bad-key s v key (λ t. findAt (picture s) t key (entryAt key (t .row))) f
+find-outcome-bad-key s v key f = on-picture-bad-key s v key (λ t. findAt (picture s) t key (nodeAt key (t .row))) f
 
-find-outcome : (s : State) → Sound s → (key : ℕ) → 1 ≤ key → key ≤ s .settings .largest → findOut (picture s) key ≡ findAt (picture s) s key (entryAt key (s .row))
+find-outcome : (s : State) → Sound s → (key : ℕ) → 1 ≤ key → key ≤ s .settings .largest → findOut (picture s) key ≡ findAt (picture s) s key (nodeAt key (s .row))
 unfolding findOut
-find-outcome s v key l h = on-picture-key s v key (λ t. findAt (picture s) t key (entryAt key (t .row))) l h
+find-outcome s v key l h = on-picture-key s v key (λ t. findAt (picture s) t key (nodeAt key (t .row))) l h
 
 pub find-outcome-absent : (s : State) → Sound s → (key : ℕ) → 1 ≤ key → key ≤ s .settings .largest →
-    entryAt key (s .row) ≡ none → findOut (picture s) key ≡ refused (keyNotLive key (looked s key)) (picture s)
+    nodeAt key (s .row) ≡ none → findOut (picture s) key ≡ refused (keyNotLive key (looked s key)) (picture s)
 unfolding findAt
 find-outcome-absent s v key l h e = find-outcome s v key l h ∙ ap (findAt (picture s) s key) e
 
 pub find-outcome-dead : (s : State) → Sound s → (key : ℕ) → 1 ≤ key → key ≤ s .settings .largest →
-    (x : Entry) → entryAt key (s .row) ≡ some x → x .live ≡ false → findOut (picture s) key ≡ refused (keyNotLive key (looked s key)) (picture s)
+    (x : Node) → nodeAt key (s .row) ≡ some x → x .live ≡ false → findOut (picture s) key ≡ refused (keyNotLive key (looked s key)) (picture s)
 unfolding findAt
 find-outcome-dead s v key l h x e dead =
     find-outcome s v key l h ∙ ap (findAt (picture s) s key) e
     ∙ ap (λ t. cond t (accepted key (x .value) (looked s key) (picture s)) (refused (keyNotLive key (looked s key)) (picture s))) dead
 
 pub find-outcome-live : (s : State) → Sound s → (key : ℕ) → 1 ≤ key → key ≤ s .settings .largest →
-    (x : Entry) → entryAt key (s .row) ≡ some x → x .live ≡ true → findOut (picture s) key ≡ accepted key (x .value) (looked s key) (picture s)
+    (x : Node) → nodeAt key (s .row) ≡ some x → x .live ≡ true → findOut (picture s) key ≡ accepted key (x .value) (looked s key) (picture s)
 unfolding findAt
 find-outcome-live s v key l h x e live =
     find-outcome s v key l h ∙ ap (findAt (picture s) s key) e
@@ -225,24 +225,24 @@ find-outcome-live s v key l h x e live =
 
 pub finish-outcome-not-a-list : (ws : List ℕ) (key : ℕ) → isList ws ≡ false → finishOut ws key ≡ refused notAList ws
 unfolding finishOut
-finish-outcome-not-a-list ws key e = not-on-list ws (λ s. onKey ws s key (finishAt ws s key (entryAt key (s .row)))) e
+finish-outcome-not-a-list ws key e = not-on-list ws (λ s. onKey ws s key (finishAt ws s key (nodeAt key (s .row)))) e
 
 pub finish-outcome-bad-key : (s : State) → Sound s → (key : ℕ) → (1 ≤ key → s .settings .largest < key) → finishOut (picture s) key ≡ refused badKey (picture s)
 unfolding finishOut
-finish-outcome-bad-key s v key f = on-picture-bad-key s v key (λ t. finishAt (picture s) t key (entryAt key (t .row))) f
+finish-outcome-bad-key s v key f = on-picture-bad-key s v key (λ t. finishAt (picture s) t key (nodeAt key (t .row))) f
 
-finish-outcome : (s : State) → Sound s → (key : ℕ) → 1 ≤ key → key ≤ s .settings .largest → finishOut (picture s) key ≡ finishAt (picture s) s key (entryAt key (s .row))
+finish-outcome : (s : State) → Sound s → (key : ℕ) → 1 ≤ key → key ≤ s .settings .largest → finishOut (picture s) key ≡ finishAt (picture s) s key (nodeAt key (s .row))
 unfolding finishOut
-finish-outcome s v key l h = on-picture-key s v key (λ t. finishAt (picture s) t key (entryAt key (t .row))) l h
+finish-outcome s v key l h = on-picture-key s v key (λ t. finishAt (picture s) t key (nodeAt key (t .row))) l h
 
 pub finish-outcome-absent : (s : State) → Sound s → (key : ℕ) → 1 ≤ key → key ≤ s .settings .largest →
-    entryAt key (s .row) ≡ none → finishOut (picture s) key ≡ refused (keyNotStanding key) (picture s)
+    nodeAt key (s .row) ≡ none → finishOut (picture s) key ≡ refused (keyNotStanding key) (picture s)
 unfolding finishAt
 finish-outcome-absent s v key l h e = finish-outcome s v key l h ∙ ap (finishAt (picture s) s key) e
 
 pub finish-outcome-standing : (s : State) → Sound s → (key : ℕ) → 1 ≤ key → key ≤ s .settings .largest →
-    (x : Entry) → entryAt key (s .row) ≡ some x →
-    finishOut (picture s) key ≡ accepted key 0 (due s (placeOf (x .cell) (placesOf s (s .row)))) (picture (withRow s (finished (x .cell) (s .row))))
+    (x : Node) → nodeAt key (s .row) ≡ some x →
+    finishOut (picture s) key ≡ accepted key 0 (linksMoved s (placeOf (x .cell) (placesOf s (s .row)))) (picture (withRow s (finished (x .cell) (s .row))))
 unfolding finishAt
 finish-outcome-standing s v key l h x e =
     finish-outcome s v key l h ∙ ap (finishAt (picture s) s key) e ∙ rw (owed-never-free s v (x .cell)) refl
@@ -261,7 +261,7 @@ pub take-outcome-none : (s : State) → Sound s → fromLive (s .row) ≡ [] →
 unfolding takeFrom
 take-outcome-none s v e = take-outcome s v ∙ ap (takeFrom (picture s) s) e
 
-pub take-outcome-first : (s : State) → Sound s → (x : Entry) (later : List Entry) → fromLive (s .row) ≡ x ∷ later →
+pub take-outcome-first : (s : State) → Sound s → (x : Node) (later : List Node) → fromLive (s .row) ≡ x ∷ later →
     takeOut (picture s) ≡ accepted (x .key) (x .value) (keysPassed (positionKey s) (x .key) (s .row)) (picture (taken s x))
 unfolding takeFrom
 take-outcome-first s v x later e = take-outcome s v ∙ ap (takeFrom (picture s) s) e
@@ -309,9 +309,9 @@ module _ (P : Outcome → Type 0) (ws : List ℕ) (turned : (r : Refusal) → P 
 
   insert-has : (key value : ℕ) → ((count : ℕ) (s : State) → P (accepted key 0 count (picture s))) → P (insertOut ws key value)
   unfolding insertOut insertAt insertNew
-  insert-has key value done = keyed-has key (λ s. insertAt ws s key value (entryAt key (s .row))) (λ s. at s (entryAt key (s .row)))
+  insert-has key value done = keyed-has key (λ s. insertAt ws s key value (nodeAt key (s .row))) (λ s. at s (nodeAt key (s .row)))
     where
-      at : (s : State) (o : Option Entry) → P (insertAt ws s key value o)
+      at : (s : State) (o : Option Node) → P (insertAt ws s key value o)
       at s none =
           let t = slotFor s key in
           cond-has P (eqb (length (s .free)) 0) _ _ (turned (noFreeCell key (looked s key)))
@@ -320,25 +320,25 @@ module _ (P : Outcome → Type 0) (ws : List ℕ) (turned : (r : Refusal) → P 
 
   find-has : (key : ℕ) → ((value count : ℕ) → P (accepted key value count ws)) → P (findOut ws key)
   unfolding findOut findAt
-  find-has key done = keyed-has key (λ s. findAt ws s key (entryAt key (s .row))) (λ s. at s (entryAt key (s .row)))
+  find-has key done = keyed-has key (λ s. findAt ws s key (nodeAt key (s .row))) (λ s. at s (nodeAt key (s .row)))
     where
-      at : (s : State) (o : Option Entry) → P (findAt ws s key o)
+      at : (s : State) (o : Option Node) → P (findAt ws s key o)
       at s none = turned (keyNotLive key (looked s key))
       at s (some x) = cond-has P (x .live) _ _ (done (x .value) (looked s key)) (turned (keyNotLive key (looked s key)))
 
   finish-has : (key : ℕ) → ((count : ℕ) (s : State) → P (accepted key 0 count (picture s))) → P (finishOut ws key)
   unfolding finishOut finishAt
-  finish-has key done = keyed-has key (λ s. finishAt ws s key (entryAt key (s .row))) (λ s. at s (entryAt key (s .row)))
+  finish-has key done = keyed-has key (λ s. finishAt ws s key (nodeAt key (s .row))) (λ s. at s (nodeAt key (s .row)))
     where
-      at : (s : State) (o : Option Entry) → P (finishAt ws s key o)
+      at : (s : State) (o : Option Node) → P (finishAt ws s key o)
       at s none = turned (keyNotStanding key)
-      at s (some x) = cond-has P (owesFromFree ws (x .cell)) _ _ (turned owedNotStanding) (done (due s (placeOf (x .cell) (placesOf s (s .row)))) (withRow s (finished (x .cell) (s .row))))
+      at s (some x) = cond-has P (owesFromFree ws (x .cell)) _ _ (turned owedNotStanding) (done (linksMoved s (placeOf (x .cell) (placesOf s (s .row)))) (withRow s (finished (x .cell) (s .row))))
 
   take-has : ((key value count : ℕ) (s : State) → P (accepted key value count (picture s))) → P (takeOut ws)
   unfolding takeOut takeFrom
   take-has done = onList-has P ws (λ s. takeFrom ws s (fromLive (s .row))) (turned notAList) (λ s. at s (fromLive (s .row)))
     where
-      at : (s : State) (row : List Entry) → P (takeFrom ws s row)
+      at : (s : State) (row : List Node) → P (takeFrom ws s row)
       at s [] = turned (nothingLive (keysAbove (positionKey s) (s .row)))
       at s (x ∷ later) = done (x .key) (x .value) (keysPassed (positionKey s) (x .key) (s .row)) (taken s x)
 
@@ -364,22 +364,22 @@ refused-alters-nothing sweep-dead ws = sweep-has (Kept ws) ws (λ r ne. refl) (�
 pub find-writes-nothing : (ws : List ℕ) (key : ℕ) → findOut ws key .words ≡ ws
 find-writes-nothing ws key = find-has (λ o. o .words ≡ ws) ws (λ r. refl) key (λ value count. refl)
 
--- A key is out of range, or absent, or an entry's.
-pub key-cases : {R : Type 0} (s : State) (key : ℕ) → ((1 ≤ key → s .settings .largest < key) → R) → (1 ≤ key → key ≤ s .settings .largest → entryAt key (s .row) ≡ none → R) →
-    (1 ≤ key → key ≤ s .settings .largest → (x : Entry) → entryAt key (s .row) ≡ some x → R) → R
+-- A key is out of range, or absent, or a node's.
+pub key-cases : {R : Type 0} (s : State) (key : ℕ) → ((1 ≤ key → s .settings .largest < key) → R) → (1 ≤ key → key ≤ s .settings .largest → nodeAt key (s .row) ≡ none → R) →
+    (1 ≤ key → key ≤ s .settings .largest → (x : Node) → nodeAt key (s .row) ≡ some x → R) → R
 key-cases {R} s key bad absent standing = go (decLe 1 key) (decLe key (s .settings .largest))
   where
-    found : 1 ≤ key → key ≤ s .settings .largest → (o : Option Entry) → entryAt key (s .row) ≡ o → R
+    found : 1 ≤ key → key ≤ s .settings .largest → (o : Option Node) → nodeAt key (s .row) ≡ o → R
     found h l none a = absent h l a
     found h l (some x) a = standing h l x a
 
     go : Dec (1 ≤ key) → Dec (key ≤ s .settings .largest) → R
-    go (yes h) (yes l) = found h l (entryAt key (s .row)) refl
+    go (yes h) (yes l) = found h l (nodeAt key (s .row)) refl
     go (yes h) (no n) = bad (λ z. lt-of-not-le n)
     go (no n) d = bad (λ h. absurd (n h))
 
--- an entry is live or dead
-pub live-cases : {R : Type 0} (x : Entry) → (x .live ≡ true → R) → (x .live ≡ false → R) → R
+-- a node is live or dead
+pub live-cases : {R : Type 0} (x : Node) → (x .live ≡ true → R) → (x .live ≡ false → R) → R
 live-cases {R} x live dead = go (x .live) refl
   where
     go : (t : Bool) → x .live ≡ t → R

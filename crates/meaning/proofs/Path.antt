@@ -12,14 +12,15 @@ use native.Mathlib.Omega.{arith}
 use lib.ListN.{length, getD, take, replicate, length-append, length-replicate, getD-replicate, List·getD-append}
 use lib.Seq.{getD-append-add, getD-take, length-take-le, ext-getD}
 use borrow.Author.Tests.{lt-ltb, le-ltb}
+use Rattle.lists.proofs.Numbers.{made-at, made-length}
+use Rattle.lists.proofs.All.{All, all-map}
 use Rattle.meaning.specs.Keys.{shared}
-use Rattle.meaning.specs.Row.{Entry, headEntry, firstSharing, Place, places, settledLink, placeOf}
+use Rattle.meaning.specs.Row.{Node, headNode, firstSharing, Place, places, settledLink, placeOf}
 use Rattle.meaning.specs.State.{State, positionKey}
 use Rattle.meaning.specs.Picture.{firstWith, path}
-use Rattle.meaning.specs.Paths.{pathFor, onward}
-use Rattle.meaning.proofs.Order.{All, Asc, all-map}
+use Rattle.meaning.specs.Layer.Paths.{pathFor, onward}
+use Rattle.meaning.proofs.Order.{Asc}
 use Rattle.meaning.proofs.Keys.{shared-same, shared-le, shared-less, ultra}
-use Rattle.meaning.proofs.Blocks.{made-at, made-length}
 use Rattle.meaning.proofs.Places.{asc-left, lastFrom, dimensionFrom}
 use Rattle.meaning.proofs.Parent.{dimensionAfter, Apart, ParentPlace, asc-last, last-least, last-greatest, sharing-skips, sharing-hits, sharing-none, first-hits, first-skips, first-front, near, first-place, last-first, sharing-above}
 use Rattle.meaning.proofs.WalkRead.{settled-above}
@@ -30,14 +31,14 @@ pub path-is : (s : State) → path s ≡ pathFor (s .settings .base) (s .setting
 unfolding path pathFor
 path-is s = refl
 
-pub pathFor-length : (b D : ℕ) (row : List Entry) (key : ℕ) → length (pathFor b D row key) ≡ D
+pub pathFor-length : (b D : ℕ) (row : List Node) (key : ℕ) → length (pathFor b D row key) ≡ D
 unfolding pathFor
-pathFor-length b D row key = made-length (λ d. firstWith b D key (suc d) (headEntry ∷ row)) 0 D
+pathFor-length b D row key = made-length (λ d. firstWith b D key (suc d) (headNode ∷ row)) 0 D
 
-pub pathFor-at : (b D : ℕ) (row : List Entry) (key d : ℕ) → d < D → getD (pathFor b D row key) d 0 ≡ firstWith b D key (suc d) (headEntry ∷ row)
+pub pathFor-at : (b D : ℕ) (row : List Node) (key d : ℕ) → d < D → getD (pathFor b D row key) d 0 ≡ firstWith b D key (suc d) (headNode ∷ row)
 unfolding pathFor
 pathFor-at b D row key d h =
-    made-at (λ i. firstWith b D key (suc i) (headEntry ∷ row)) 0 D d 0 h ∙ ap (λ i. firstWith b D key (suc i) (headEntry ∷ row)) (zero-add d)
+    made-at (λ i. firstWith b D key (suc i) (headNode ∷ row)) 0 D d 0 h ∙ ap (λ i. firstWith b D key (suc i) (headNode ∷ row)) (zero-add d)
 
 -- a path with a cell from a word on
 
@@ -71,12 +72,12 @@ onward-is D path words d y long same h front back =
 -- The first that shares enough
 
 module _ (b D : ℕ) where
-  pub first-past : (key n : ℕ) (pre later : List Entry) → All (λ z. shared b D (z .key) key < n) pre → firstWith b D key n (pre ++ later) ≡ firstWith b D key n later
+  pub first-past : (key n : ℕ) (pre later : List Node) → All (λ z. shared b D (z .key) key < n) pre → firstWith b D key n (pre ++ later) ≡ firstWith b D key n later
   first-past key n [] later a = refl
   first-past key n (z ∷ pre) later a = first-skips b D key n z (pre ++ later) (a .0) ∙ first-past key n pre later (a .1)
 
-  -- with two keys that all entries share as much with, as far as n
-  pub first-alike : (k l n : ℕ) (row : List Entry) → All (λ z. min n (shared b D (z .key) k) ≡ min n (shared b D (z .key) l)) row → firstWith b D k n row ≡ firstWith b D l n row
+  -- with two keys that all nodes share as much with, as far as n
+  pub first-alike : (k l n : ℕ) (row : List Node) → All (λ z. min n (shared b D (z .key) k) ≡ min n (shared b D (z .key) l)) row → firstWith b D k n row ≡ firstWith b D l n row
   unfolding firstWith
   first-alike k l n [] a = refl
   first-alike k l n (z ∷ row) a = at (decLt (shared b D (z .key) k) n) (first-alike k l n row (a .1))
@@ -85,8 +86,8 @@ module _ (b D : ℕ) where
       at (yes h) more = let e = a .0 in first-skips b D k n z row h ∙ more ∙ sym (first-skips b D l n z row (omega arith))
       at (no h) more = let e = a .0 in first-hits b D k n z row (omega arith) ∙ sym (first-hits b D l n z row (omega arith))
 
--- what holds of 0 and of the cell of each entry holds of the first that shares enough
-pub first-holds : (P : ℕ → Type 0) (b D key n : ℕ) (row : List Entry) → P 0 → All (λ z. P (z .cell)) row → P (firstWith b D key n row)
+-- what holds of 0 and of the cell of each node holds of the first that shares enough
+pub first-holds : (P : ℕ → Type 0) (b D key n : ℕ) (row : List Node) → P 0 → All (λ z. P (z .cell)) row → P (firstWith b D key n row)
 unfolding firstWith
 first-holds P b D key n [] nowhere a = nowhere
 first-holds P b D key n (z ∷ row) nowhere a = at (decLt (shared b D (z .key) key) n) (first-holds P b D key n row nowhere (a .1))
@@ -95,100 +96,100 @@ first-holds P b D key n (z ∷ row) nowhere a = at (decLt (shared b D (z .key) k
     at (yes h) more = rw (lt-ltb (shared b D (z .key) key) n h) more
     at (no h) more = rw (le-ltb (shared b D (z .key) key) n (omega arith)) (a .0)
 
--- what holds of the head and of the cell of each entry holds of every word of a path
-pub path-holds : (P : ℕ → Type 0) (b D : ℕ) (row : List Entry) (key d : ℕ) → d < D → P 0 → All (λ z. P (z .cell)) row → P (getD (pathFor b D row key) d 0)
-path-holds P b D row key d h head a = rw (pathFor-at b D row key d h) (first-holds P b D key (suc d) (headEntry ∷ row) head (head, a))
+-- what holds of the head and of the cell of each node holds of every word of a path
+pub path-holds : (P : ℕ → Type 0) (b D : ℕ) (row : List Node) (key d : ℕ) → d < D → P 0 → All (λ z. P (z .cell)) row → P (getD (pathFor b D row key) d 0)
+path-holds P b D row key d h head a = rw (pathFor-at b D row key d h) (first-holds P b D key (suc d) (headNode ∷ row) head (head, a))
 
--- the dimension of an entry is below D
-pub dimension-less : (b D : ℕ) (x : Entry) (e : ℕ) (row : List Entry) → Asc (x .key) row → e < D → dimensionFrom b D x e row < D
+-- the dimension of a node is below D
+pub dimension-less : (b D : ℕ) (x : Node) (e : ℕ) (row : List Node) → Asc (x .key) row → e < D → dimensionFrom b D x e row < D
 unfolding dimensionFrom
 dimension-less b D x e [] a h = h
 dimension-less b D x e (y ∷ row) a h =
     let l = a .0 in
     dimension-less b D y (shared b D (x .key) (y .key)) row (a .1) (shared-less b D (x .key) (y .key) (omega arith) (omega arith))
 
--- The head and the entries up to the last of them, and a key not below that one's
+-- The head and the nodes up to the last of them, and a key not below that one's
 
-module _ (b D : ℕ) (pos : 0 < b) (pre : List Entry) (asc : Asc 0 pre) where
-  pub up-to-last : All (λ z. z .key ≤ lastFrom headEntry pre .key) (headEntry ∷ pre)
-  up-to-last = (last-least headEntry pre asc, last-greatest headEntry pre asc)
+module _ (b D : ℕ) (pos : 0 < b) (pre : List Node) (asc : Asc 0 pre) where
+  pub up-to-last : All (λ z. z .key ≤ lastFrom headNode pre .key) (headNode ∷ pre)
+  up-to-last = (last-least headNode pre asc, last-greatest headNode pre asc)
 
   pub up-to-shares :
-      (key : ℕ) → lastFrom headEntry pre .key ≤ key →
-      All (λ z. shared b D (z .key) key ≡ min (shared b D (z .key) (lastFrom headEntry pre .key)) (shared b D (lastFrom headEntry pre .key) key)) (headEntry ∷ pre)
-  up-to-shares key h = all-map (λ z l. ultra b D (z .key) (lastFrom headEntry pre .key) key pos l h) (headEntry ∷ pre) up-to-last
+      (key : ℕ) → lastFrom headNode pre .key ≤ key →
+      All (λ z. shared b D (z .key) key ≡ min (shared b D (z .key) (lastFrom headNode pre .key)) (shared b D (lastFrom headNode pre .key) key)) (headNode ∷ pre)
+  up-to-shares key h = all-map (λ z l. ultra b D (z .key) (lastFrom headNode pre .key) key pos l h) (headNode ∷ pre) up-to-last
 
   -- below what that one and the key share, their paths have the same words
   pub path-same :
-      (later : List Entry) (key i : ℕ) → lastFrom headEntry pre .key ≤ key → i < shared b D (lastFrom headEntry pre .key) key →
-      firstWith b D key (suc i) (headEntry ∷ (pre ++ later)) ≡ firstWith b D (lastFrom headEntry pre .key) (suc i) (headEntry ∷ (pre ++ later))
+      (later : List Node) (key i : ℕ) → lastFrom headNode pre .key ≤ key → i < shared b D (lastFrom headNode pre .key) key →
+      firstWith b D key (suc i) (headNode ∷ (pre ++ later)) ≡ firstWith b D (lastFrom headNode pre .key) (suc i) (headNode ∷ (pre ++ later))
   path-same later key i h l =
-      let A = lastFrom headEntry pre in
-      first-front b D key (suc i) headEntry pre later l
-      ∙ first-alike b D key (A .key) (suc i) (headEntry ∷ pre) (all-map (λ z e. omega arith) (headEntry ∷ pre) (up-to-shares key h))
-      ∙ sym (first-front b D (A .key) (suc i) headEntry pre later (omega (arith, shared-same b D (A .key), shared-le b D (A .key) key)))
+      let A = lastFrom headNode pre in
+      first-front b D key (suc i) headNode pre later l
+      ∙ first-alike b D key (A .key) (suc i) (headNode ∷ pre) (all-map (λ z e. omega arith) (headNode ∷ pre) (up-to-shares key h))
+      ∙ sym (first-front b D (A .key) (suc i) headNode pre later (omega (arith, shared-same b D (A .key), shared-le b D (A .key) key)))
 
   -- from its dimension on, that one's path has its own cell
   pub path-own :
-      (later : List Entry) (i : ℕ) → dimensionFrom b D headEntry 0 pre ≤ i → i < D →
-      firstWith b D (lastFrom headEntry pre .key) (suc i) (headEntry ∷ (pre ++ later)) ≡ lastFrom headEntry pre .cell
+      (later : List Node) (i : ℕ) → dimensionFrom b D headNode 0 pre ≤ i → i < D →
+      firstWith b D (lastFrom headNode pre .key) (suc i) (headNode ∷ (pre ++ later)) ≡ lastFrom headNode pre .cell
   path-own later i h l =
-      let A = lastFrom headEntry pre in
-      first-front b D (A .key) (suc i) headEntry pre later (omega (arith, shared-same b D (A .key)))
-      ∙ last-first b D pos (omega arith) i headEntry 0 pre asc l h
+      let A = lastFrom headNode pre in
+      first-front b D (A .key) (suc i) headNode pre later (omega (arith, shared-same b D (A .key)))
+      ∙ last-first b D pos (omega arith) i headNode 0 pre asc l h
 
-  -- so has the path of the entry after it, from that one's dimension on
+  -- so has the path of the node after it, from that one's dimension on
   pub path-next-own :
-      (y : Entry) (post : List Entry) (i : ℕ) → lastFrom headEntry pre .key ≤ y .key → dimensionAfter b D headEntry pre (y .key) ≤ i → i < D →
-      firstWith b D (y .key) (suc i) (headEntry ∷ (pre ++ y ∷ post)) ≡ y .cell
+      (y : Node) (post : List Node) (i : ℕ) → lastFrom headNode pre .key ≤ y .key → dimensionAfter b D headNode pre (y .key) ≤ i → i < D →
+      firstWith b D (y .key) (suc i) (headNode ∷ (pre ++ y ∷ post)) ≡ y .cell
   path-next-own y post i g h l =
-      first-past b D (y .key) (suc i) (headEntry ∷ pre) (y ∷ post) (all-map (λ z e. omega arith) (headEntry ∷ pre) (up-to-shares (y .key) g))
+      first-past b D (y .key) (suc i) (headNode ∷ pre) (y ∷ post) (all-map (λ z e. omega arith) (headNode ∷ pre) (up-to-shares (y .key) g))
       ∙ first-hits b D (y .key) (suc i) y post (omega (arith, shared-same b D (y .key)))
 
 -- Paths
 
 -- the head's
-pub path-head : (b D : ℕ) (row : List Entry) → pathFor b D row 0 ≡ replicate D 0
+pub path-head : (b D : ℕ) (row : List Node) → pathFor b D row 0 ≡ replicate D 0
 path-head b D row =
     ext-getD 0 (pathFor b D row 0) (replicate D 0) (pathFor-length b D row 0 ∙ sym (length-replicate {A = ℕ} D 0))
     (λ i h. let l : i < D = omega (arith, pathFor-length b D row 0) in
-    pathFor-at b D row 0 i l ∙ first-hits b D 0 (suc i) headEntry row (omega (arith, shared-same b D 0)) ∙ sym (getD-replicate {A = ℕ} D i 0 0 l))
+    pathFor-at b D row 0 i l ∙ first-hits b D 0 (suc i) headNode row (omega (arith, shared-same b D 0)) ∙ sym (getD-replicate {A = ℕ} D i 0 0 l))
 
 -- the path of a key, from the path of another that has the same words below d
 pub path-from :
-    (b D : ℕ) (row : List Entry) (x y d c : ℕ) → d ≤ D →
-    ((i : ℕ) → i < d → firstWith b D y (suc i) (headEntry ∷ row) ≡ firstWith b D x (suc i) (headEntry ∷ row)) →
-    ((i : ℕ) → d ≤ i → i < D → firstWith b D y (suc i) (headEntry ∷ row) ≡ c) → pathFor b D row y ≡ onward D (pathFor b D row x) d c
+    (b D : ℕ) (row : List Node) (x y d c : ℕ) → d ≤ D →
+    ((i : ℕ) → i < d → firstWith b D y (suc i) (headNode ∷ row) ≡ firstWith b D x (suc i) (headNode ∷ row)) →
+    ((i : ℕ) → d ≤ i → i < D → firstWith b D y (suc i) (headNode ∷ row) ≡ c) → pathFor b D row y ≡ onward D (pathFor b D row x) d c
 path-from b D row x y d c h front back =
     onward-is D (pathFor b D row x) (pathFor b D row y) d c (pathFor-length b D row x) (pathFor-length b D row y) h
     (λ i l. pathFor-at b D row y i (omega arith) ∙ front i l ∙ sym (pathFor-at b D row x i (omega arith)))
     (λ i l m. pathFor-at b D row y i m ∙ back i l m)
 
-module _ (b D : ℕ) (pos : 0 < b) (pre : List Entry) where
-  -- the next entry's: below its dimension as before, from there on its own cell
+module _ (b D : ℕ) (pos : 0 < b) (pre : List Node) where
+  -- the next node's: below its dimension as before, from there on its own cell
   pub path-next :
-      (y : Entry) (post : List Entry) → Asc 0 (pre ++ y ∷ post) →
+      (y : Node) (post : List Node) → Asc 0 (pre ++ y ∷ post) →
       pathFor b D (pre ++ y ∷ post) (y .key)
-      ≡ onward D (pathFor b D (pre ++ y ∷ post) (lastFrom headEntry pre .key)) (shared b D (lastFrom headEntry pre .key) (y .key)) (y .cell)
+      ≡ onward D (pathFor b D (pre ++ y ∷ post) (lastFrom headNode pre .key)) (shared b D (lastFrom headNode pre .key) (y .key)) (y .cell)
   path-next y post asc =
-      let A = lastFrom headEntry pre in
+      let A = lastFrom headNode pre in
       let front = asc-left 0 pre (y ∷ post) asc in
-      let less = asc-last headEntry pre (y ∷ post) asc .0 in
+      let less = asc-last headNode pre (y ∷ post) asc .0 in
       path-from b D (pre ++ y ∷ post) (A .key) (y .key) (shared b D (A .key) (y .key)) (y .cell) (shared-le b D (A .key) (y .key))
       (λ i l. path-same b D pos pre front (y ∷ post) (y .key) i (omega arith) l)
       (λ i h l. path-next-own b D pos pre front y post i (omega arith) h l)
 
   -- the last word is the cell whose path it is
   pub path-last :
-      (later : List Entry) → 0 < D → Asc 0 pre → getD (pathFor b D (pre ++ later) (lastFrom headEntry pre .key)) (D - 1) 0 ≡ lastFrom headEntry pre .cell
+      (later : List Node) → 0 < D → Asc 0 pre → getD (pathFor b D (pre ++ later) (lastFrom headNode pre .key)) (D - 1) 0 ≡ lastFrom headNode pre .cell
   path-last later deep asc =
-      pathFor-at b D (pre ++ later) (lastFrom headEntry pre .key) (D - 1) (omega arith)
-      ∙ path-own b D pos pre asc later (D - 1) (let h = dimension-less b D headEntry 0 pre asc deep in omega arith) (omega arith)
+      pathFor-at b D (pre ++ later) (lastFrom headNode pre .key) (D - 1) (omega arith)
+      ∙ path-own b D pos pre asc later (D - 1) (let h = dimension-less b D headNode 0 pre asc deep in omega arith) (omega arith)
 
 -- Links of path words
 
 -- Word d of a key's path is a cell of dimension at most d, whose settled link d leads to c.
-pub record PathLink (b D : ℕ) (row : List Entry) (key d c : ℕ) : Type 0 where
+pub record PathLink (b D : ℕ) (row : List Node) (key d c : ℕ) : Type 0 where
   pub place : Place
   pub found : placeOf (getD (pathFor b D row key) d 0) (places b D row) ≡ some place
   pub dimension : place .dimension ≤ d
@@ -196,32 +197,32 @@ pub record PathLink (b D : ℕ) (row : List Entry) (key d c : ℕ) : Type 0 wher
 
 module _ (b D : ℕ) (pos : 0 < b) (deep : 0 < D) where
   -- link d of a place that shares more than d with a leads to the first of what comes after a that shares just d
-  parent-passes : (d : ℕ) (a : Entry) (later : List Entry) (p : Place) → ParentPlace b D d a later p → settledLink b D p d ≡ firstSharing b D (p .entry .key) d later
+  parent-passes : (d : ℕ) (a : Node) (later : List Node) (p : Place) → ParentPlace b D d a later p → settledLink b D p d ≡ firstSharing b D (p .node .key) d later
   parent-passes d a later p at =
       let shares = at .shares in
-      let to-last = ap (λ z. shared b D (p .entry .key) (z .key)) (at .last-is) in
+      let to-last = ap (λ z. shared b D (p .node .key) (z .key)) (at .last-is) in
       settled-above b D p d (at .low)
-      ∙ ap (firstSharing b D (p .entry .key) d) (at .later-is)
-      ∙ sharing-skips b D (p .entry .key) d (at .between) later (all-map (λ z h e. omega arith) (at .between) (near b D pos deep (p .entry) (at .between) (at .ascends)))
+      ∙ ap (firstSharing b D (p .node .key) d) (at .later-is)
+      ∙ sharing-skips b D (p .node .key) d (at .between) later (all-map (λ z h e. omega arith) (at .between) (near b D pos deep (p .node) (at .between) (at .ascends)))
 
   pub parent-shares :
-      (d : ℕ) (a : Entry) (later : List Entry) (p : Place) → ParentPlace b D d a later p → (key : ℕ) → a .key ≤ key →
-      shared b D (p .entry .key) key ≡ min (shared b D (p .entry .key) (a .key)) (shared b D (a .key) key)
+      (d : ℕ) (a : Node) (later : List Node) (p : Place) → ParentPlace b D d a later p → (key : ℕ) → a .key ≤ key →
+      shared b D (p .node .key) key ≡ min (shared b D (p .node .key) (a .key)) (shared b D (a .key) key)
   parent-shares d a later p at key h =
-      let up = last-least (p .entry) (at .between) (at .ascends) in
-      ultra b D (p .entry .key) (a .key) key pos (omega (arith, up, ap (λ z. z .key) (at .last-is))) h
+      let up = last-least (p .node) (at .between) (at .ascends) in
+      ultra b D (p .node .key) (a .key) key pos (omega (arith, up, ap (λ z. z .key) (at .last-is))) h
 
-  module _ (pre : List Entry) where
-    -- link d of word d of the last entry's path leads to c, if c is the first of what comes after that shares just d with that word's cell
+  module _ (pre : List Node) where
+    -- link d of word d of the last node's path leads to c, if c is the first of what comes after that shares just d with that word's cell
     pub path-link :
-        (later : List Entry) (d c : ℕ) → Asc 0 pre → Apart (headEntry ∷ pre) → d < D →
-        ((p : Place) → ParentPlace b D d (lastFrom headEntry pre) later p → firstSharing b D (p .entry .key) d later ≡ c) →
-        PathLink b D (pre ++ later) (lastFrom headEntry pre .key) d c
+        (later : List Node) (d c : ℕ) → Asc 0 pre → Apart (headNode ∷ pre) → d < D →
+        ((p : Place) → ParentPlace b D d (lastFrom headNode pre) later p → firstSharing b D (p .node .key) d later ≡ c) →
+        PathLink b D (pre ++ later) (lastFrom headNode pre .key) d c
     unfolding places
     path-link later d c asc apart l to =
-        let A = lastFrom headEntry pre in
-        let (p, found, at) = first-place b D pos deep d headEntry 0 headEntry 0 pre later asc apart l (λ h. omega arith) in
-        let word = pathFor-at b D (pre ++ later) (A .key) d l ∙ first-front b D (A .key) (suc d) headEntry pre later (omega (arith, shared-same b D (A .key))) in
+        let A = lastFrom headNode pre in
+        let (p, found, at) = first-place b D pos deep d headNode 0 headNode 0 pre later asc apart l (λ h. omega arith) in
+        let word = pathFor-at b D (pre ++ later) (A .key) d l ∙ first-front b D (A .key) (suc d) headNode pre later (omega (arith, shared-same b D (A .key))) in
         record {
           place = p;
           found = ap (λ c. placeOf c (places b D (pre ++ later))) word ∙ found;
@@ -229,33 +230,33 @@ module _ (b D : ℕ) (pos : 0 < b) (deep : 0 < D) where
           leads = parent-passes d A later p at ∙ to p at;
         }
 
-    -- the link that leads to the next entry: its number is that one's dimension
+    -- the link that leads to the next node: its number is that one's dimension
     pub next-link :
-        (y : Entry) (post : List Entry) → Asc 0 (pre ++ y ∷ post) → Apart (headEntry ∷ pre) →
-        PathLink b D (pre ++ y ∷ post) (lastFrom headEntry pre .key) (shared b D (lastFrom headEntry pre .key) (y .key)) (y .cell)
+        (y : Node) (post : List Node) → Asc 0 (pre ++ y ∷ post) → Apart (headNode ∷ pre) →
+        PathLink b D (pre ++ y ∷ post) (lastFrom headNode pre .key) (shared b D (lastFrom headNode pre .key) (y .key)) (y .cell)
     next-link y post asc apart =
-        let A = lastFrom headEntry pre in
+        let A = lastFrom headNode pre in
         let e = shared b D (A .key) (y .key) in
-        let less = asc-last headEntry pre (y ∷ post) asc .0 in
+        let less = asc-last headNode pre (y ∷ post) asc .0 in
         path-link (y ∷ post) e (y .cell) (asc-left 0 pre (y ∷ post) asc) apart (shared-less b D (A .key) (y .key) deep (omega arith))
-        (λ p at. let shares = at .shares in sharing-hits b D (p .entry .key) e y post (omega (arith, parent-shares e A (y ∷ post) p at (y .key) (omega arith))))
+        (λ p at. let shares = at .shares in sharing-hits b D (p .node .key) e y post (omega (arith, parent-shares e A (y ∷ post) p at (y .key) (omega arith))))
 
     -- a higher one leads nowhere, ..
     pub next-link-above :
-        (y : Entry) (post : List Entry) (d : ℕ) → Asc 0 (pre ++ y ∷ post) → Apart (headEntry ∷ pre) →
-        shared b D (lastFrom headEntry pre .key) (y .key) < d → d < D → PathLink b D (pre ++ y ∷ post) (lastFrom headEntry pre .key) d 0
+        (y : Node) (post : List Node) (d : ℕ) → Asc 0 (pre ++ y ∷ post) → Apart (headNode ∷ pre) →
+        shared b D (lastFrom headNode pre .key) (y .key) < d → d < D → PathLink b D (pre ++ y ∷ post) (lastFrom headNode pre .key) d 0
     next-link-above y post d asc apart h l =
-        let A = lastFrom headEntry pre in
-        let up = asc-last headEntry pre (y ∷ post) asc in
+        let A = lastFrom headNode pre in
+        let up = asc-last headNode pre (y ∷ post) asc in
         let less = up .0 in
         path-link (y ∷ post) d 0 (asc-left 0 pre (y ∷ post) asc) apart l
         (λ p at.
-        let least = last-least (p .entry) (at .between) (at .ascends) in
+        let least = last-least (p .node) (at .between) (at .ascends) in
         let last = ap (λ z. z .key) (at .last-is) in
-        sharing-above b D pos (p .entry .key) d y post (omega arith) (up .1) (omega (arith, parent-shares d A (y ∷ post) p at (y .key) (omega arith))))
+        sharing-above b D pos (p .node .key) d y post (omega arith) (up .1) (omega (arith, parent-shares d A (y ∷ post) p at (y .key) (omega arith))))
 
-    -- .. and from the path of the last entry none leads anywhere
-    pub last-link : (d : ℕ) → Asc 0 pre → Apart (headEntry ∷ pre) → d < D → PathLink b D pre (lastFrom headEntry pre .key) d 0
+    -- .. and from the path of the last node none leads anywhere
+    pub last-link : (d : ℕ) → Asc 0 pre → Apart (headNode ∷ pre) → d < D → PathLink b D pre (lastFrom headNode pre .key) d 0
     last-link d asc apart l =
-        subst (λ row. PathLink b D row (lastFrom headEntry pre .key) d 0) (append-nil pre)
-        (path-link [] d 0 asc apart l (λ p at. sharing-none b D (p .entry .key) d [] tt))
+        subst (λ row. PathLink b D row (lastFrom headNode pre .key) d 0) (append-nil pre)
+        (path-link [] d 0 asc apart l (λ p at. sharing-none b D (p .node .key) d [] tt))

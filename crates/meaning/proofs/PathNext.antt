@@ -9,22 +9,23 @@ use native.Mathlib.Omega.{arith}
 use lib.ListN.{length, getD, replicate, List·getD-eq-default}
 use lib.Seq.{append-snoc}
 use borrow.Author.Tests.{eq-eqb, ne-eqb}
+use Rattle.lists.proofs.All.{all-map}
 use Rattle.meaning.specs.Keys.{shared}
-use Rattle.meaning.specs.Row.{Entry, headEntry, settledLink}
+use Rattle.meaning.specs.Row.{Node, headNode, settledLink}
 use Rattle.meaning.specs.State.{State, positionKey}
 use Rattle.meaning.specs.Picture.{picture, path}
 use Rattle.meaning.specs.Walk.{linkRead}
-use Rattle.meaning.specs.Paths.{pathFor, onward, NextCell, nextFrom}
-use Rattle.meaning.proofs.Order.{Asc, all-map}
+use Rattle.meaning.specs.Layer.Paths.{pathFor, onward, NextCell, nextFrom}
+use Rattle.meaning.proofs.Order.{Asc}
 use Rattle.meaning.proofs.Keys.{shared-less}
 use Rattle.meaning.proofs.State.{Sound, base-positive}
 use Rattle.meaning.proofs.Cells.{row-range}
-use Rattle.meaning.proofs.Keeps.{cell-alone, position-cases, position-head, position-entry}
-use Rattle.meaning.proofs.Places.{Found, asc-left, lastFrom}
+use Rattle.meaning.proofs.KeepsState.{cell-alone, position-cases, position-head, position-node}
+use Rattle.meaning.proofs.Places.{Located, asc-left, lastFrom}
 use Rattle.meaning.proofs.Parent.{Apart, asc-last, apart-left}
 use Rattle.meaning.proofs.Slot.{sound-apart, dimensions-positive}
 use Rattle.meaning.proofs.WalkRead.{link-read}
-use Rattle.meaning.proofs.SentencesCells.{Placed, placed-has, placed-cell}
+use Rattle.meaning.proofs.Placed.{Placed, placed-has, placed-cell}
 use Rattle.meaning.proofs.Path.{path-is, pathFor-length, path-head, path-last, path-holds, PathLink, path-next, next-link, next-link-above, last-link}
 
 -- The search from link d-1 down
@@ -61,9 +62,9 @@ next-highest ws path (suc n) e y h there other f = at (ℕ-discrete e n) (next-h
 
 -- On a list
 
--- the path of the last of some entries of the row, or of the head
-abbrev pub wayTo : State → List Entry → List ℕ
-wayTo s front = pathFor (s .settings .base) (s .settings .dimensions) (s .row) (lastFrom headEntry front .key)
+-- the path of the last of some nodes of the row, or of the head
+abbrev pub wayTo : State → List Node → List ℕ
+wayTo s front = pathFor (s .settings .base) (s .settings .dimensions) (s .row) (lastFrom headNode front .key)
 
 module _ (s : State) (v : Sound s) where
   -- every word of a path is a cell
@@ -93,65 +94,65 @@ module _ (s : State) (v : Sound s) where
       let x = getD (pathFor b D (s .row) key) d 0 in
       let here : Placed s x (to .place) = record { found = to .found } in
       ap (λ y. linkRead (picture s) y d) (sym (placed-cell here))
-      ∙ placed-has here (λ p. p .dimension ≤ d → linkRead (picture s) (p .entry .cell) d ≡ settledLink b D p d) (link-read s v d l) (to .dimension)
+      ∙ placed-has here (λ p. p .dimension ≤ d → linkRead (picture s) (p .node .cell) d ≡ settledLink b D p d) (link-read s v d l) (to .dimension)
       ∙ to .leads
 
-  apart-front : (pre later : List Entry) → s .row ≡ pre ++ later → Apart (headEntry ∷ pre)
-  apart-front pre later split = apart-left (headEntry ∷ pre) later (subst (λ r. Apart (headEntry ∷ r)) split (sound-apart s v))
+  apart-front : (pre later : List Node) → s .row ≡ pre ++ later → Apart (headNode ∷ pre)
+  apart-front pre later split = apart-left (headNode ∷ pre) later (subst (λ r. Apart (headNode ∷ r)) split (sound-apart s v))
 
   deep : 0 < s .settings .dimensions
   deep = dimensions-positive s v
 
-  -- from the path of an entry that has a next one, or of the head, to that one
+  -- from the path of a node that has a next one, or of the head, to that one
   pub next-of-path :
-      (pre : List Entry) (y : Entry) (post : List Entry) → s .row ≡ pre ++ (y ∷ post) →
+      (pre : List Node) (y : Node) (post : List Node) → s .row ≡ pre ++ (y ∷ post) →
       nextFrom (picture s) (wayTo s pre) (s .settings .dimensions)
-      ≡ record { cell = y .cell; number = shared (s .settings .base) (s .settings .dimensions) (lastFrom headEntry pre .key) (y .key) }
+      ≡ record { cell = y .cell; number = shared (s .settings .base) (s .settings .dimensions) (lastFrom headNode pre .key) (y .key) }
   next-of-path pre y post split =
       let b = s .settings .base in
       let D = s .settings .dimensions in
-      let A = lastFrom headEntry pre in
+      let A = lastFrom headNode pre in
       let e = shared b D (A .key) (y .key) in
       let pos = base-positive s v in
       let asc = subst (Asc 0) split (v .ascends) in
       let apart = apart-front pre (y ∷ post) split in
-      let less = asc-last headEntry pre (y ∷ post) asc .0 in
+      let less = asc-last headNode pre (y ∷ post) asc .0 in
       let number : e < D = shared-less b D (A .key) (y .key) deep (omega arith) in
       next-highest (picture s) (pathFor b D (s .row) (A .key)) D e (y .cell) number
       (path-link-read (A .key) e (y .cell) number (subst (λ r. PathLink b D r (A .key) e (y .cell)) (sym split) (next-link b D pos deep pre y post asc apart)))
       (cell-alone s v pre y post split .standing)
       (λ d h l. path-link-read (A .key) d 0 l (subst (λ r. PathLink b D r (A .key) d 0) (sym split) (next-link-above b D pos deep pre y post d asc apart h l)))
 
-  -- from the path of the last entry, or of the head if there is no entry, there is no next
+  -- from the path of the last node, or of the head if there is no node, there is no next
   pub next-of-last :
       nextFrom (picture s) (wayTo s (s .row)) (s .settings .dimensions) ≡ record { cell = 0; number = 0 }
   next-of-last =
       let b = s .settings .base in
       let D = s .settings .dimensions in
-      let key = lastFrom headEntry (s .row) .key in
+      let key = lastFrom headNode (s .row) .key in
       next-nowhere (picture s) (pathFor b D (s .row) key) D
       (λ d l. path-link-read key d 0 l (last-link b D (base-positive s v) deep (s .row) d (v .ascends) (sound-apart s v) l))
 
   -- the next one's path
   pub path-of-next :
-      (pre : List Entry) (y : Entry) (post : List Entry) → s .row ≡ pre ++ (y ∷ post) →
+      (pre : List Node) (y : Node) (post : List Node) → s .row ≡ pre ++ (y ∷ post) →
       pathFor (s .settings .base) (s .settings .dimensions) (s .row) (y .key)
       ≡ onward (s .settings .dimensions) (wayTo s pre)
-      (shared (s .settings .base) (s .settings .dimensions) (lastFrom headEntry pre .key) (y .key)) (y .cell)
+      (shared (s .settings .base) (s .settings .dimensions) (lastFrom headNode pre .key) (y .key)) (y .cell)
   path-of-next pre y post split =
       let b = s .settings .base in
       let D = s .settings .dimensions in
-      let A = lastFrom headEntry pre in
+      let A = lastFrom headNode pre in
       subst (λ r. pathFor b D r (y .key) ≡ onward D (pathFor b D r (A .key)) (shared b D (A .key) (y .key)) (y .cell)) (sym split)
       (path-next b D (base-positive s v) pre y post (subst (Asc 0) split (v .ascends)))
 
--- A path on its way through the row: the path of the last of some entries, or of the head, and the entries that come later. Loops that
+-- A path on its way through the row: the path of the last of some nodes, or of the head, and the nodes that come later. Loops that
 -- go from cell to cell keep this.
-pub record PathOf (s : State) (path : List ℕ) (front later : List Entry) : Type 0 where
+pub record PathOf (s : State) (path : List ℕ) (front later : List Node) : Type 0 where
   pub split : s .row ≡ front ++ later
   pub is : path ≡ wayTo s front
 
-pub last-snoc : (x : Entry) (row : List Entry) (y : Entry) → lastFrom x (row ++ (y ∷ [])) ≡ y
+pub last-snoc : (x : Node) (row : List Node) (y : Node) → lastFrom x (row ++ (y ∷ [])) ≡ y
 unfolding lastFrom
 last-snoc x [] y = refl
 last-snoc x (z ∷ row) y = last-snoc z row y
@@ -162,16 +163,16 @@ head-on-way s = record { split = refl; is = sym (path-head (s .settings .base) (
 
 -- where the position's path is on the way
 pub record PositionPath (s : State) : Type 0 where
-  pub front : List Entry
-  pub later : List Entry
+  pub front : List Node
+  pub later : List Node
   pub on-way : PathOf s (path s) front later
-  pub key : lastFrom headEntry front .key ≡ positionKey s
+  pub key : lastFrom headNode front .key ≡ positionKey s
 
 pub position-on-way : (s : State) → Sound s → PositionPath s
 unfolding lastFrom
 position-on-way s v = at (position-cases s v)
   where
-    from : (front later : List Entry) → s .row ≡ front ++ later → lastFrom headEntry front .key ≡ positionKey s → PositionPath s
+    from : (front later : List Node) → s .row ≡ front ++ later → lastFrom headNode front .key ≡ positionKey s → PositionPath s
     from front later split key =
         record {
           front = front;
@@ -180,29 +181,29 @@ position-on-way s v = at (position-cases s v)
           key = key;
         }
 
-    at : (s .position ≡ 0) ⊎ Found (s .position) (s .row) → PositionPath s
+    at : (s .position ≡ 0) ⊎ Located (s .position) (s .row) → PositionPath s
     at (inl e) = from [] (s .row) refl (sym (position-head s e))
     at (inr t) =
-        from (t .front ++ (t .entry ∷ [])) (t .later) (t .split ∙ sym (append-snoc (t .front) (t .entry) (t .later)))
-        (ap (λ x. x .key) (last-snoc headEntry (t .front) (t .entry)) ∙ sym (position-entry s v t))
+        from (t .front ++ (t .node ∷ [])) (t .later) (t .split ∙ sym (append-snoc (t .front) (t .node) (t .later)))
+        (ap (λ x. x .key) (last-snoc headNode (t .front) (t .node)) ∙ sym (position-node s v t))
 
-module _ {s : State} (v : Sound s) {path : List ℕ} {front : List Entry} where
-  pub way-length : {later : List Entry} → PathOf s path front later → length path ≡ s .settings .dimensions
-  way-length t = ap length (t .is) ∙ pathFor-length (s .settings .base) (s .settings .dimensions) (s .row) (lastFrom headEntry front .key)
+module _ {s : State} (v : Sound s) {path : List ℕ} {front : List Node} where
+  pub way-length : {later : List Node} → PathOf s path front later → length path ≡ s .settings .dimensions
+  way-length t = ap length (t .is) ∙ pathFor-length (s .settings .base) (s .settings .dimensions) (s .row) (lastFrom headNode front .key)
 
-  pub way-within : {later : List Entry} → PathOf s path front later → (d : ℕ) → getD path d 0 < s .settings .cells
-  way-within t d = rw (t .is) (path-within s v (lastFrom headEntry front .key) d)
+  pub way-within : {later : List Node} → PathOf s path front later → (d : ℕ) → getD path d 0 < s .settings .cells
+  way-within t d = rw (t .is) (path-within s v (lastFrom headNode front .key) d)
 
-  pub way-cell : {later : List Entry} → PathOf s path front later → getD path (s .settings .dimensions - 1) 0 ≡ lastFrom headEntry front .cell
+  pub way-cell : {later : List Node} → PathOf s path front later → getD path (s .settings .dimensions - 1) 0 ≡ lastFrom headNode front .cell
   way-cell {later} t =
       let b = s .settings .base in
       let D = s .settings .dimensions in
-      ap (λ p. getD p (D - 1) 0) (t .is ∙ ap (λ r. pathFor b D r (lastFrom headEntry front .key)) (t .split))
+      ap (λ p. getD p (D - 1) 0) (t .is ∙ ap (λ r. pathFor b D r (lastFrom headNode front .key)) (t .split))
       ∙ path-last b D (base-positive s v) front later (deep s v) (asc-left 0 front later (subst (Asc 0) (t .split) (v .ascends)))
 
-  pub way-next : {y : Entry} {later : List Entry} → PathOf s path front (y ∷ later) →
+  pub way-next : {y : Node} {later : List Node} → PathOf s path front (y ∷ later) →
       nextFrom (picture s) path (s .settings .dimensions)
-      ≡ record { cell = y .cell; number = shared (s .settings .base) (s .settings .dimensions) (lastFrom headEntry front .key) (y .key) }
+      ≡ record { cell = y .cell; number = shared (s .settings .base) (s .settings .dimensions) (lastFrom headNode front .key) (y .key) }
   way-next {y} {later} t = rw (t .is) (next-of-path s v front y later (t .split))
 
   pub way-end : PathOf s path front [] → nextFrom (picture s) path (s .settings .dimensions) ≡ record { cell = 0; number = 0 }
@@ -210,17 +211,17 @@ module _ {s : State} (v : Sound s) {path : List ℕ} {front : List Entry} where
       let all : s .row ≡ front = t .split ∙ append-nil front in
       rw (t .is, ← all) (next-of-last s v)
 
-  pub way-on : {y : Entry} {later : List Entry} → PathOf s path front (y ∷ later) →
-      PathOf s (onward (s .settings .dimensions) path (shared (s .settings .base) (s .settings .dimensions) (lastFrom headEntry front .key) (y .key)) (y .cell))
+  pub way-on : {y : Node} {later : List Node} → PathOf s path front (y ∷ later) →
+      PathOf s (onward (s .settings .dimensions) path (shared (s .settings .base) (s .settings .dimensions) (lastFrom headNode front .key) (y .key)) (y .cell))
       (front ++ (y ∷ [])) later
   way-on {y} {later} t =
       let b = s .settings .base in
       let D = s .settings .dimensions in
-      let A = lastFrom headEntry front in
+      let A = lastFrom headNode front in
       record {
         split = t .split ∙ sym (append-snoc front y later);
         is =
             ap (λ p. onward D p (shared b D (A .key) (y .key)) (y .cell)) (t .is)
             ∙ sym (path-of-next s v front y later (t .split))
-            ∙ ap (λ x. pathFor b D (s .row) (x .key)) (sym (last-snoc headEntry front y));
+            ∙ ap (λ x. pathFor b D (s .row) (x .key)) (sym (last-snoc headNode front y));
       }

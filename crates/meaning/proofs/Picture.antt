@@ -12,16 +12,19 @@ use lib.ListN.{length, getD, length-append, length-replicate, List·getD-append,
 use lib.Seq.{getD-append-add}
 use borrow.Author.Tests.{eq-eqb, ne-eqb}
 use Rattle.settings.specs.Numbers.{headerWords, cellWords, lengthOf}
+use Rattle.lists.specs.Lists.{numbersFrom, firstNumber}
+use Rattle.lists.proofs.Blocks.{blocks-length, block-word}
+use Rattle.lists.proofs.Numbers.{numbers-length, numbers-at, made-at, made-length}
+use Rattle.lists.proofs.Occurrences.{Distinct, distinct-left, distinct-apart}
+use Rattle.lists.proofs.All.{All, all-map, all-zip, all-of-map}
 use Rattle.meaning.specs.Keys.{coordinates, shared}
-use Rattle.meaning.specs.Row.{Entry, headEntry, firstOf, Place, placesAfter, places, placeOf, link}
+use Rattle.meaning.specs.Row.{Node, headNode, firstOf, Place, placesAfter, places, placeOf, link}
 use Rattle.meaning.specs.State.{State}
-use Rattle.meaning.specs.Picture.{numbersFrom, firstNumber, standingWords, freeWords, wordsOf, pathWord, path, cells, picture}
+use Rattle.meaning.specs.Picture.{standingWords, freeWords, wordsOf, pathWord, path, cellPictures, picture}
 use Rattle.meaning.specs.Words.{wordAt}
-use Rattle.meaning.proofs.Order.{All, all-map}
 use Rattle.meaning.proofs.Keys.{coordinates-length}
 use Rattle.meaning.proofs.State.{Sound}
-use Rattle.meaning.proofs.Blocks.{numbers-length, numbers-at, made-at, made-length, blocks-length, block-word}
-use Rattle.meaning.proofs.Cells.{Distinct, all-zip, all-of-map, distinct-left, distinct-apart, cells-distinct}
+use Rattle.meaning.proofs.Cells.{cells-distinct}
 
 -- How long the parts are
 
@@ -29,7 +32,7 @@ pub wordsOf-length : (b D c : ℕ) (free : List ℕ) (x : Option Place) → leng
 unfolding standingWords freeWords wordsOf
 wordsOf-length b D c free none = omega (arith, length-replicate {A = ℕ} (5 + 2 * D) 0)
 wordsOf-length b D c free (some x) =
-    omega (arith, length-append (coordinates b D (x .entry .key)) (map (link b D x) (numbersFrom 0 D)), coordinates-length b D (x .entry .key), made-length (link b D x) 0 D)
+    omega (arith, length-append (coordinates b D (x .node .key)) (map (link b D x) (numbersFrom 0 D)), coordinates-length b D (x .node .key), made-length (link b D x) 0 D)
 
 -- the words of cell c in the picture of a state
 abbrev pub shownWords : State → ℕ → List ℕ
@@ -43,15 +46,15 @@ pub path-length : (s : State) → length (path s) ≡ s .settings .dimensions
 unfolding path
 path-length s = made-length (pathWord s) 0 (s .settings .dimensions)
 
-pub cells-length : (s : State) → length (cells s) ≡ s .settings .cells * cellWords (s .settings .dimensions)
-unfolding cells
+pub cells-length : (s : State) → length (cellPictures s) ≡ s .settings .cells * cellWords (s .settings .dimensions)
+unfolding cellPictures
 cells-length s =
     blocks-length (shownWords s) (cellWords (s .settings .dimensions)) (shown-length s) (numbersFrom 0 (s .settings .cells))
     ∙ ap (λ n. n * cellWords (s .settings .dimensions)) (numbers-length 0 (s .settings .cells))
 
 pub picture-length : (s : State) → length (picture s) ≡ lengthOf (s .settings .dimensions) (s .settings .cells)
 unfolding picture
-picture-length s = omega (arith, length-append (path s) (cells s), path-length s, cells-length s)
+picture-length s = omega (arith, length-append (path s) (cellPictures s), path-length s, cells-length s)
 
 -- Where the words stand
 
@@ -85,12 +88,12 @@ picture-path s d h =
     let there : headerWords + d ≡ suc (suc (suc (suc (suc d)))) = omega arith in
     let inside : d < length (path s) = omega (arith, path-length s) in
     ap (λ n. getD (picture s) n 0) there
-    ∙ List·getD-append (path s) (cells s) 0 d inside
+    ∙ List·getD-append (path s) (cellPictures s) 0 d inside
     ∙ path-word s d h
 
 -- word j of cell c of a picture
 pub picture-word : (s : State) (c j : ℕ) → c < s .settings .cells → j < cellWords (s .settings .dimensions) → wordAt (picture s) c j ≡ getD (wordsOf (s .settings .base) (s .settings .dimensions) (s .free) c (placeOf c (places (s .settings .base) (s .settings .dimensions) (s .row)))) j 0
-unfolding cells picture
+unfolding cellPictures picture
 picture-word s c j hc hj =
     let D = s .settings .dimensions in
     let w = cellWords D in
@@ -98,7 +101,7 @@ picture-word s c j hc hj =
     let there : headerWords + D + c * w + j ≡ suc (suc (suc (suc (suc (length (path s) + (c * w + j)))))) = omega (arith, path-length s) in
     let inside : c < length numbers = omega (arith, numbers-length 0 (s .settings .cells)) in
     ap (λ n. getD (picture s) n 0) there
-    ∙ getD-append-add (path s) (cells s) (c * w + j) 0
+    ∙ getD-append-add (path s) (cellPictures s) (c * w + j) 0
     ∙ block-word (shownWords s) w (shown-length s) numbers c j 0 inside hj
     ∙ ap (λ n. getD (shownWords s n) j 0) (numbers-at 0 (s .settings .cells) c 0 hc ∙ zero-add c)
 
@@ -110,15 +113,15 @@ freeWords-rest D next (suc j) h l = getD-replicate {A = ℕ} (5 + 2 * D) j 0 0 (
 
 -- Which cells stand
 
-pub place-here : (c : ℕ) (p : Place) (ps : List Place) → p .entry .cell ≡ c → placeOf c (p ∷ ps) ≡ some p
+pub place-here : (c : ℕ) (p : Place) (ps : List Place) → p .node .cell ≡ c → placeOf c (p ∷ ps) ≡ some p
 unfolding placeOf
-place-here c p ps e = rw (eq-eqb (p .entry .cell) c e) refl
+place-here c p ps e = rw (eq-eqb (p .node .cell) c e) refl
 
-pub place-past : (c : ℕ) (p : Place) (ps : List Place) → (p .entry .cell ≡ c → ⊥) → placeOf c (p ∷ ps) ≡ placeOf c ps
+pub place-past : (c : ℕ) (p : Place) (ps : List Place) → (p .node .cell ≡ c → ⊥) → placeOf c (p ∷ ps) ≡ placeOf c ps
 unfolding placeOf
-place-past c p ps ne = rw (ne-eqb (p .entry .cell) c ne) refl
+place-past c p ps ne = rw (ne-eqb (p .node .cell) c ne) refl
 
-pub place-none : (c : ℕ) (ps : List Place) → All (λ p. p .entry .cell ≡ c → ⊥) ps → placeOf c ps ≡ none
+pub place-none : (c : ℕ) (ps : List Place) → All (λ p. p .node .cell ≡ c → ⊥) ps → placeOf c ps ≡ none
 unfolding placeOf
 place-none c [] a = refl
 place-none c (p ∷ ps) a = place-past c p ps (a .0) ∙ place-none c ps (a .1)
@@ -126,52 +129,52 @@ place-none c (p ∷ ps) a = place-past c p ps (a .0) ∙ place-none c ps (a .1)
 -- what is known of a place that was found
 abbrev pub Told : (Place → Type 0) → ℕ → Option Place → Type 0
 Told P c none = Unit {0}
-Told P c (some x) = (x .entry .cell ≡ c) × P x
+Told P c (some x) = (x .node .cell ≡ c) × P x
 
 pub told : (P : Place → Type 0) (c : ℕ) (ps : List Place) → All P ps → Told P c (placeOf c ps)
 unfolding placeOf
 told P c [] a = tt
-told P c (p ∷ ps) a = at (ℕ-discrete (p .entry .cell) c) (told P c ps (a .1))
+told P c (p ∷ ps) a = at (ℕ-discrete (p .node .cell) c) (told P c ps (a .1))
   where
-    at : Dec (p .entry .cell ≡ c) → Told P c (placeOf c ps) → Told P c (cond (eqb (p .entry .cell) c) (some p) (placeOf c ps))
-    at (yes e) more = rw (eq-eqb (p .entry .cell) c e) (e, a .0)
-    at (no ne) more = rw (ne-eqb (p .entry .cell) c ne) more
+    at : Dec (p .node .cell ≡ c) → Told P c (placeOf c ps) → Told P c (cond (eqb (p .node .cell) c) (some p) (placeOf c ps))
+    at (yes e) more = rw (eq-eqb (p .node .cell) c e) (e, a .0)
+    at (no ne) more = rw (ne-eqb (p .node .cell) c ne) more
 
-places-distinct : (ps : List Place) → Distinct (map (λ p. p .entry .cell) ps) → All (λ p. placeOf (p .entry .cell) ps ≡ some p) ps
+places-distinct : (ps : List Place) → Distinct (map (λ p. p .node .cell) ps) → All (λ p. placeOf (p .node .cell) ps ≡ some p) ps
 places-distinct [] d = tt
 places-distinct (p ∷ ps) d = (
-  place-here (p .entry .cell) p ps refl,
-  all-zip (λ q ne found. place-past (q .entry .cell) p ps ne ∙ found) ps
-      (all-of-map (λ c. p .entry .cell ≡ c → ⊥) (λ q. q .entry .cell) ps (d .0))
+  place-here (p .node .cell) p ps refl,
+  all-zip (λ q ne found. place-past (q .node .cell) p ps ne ∙ found) ps
+      (all-of-map (λ c. p .node .cell ≡ c → ⊥) (λ q. q .node .cell) ps (d .0))
       (places-distinct ps (d .1)),
 )
 
-placesAfter-cells : (b D : ℕ) (a : Entry) (e : ℕ) (row : List Entry) → map (λ p. p .entry .cell) (placesAfter b D a e row) ≡ map (λ x. x .cell) row
+placesAfter-cells : (b D : ℕ) (a : Node) (e : ℕ) (row : List Node) → map (λ p. p .node .cell) (placesAfter b D a e row) ≡ map (λ x. x .cell) row
 unfolding placesAfter
 placesAfter-cells b D a e [] = refl
 placesAfter-cells b D a e (x ∷ row) = ap (λ cs. x .cell ∷ cs) (placesAfter-cells b D x (shared b D (a .key) (x .key)) row)
 
 -- the cells of the places are the head and the cells of the row
-pub places-cells : (b D : ℕ) (row : List Entry) → map (λ p. p .entry .cell) (places b D row) ≡ 0 ∷ map (λ x. x .cell) row
+pub places-cells : (b D : ℕ) (row : List Node) → map (λ p. p .node .cell) (places b D row) ≡ 0 ∷ map (λ x. x .cell) row
 unfolding places
-places-cells b D row = ap (λ cs. 0 ∷ cs) (placesAfter-cells b D headEntry 0 row)
+places-cells b D row = ap (λ cs. 0 ∷ cs) (placesAfter-cells b D headNode 0 row)
 
--- what all entries of a row have, the first and the later ones of each place have
-pub first-has : (P : Entry → Type 0) (row : List Entry) → All P row → 0 < length row → P (firstOf row)
+-- what all nodes of a row have, the first and the later ones of each place have
+pub first-has : (P : Node → Type 0) (row : List Node) → All P row → 0 < length row → P (firstOf row)
 first-has P [] a h = absurd (omega arith)
 first-has P (x ∷ row) a h = a .0
 
-later-after : (P : Entry → Type 0) (b D : ℕ) (a : Entry) (e : ℕ) (row : List Entry) → All P row → All (λ p. All P (p .later)) (placesAfter b D a e row)
+later-after : (P : Node → Type 0) (b D : ℕ) (a : Node) (e : ℕ) (row : List Node) → All P row → All (λ p. All P (p .later)) (placesAfter b D a e row)
 unfolding placesAfter
 later-after P b D a e [] h = tt
 later-after P b D a e (x ∷ row) h = (h .1, later-after P b D x (shared b D (a .key) (x .key)) row (h .1))
 
-pub places-later : (P : Entry → Type 0) (b D : ℕ) (row : List Entry) → All P row → All (λ p. All P (p .later)) (places b D row)
+pub places-later : (P : Node → Type 0) (b D : ℕ) (row : List Node) → All P row → All (λ p. All P (p .later)) (places b D row)
 unfolding places
-places-later P b D row h = (h, later-after P b D headEntry 0 row h)
+places-later P b D row h = (h, later-after P b D headNode 0 row h)
 
 -- each standing cell is found at its place, and a free cell is no standing one
-pub place-found : (s : State) → Sound s → All (λ p. placeOf (p .entry .cell) (places (s .settings .base) (s .settings .dimensions) (s .row)) ≡ some p) (places (s .settings .base) (s .settings .dimensions) (s .row))
+pub place-found : (s : State) → Sound s → All (λ p. placeOf (p .node .cell) (places (s .settings .base) (s .settings .dimensions) (s .row)) ≡ some p) (places (s .settings .base) (s .settings .dimensions) (s .row))
 place-found s v =
     let b = s .settings .base in
     let D = s .settings .dimensions in
@@ -182,6 +185,6 @@ pub free-found : (s : State) → Sound s → All (λ c. placeOf c (places (s .se
 free-found s v =
     let ps = places (s .settings .base) (s .settings .dimensions) (s .row) in
     all-map (λ c apart.
-    place-none c ps (all-of-map (λ x. x ≡ c → ⊥) (λ p. p .entry .cell) ps
+    place-none c ps (all-of-map (λ x. x ≡ c → ⊥) (λ p. p .node .cell) ps
     (subst (All (λ x. x ≡ c → ⊥)) (sym (places-cells (s .settings .base) (s .settings .dimensions) (s .row))) apart)))
     (s .free) (distinct-apart (0 ∷ map (λ x. x .cell) (s .row)) (s .free) (cells-distinct s v))

@@ -6,27 +6,27 @@ use Prim.Native.Nat.{ℕ, _*_, _-_, _^_, _≤_, _<_}
 use native.Mathlib.Omega.{arith}
 use lib.ListN.{length}
 use Rattle.settings.specs.Numbers.{baseOf}
-use Rattle.meaning.specs.State.{State, occurrences}
+use Rattle.lists.specs.Lists.{occurrences}
+use Rattle.lists.proofs.Occurrences.{distinct-once}
+use Rattle.meaning.specs.State.{State}
 use Rattle.meaning.specs.Picture.{picture}
 use Rattle.meaning.specs.Reading.{read, isList}
 use Rattle.meaning.specs.Refusals.{Outcome, badKey, refused}
 use Rattle.meaning.specs.Operations.{looked, insertOut, findOut}
 use Rattle.meaning.specs.Calls.{outcome}
 use Rattle.meaning.specs.Rule.{rule}
-use Rattle.meaning.specs.Words.{keyAt}
+use Rattle.meaning.specs.Words.{keyAt, dimensionsAt, largestAt, baseAt}
 use Rattle.meaning.specs.Walk.{walk, walkFrom, ends}
-use Rattle.meaning.specs.Sentences.{dimensionsAt, largestAt, baseAt}
 use Rattle.meaning.specs.Book.{standingKeys}
 use Rattle.meaning.specs.Promises.{ListsStayLists, CallsKeepLists, RefusedAltersNothing, Looks, answersLooked, LookedIsWalk, PresentMeansThatKey, TakesInTurn, TakesEnd, CallsAreBooked, FindWritesNothing, TakeWrites, ReviveWrites, InsertWrites, FinishWrites, SweepWrites, EachCellOnce, SweptCellsFirst, InsertUsesFirst, SharedMeansLeading, ListMeansSentences, WalkIsRule, WalkOnce, WalkBounded, WalkEnds, WalkByKeysAlone, OrderIsLexicographic, OneOutcome}
 use Rattle.meaning.proofs.Keys.{shared-agreed, lexicographic, coordinates-determine}
-use Rattle.meaning.proofs.Places.{distinct-once}
 use Rattle.meaning.proofs.Ascending.{asc-rising, rising-equal}
 use Rattle.meaning.proofs.State.{Sound, base-positive, base-above}
 use Rattle.meaning.proofs.Reading.{list-sound, picture-is-list, read-of-picture}
 use Rattle.meaning.proofs.Outcomes as outcomes
 use Rattle.meaning.proofs.Outcomes.{on-lists, insert-outcome-bad-key, insert-outcome-live, insert-outcome-dead, insert-outcome-full, insert-outcome-new, find-outcome-bad-key, find-outcome-absent, find-outcome-dead, find-outcome-live, key-cases, live-cases, free-cases}
 use Rattle.meaning.proofs.Book as book
-use Rattle.meaning.proofs.Leaves as leaves
+use Rattle.meaning.proofs.Writes as leaves
 use Rattle.meaning.proofs.Serves as serves
 use Rattle.meaning.proofs.BookPresent as present
 use Rattle.meaning.proofs.Walk as walks

@@ -11,30 +11,30 @@ use native.Mathlib.Omega.{arith}
 use lib.Dec.{eqb, ltb}
 use lib.ListN.{length}
 use borrow.Author.Tests.{lt-ltb, le-ltb, eq-eqb, ne-eqb}
+use Rattle.lists.proofs.Occurrences.{Distinct}
+use Rattle.lists.proofs.All.{All, all-map, all-of-map, all-mapped}
 use Rattle.meaning.specs.Keys.{coordinate, shared}
-use Rattle.meaning.specs.Row.{Entry, firstSharing, Place, placesAfter}
+use Rattle.meaning.specs.Row.{Node, firstSharing, Place, placesAfter}
 use Rattle.meaning.specs.Rule.{rule}
-use Rattle.meaning.proofs.Order.{All, Asc, all-map, asc-weaken, asc-above}
+use Rattle.meaning.proofs.Order.{Asc, asc-weaken, asc-above}
 use Rattle.meaning.proofs.Keys.{shared-same, shared-less, ultra, coordinate-below, coordinate-less}
-use Rattle.meaning.proofs.Cells.{Distinct, all-of-map}
-use Rattle.meaning.proofs.Places.{all-mapped}
 use Rattle.meaning.proofs.Rule.{keys, met, none-met, rule-is-met}
 use Rattle.meaning.proofs.Parent.{sharing-behind}
 
-all-cond : (P : Entry → Type 0) (t : Bool) (xs ys : List Entry) → All P xs → All P ys → All P (cond t xs ys)
+all-cond : (P : Node → Type 0) (t : Bool) (xs ys : List Node) → All P xs → All P ys → All P (cond t xs ys)
 all-cond P true xs ys a c = a
 all-cond P false xs ys a c = c
 
--- The entries gone to for k from key x below k, of the later entries: the first that shares with x just what k shares with it, and on
+-- The nodes gone to for k from key x below k, of the later nodes: the first that shares with x just what k shares with it, and on
 -- from there if it is below k.
-unfoldable pub rowWalk : ℕ → ℕ → ℕ → ℕ → List Entry → List Entry
+unfoldable pub rowWalk : ℕ → ℕ → ℕ → ℕ → List Node → List Node
 rowWalk b D k x [] = []
 rowWalk b D k x (y ∷ later) =
     cond (eqb (shared b D x (y .key)) (shared b D x k)) (y ∷ cond (ltb (y .key) k) (rowWalk b D k (y .key) later) []) (rowWalk b D k x later)
 
--- The entries gone to are entries of the row, in its order.
+-- The nodes gone to are nodes of the row, in its order.
 
-pub row-walk-all : (P : Entry → Type 0) (b D k x : ℕ) (row : List Entry) → All P row → All P (rowWalk b D k x row)
+pub row-walk-all : (P : Node → Type 0) (b D k x : ℕ) (row : List Node) → All P row → All P (rowWalk b D k x row)
 unfolding rowWalk
 row-walk-all P b D k x [] a = tt
 row-walk-all P b D k x (y ∷ row) a =
@@ -42,7 +42,7 @@ row-walk-all P b D k x (y ∷ row) a =
     (a .0, all-cond P (ltb (y .key) k) (rowWalk b D k (y .key) row) [] (row-walk-all P b D k (y .key) row (a .1)) tt) (row-walk-all P b D k x row (a .1))
 
 -- each at most once, if no cell is twice in the row
-pub row-walk-distinct : (b D k x : ℕ) (row : List Entry) → Distinct (map (λ y. y .cell) row) → Distinct (map (λ y. y .cell) (rowWalk b D k x row))
+pub row-walk-distinct : (b D k x : ℕ) (row : List Node) → Distinct (map (λ y. y .cell) row) → Distinct (map (λ y. y .cell) (rowWalk b D k x row))
 unfolding rowWalk
 row-walk-distinct b D k x [] a = tt
 row-walk-distinct b D k x (y ∷ row) a =
@@ -59,22 +59,22 @@ row-walk-distinct b D k x (y ∷ row) a =
     go true false on past = (tt, tt)
     go false u on past = past
 
--- Where the walk goes from x: the place of the entry that link d leads to, d being what x and k share. What holds of all later places
+-- Where the walk goes from x: the place of the node that link d leads to, d being what x and k share. What holds of all later places
 -- holds of it and of those after it.
-pub record Next (b D k x : ℕ) (later : List Entry) (R : Place → Type 0) : Type 0 where
+pub record Next (b D k x : ℕ) (later : List Node) (R : Place → Type 0) : Type 0 where
   pub to : Place
-  pub leads : firstSharing b D x (shared b D x k) later ≡ to .entry .cell
-  pub gone : rowWalk b D k x later ≡ to .entry ∷ cond (ltb (to .entry .key) k) (rowWalk b D k (to .entry .key) (to .later)) []
-  pub above : x < to .entry .key
-  pub shares : shared b D x (to .entry .key) ≡ shared b D x k
+  pub leads : firstSharing b D x (shared b D x k) later ≡ to .node .cell
+  pub gone : rowWalk b D k x later ≡ to .node ∷ cond (ltb (to .node .key) k) (rowWalk b D k (to .node .key) (to .later)) []
+  pub above : x < to .node .key
+  pub shares : shared b D x (to .node .key) ≡ shared b D x k
   pub dimension : to .dimension ≡ shared b D x k
   pub holds : R to
-  pub after : All R (placesAfter b D (to .entry) (to .dimension) (to .later))
-  pub ascends : Asc (to .entry .key) (to .later)
-  pub passed : All (λ y. y .key < to .entry .key → shared b D x k < shared b D x (y .key)) later
+  pub after : All R (placesAfter b D (to .node) (to .dimension) (to .later))
+  pub ascends : Asc (to .node .key) (to .later)
+  pub passed : All (λ y. y .key < to .node .key → shared b D x k < shared b D x (y .key)) later
 
 -- Or there is no link, and the walk ends.
-pub record Stop (b D k x : ℕ) (later : List Entry) : Type 0 where
+pub record Stop (b D k x : ℕ) (later : List Node) : Type 0 where
   pub leads : firstSharing b D x (shared b D x k) later ≡ 0
   pub gone : rowWalk b D k x later ≡ []
   pub passed : All (λ y. y .key ≤ k → shared b D x k < shared b D x (y .key)) later
@@ -82,8 +82,8 @@ pub record Stop (b D k x : ℕ) (later : List Entry) : Type 0 where
 module _ (b D k : ℕ) (pos : 0 < b) (some : 0 < D) where
   -- Where the walk goes next.
 
-  -- behind an entry that shares less with x than k does, nothing is gone to
-  row-walk-none : (x y : ℕ) (row : List Entry) → x ≤ y → shared b D x y < shared b D x k → Asc y row → rowWalk b D k x row ≡ []
+  -- behind a node that shares less with x than k does, nothing is gone to
+  row-walk-none : (x y : ℕ) (row : List Node) → x ≤ y → shared b D x y < shared b D x k → Asc y row → rowWalk b D k x row ≡ []
   unfolding rowWalk
   row-walk-none x y [] h l asc = refl
   row-walk-none x y (z ∷ row) h l asc =
@@ -91,8 +91,8 @@ module _ (b D k : ℕ) (pos : 0 < b) (some : 0 < D) where
       let u = ultra b D x y (z .key) pos h (omega arith) in
       rw (ne-eqb (shared b D x (z .key)) (shared b D x k) (λ e. omega arith)) (row-walk-none x (z .key) row (omega arith) (omega arith) (asc .1))
 
-  -- an entry passed over: it shares more with x than k does
-  next-past : (R : Place → Type 0) (y : Entry) (later : List Entry) (x : ℕ) → shared b D x k < shared b D x (y .key) →
+  -- a node passed over: it shares more with x than k does
+  next-past : (R : Place → Type 0) (y : Node) (later : List Node) (x : ℕ) → shared b D x k < shared b D x (y .key) →
       Stop b D k x later ⊎ Next b D k x later R → Stop b D k x (y ∷ later) ⊎ Next b D k x (y ∷ later) R
   unfolding firstSharing rowWalk
   next-past R y later x more (inl t) =
@@ -114,8 +114,8 @@ module _ (b D k : ℕ) (pos : 0 < b) (some : 0 < D) where
         passed = ((λ h. more), t .passed);
       })
 
-  -- an entry that shares less: it is beyond k
-  next-none : (y : Entry) (later : List Entry) (x : ℕ) → x ≤ y .key → shared b D x (y .key) < shared b D x k → Asc (y .key) later → Stop b D k x (y ∷ later)
+  -- a node that shares less: it is beyond k
+  next-none : (y : Node) (later : List Node) (x : ℕ) → x ≤ y .key → shared b D x (y .key) < shared b D x k → Asc (y .key) later → Stop b D k x (y ∷ later)
   unfolding firstSharing rowWalk
   next-none y later x h less asc =
       let test = ne-eqb (shared b D x (y .key)) (shared b D x k) (λ e. omega arith) in
@@ -129,7 +129,7 @@ module _ (b D k : ℕ) (pos : 0 < b) (some : 0 < D) where
       beyond l = absurd (let u = ultra b D x (y .key) k pos h l in omega arith)
 
   -- the next place, if all up to a share more with x than k does
-  next-from : (R : Place → Type 0) (later : List Entry) (x : ℕ) (a : Entry) (e : ℕ) → x ≤ a .key → shared b D x k < shared b D x (a .key) → Asc (a .key) later →
+  next-from : (R : Place → Type 0) (later : List Node) (x : ℕ) (a : Node) (e : ℕ) → x ≤ a .key → shared b D x k < shared b D x (a .key) → Asc (a .key) later →
       All R (placesAfter b D a e later) → Stop b D k x later ⊎ Next b D k x later R
   unfolding firstSharing placesAfter rowWalk
   next-from R [] x a e h near asc all = inl (record { leads = refl; gone = refl; passed = tt })
@@ -143,7 +143,7 @@ module _ (b D k : ℕ) (pos : 0 < b) (some : 0 < D) where
           let m = asc .0 in
           inr
           (record {
-            to = record { entry = y; dimension = shared b D (a .key) (y .key); before = a; beforeDimension = e; later = later };
+            to = record { node = y; dimension = shared b D (a .key) (y .key); before = a; beforeDimension = e; later = later };
             leads = rw (eq-eqb (shared b D x (y .key)) (shared b D x k) q) refl;
             gone = rw (eq-eqb (shared b D x (y .key)) (shared b D x k) q) refl;
             above = omega arith;
@@ -158,17 +158,17 @@ module _ (b D k : ℕ) (pos : 0 < b) (some : 0 < D) where
       go (no n) (no le) rest = let m = asc .0 in next-past R y later x (omega arith) (rest (omega arith) (omega arith) (asc .1) (all .1))
 
   -- from a place below k
-  pub next : (R : Place → Type 0) (p : Place) → p .entry .key < k → Asc (p .entry .key) (p .later) → All R (placesAfter b D (p .entry) (p .dimension) (p .later)) →
-      Stop b D k (p .entry .key) (p .later) ⊎ Next b D k (p .entry .key) (p .later) R
+  pub next : (R : Place → Type 0) (p : Place) → p .node .key < k → Asc (p .node .key) (p .later) → All R (placesAfter b D (p .node) (p .dimension) (p .later)) →
+      Stop b D k (p .node .key) (p .later) ⊎ Next b D k (p .node .key) (p .later) R
   next R p h asc all =
-      let less = shared-less b D (p .entry .key) k some (omega arith) in
-      let same = shared-same b D (p .entry .key) in
-      next-from R (p .later) (p .entry .key) (p .entry) (p .dimension) (omega arith) (omega arith) asc all
+      let less = shared-less b D (p .node .key) k some (omega arith) in
+      let same = shared-same b D (p .node .key) in
+      next-from R (p .later) (p .node .key) (p .node) (p .dimension) (omega arith) (omega arith) asc all
 
-  -- The walk over the row goes to the entries met.
+  -- The walk over the row goes to the nodes met.
 
   -- from x the walk has passed over all up to a
-  row-walk-met-from : (row : List Entry) (x a : ℕ) → x ≤ a → a < k → shared b D x k < shared b D x a → Asc a row → rowWalk b D k x row ≡ met b D k a row
+  row-walk-met-from : (row : List Node) (x a : ℕ) → x ≤ a → a < k → shared b D x k < shared b D x a → Asc a row → rowWalk b D k x row ≡ met b D k a row
   unfolding rowWalk met
   row-walk-met-from [] x a h l near asc = refl
   row-walk-met-from (y ∷ row) x a h l near asc =
@@ -212,14 +212,14 @@ module _ (b D k : ℕ) (pos : 0 < b) (some : 0 < D) where
             none-met b D k (y .key) row m (asc .1),
           ) (row-walk-none x (y .key) row (omega arith) (omega arith) (asc .1))
 
-  -- the walk from x goes to the entries met after it
-  row-walk-met : (row : List Entry) (x : ℕ) → x < k → Asc x row → rowWalk b D k x row ≡ met b D k x row
+  -- the walk from x goes to the nodes met after it
+  row-walk-met : (row : List Node) (x : ℕ) → x < k → Asc x row → rowWalk b D k x row ≡ met b D k x row
   row-walk-met row x h asc =
       let less = shared-less b D x k some (omega arith) in
       let same = shared-same b D x in
       row-walk-met-from row x x (omega arith) h (omega arith) asc
 
-  pub row-walk-is-rule : (row : List Entry) → 1 ≤ k → k < b ^ D → Asc 0 row → All (λ x. x .key < b ^ D) row → keys (rowWalk b D k 0 row) ≡ rule b D (keys row) k
+  pub row-walk-is-rule : (row : List Node) → 1 ≤ k → k < b ^ D → Asc 0 row → All (λ x. x .key < b ^ D) row → keys (rowWalk b D k 0 row) ≡ rule b D (keys row) k
   row-walk-is-rule row h kfits asc fits = ap keys (row-walk-met row 0 (omega arith) asc) ∙ sym (rule-is-met b D k pos some kfits row asc fits)
 
   -- The bound.
@@ -250,7 +250,7 @@ module _ (b D k : ℕ) (pos : 0 < b) (some : 0 < D) where
           let digit = coordinate-below b D y (shared b D x k) pos in
           omega arith
 
-  row-walk-bounded-from : (row : List Entry) (x : ℕ) → x < k → Asc x row → All (λ y. y .key < b ^ D) row →
+  row-walk-bounded-from : (row : List Node) (x : ℕ) → x < k → Asc x row → All (λ y. y .key < b ^ D) row →
       length (rowWalk b D k x row) + (shared b D x k * (b - 1) + coordinate b D x (shared b D x k)) ≤ D * (b - 1)
   unfolding rowWalk
   row-walk-bounded-from [] x h asc fits = let room = row-room x h in omega arith
@@ -273,5 +273,5 @@ module _ (b D k : ℕ) (pos : 0 < b) (some : 0 < D) where
           rw (eq-eqb (shared b D x (y .key)) (shared b D x k) e, le-ltb (y .key) k m) (omega arith)
 
   -- "the figure is at most D(b-1)"
-  pub row-walk-bounded : (row : List Entry) → 1 ≤ k → Asc 0 row → All (λ x. x .key < b ^ D) row → length (rowWalk b D k 0 row) ≤ D * (b - 1)
+  pub row-walk-bounded : (row : List Node) → 1 ≤ k → Asc 0 row → All (λ x. x .key < b ^ D) row → length (rowWalk b D k 0 row) ≤ D * (b - 1)
   row-walk-bounded row h asc fits = let t = row-walk-bounded-from row 0 h asc fits in omega arith

@@ -8,14 +8,17 @@ use native.Mathlib.Decide.{decLe, ℕ-discrete}
 use native.Mathlib.Omega.{arith}
 use lib.Dec.{eqb, leb, ltb}
 use borrow.Author.Tests.{ltb-true, leb-true, eqb-true, lt-ltb, le-ltb, le-leb, lt-leb, eq-eqb, ne-eqb}
+use Rattle.lists.specs.Lists.{every}
+use Rattle.lists.proofs.All.{All, all-every}
+use Rattle.lists.proofs.Tests.{both, and-both, tests-same}
 use Rattle.meaning.specs.Keys.{coordinate, shared}
-use Rattle.meaning.specs.Row.{Entry, every}
+use Rattle.meaning.specs.Row.{Node}
 use Rattle.meaning.specs.Rule.{counted, leastAbove, plusOne, rule}
-use Rattle.meaning.proofs.Order.{All, Asc, asc-above, both, and-both, all-every, tests-same}
+use Rattle.meaning.proofs.Order.{Asc, asc-above}
 use Rattle.meaning.proofs.Keys.{shared-same, shared-sym, shared-less, ultra, triangle, coordinate-same, coordinate-less}
 
 -- the keys of a row
-abbrev pub keys : List Entry → List ℕ
+abbrev pub keys : List Node → List ℕ
 keys row = map (λ x. x .key) row
 
 -- the rule's test of a key and the one before it, for the keys counted
@@ -27,13 +30,13 @@ counts b D k before x =
 abbrev pub meets : ℕ → ℕ → ℕ → ℕ → ℕ → Bool
 meets b D k before x = ltb before k && eqb (shared b D before k) (shared b D before x)
 
--- the entries met for k, of a row in ascending order, where `before` is the key before it
-unfoldable pub met : ℕ → ℕ → ℕ → ℕ → List Entry → List Entry
+-- the nodes met for k, of a row in ascending order, where `before` is the key before it
+unfoldable pub met : ℕ → ℕ → ℕ → ℕ → List Node → List Node
 met b D k before [] = []
 met b D k before (x ∷ row) = cond (meets b D k before (x .key)) (x ∷ met b D k (x .key) row) (met b D k (x .key) row)
 
 -- from k on no key is met
-pub none-met : (b D k a : ℕ) (row : List Entry) → k ≤ a → Asc a row → met b D k a row ≡ []
+pub none-met : (b D k a : ℕ) (row : List Node) → k ≤ a → Asc a row → met b D k a row ≡ []
 unfolding met
 none-met b D k a [] h asc = refl
 none-met b D k a (x ∷ row) h asc = rw (le-ltb a k h) (none-met b D k (x .key) row (let l = asc .0 in omega arith) (asc .1))
@@ -56,20 +59,20 @@ absorbed false true u f = absurd (let e = f refl in let z : _≡_ {A = ℕ} 0 1 
 absorbed false false u f = refl
 
 -- one key counted by the first half of the rule or else by the second
-halves : (c m : Bool) (x : Entry) → (c ≡ true → m ≡ true) →
+halves : (c m : Bool) (x : Node) → (c ≡ true → m ≡ true) →
     cond c (x .key ∷ []) [] ++ cond (m && not c) (x .key ∷ []) [] ≡ keys (cond m (x ∷ []) [])
 halves true m x f = rw (f refl) refl
 halves false true x f = refl
 halves false false x f = refl
 
 -- The rule from a key a on, and that what its second half asks of all keys is what it asks of a and the later ones.
-abbrev RuleFrom : ℕ → ℕ → ℕ → List Entry → ℕ → List Entry → Type 0
+abbrev RuleFrom : ℕ → ℕ → ℕ → List Node → ℕ → List Node → Type 0
 RuleFrom b D k all a row = counted b D k a (keys row) ++ plusOne b D k (keys all) (leastAbove k (keys row)) ≡ keys (met b D k a row)
 
-abbrev Most : ℕ → ℕ → ℕ → List Entry → ℕ → List Entry → Type 0
+abbrev Most : ℕ → ℕ → ℕ → List Node → ℕ → List Node → Type 0
 Most b D k all a row = (s : ℕ) → every (λ z. leb (shared b D z k) s) (0 ∷ keys all) ≡ every (λ z. leb (shared b D z k) s) (a ∷ keys row)
 
-abbrev Fresh : ℕ → ℕ → ℕ → List Entry → ℕ → List Entry → Type 0
+abbrev Fresh : ℕ → ℕ → ℕ → List Node → ℕ → List Node → Type 0
 Fresh b D k all a row = (y : ℕ) → k < y → every (λ z. not (eqb z y)) (counted b D k 0 (keys all)) ≡ every (λ z. not (eqb z y)) (counted b D k a (keys row))
 
 module _ (b D k : ℕ) (pos : 0 < b) (some : 0 < D) (kfits : k < b ^ D) where
@@ -109,7 +112,7 @@ module _ (b D k : ℕ) (pos : 0 < b) (some : 0 < D) (kfits : k < b ^ D) where
   counted-just-met a x h xfits l = tests-same (counts b D k a x) (meets b D k a x) (counted-met a x h xfits) (met-counted a x h xfits l)
 
   -- from k on no key is counted
-  none-counted : (a : ℕ) (row : List Entry) → k ≤ a → Asc a row → All (λ x. x .key < b ^ D) row → counted b D k a (keys row) ≡ []
+  none-counted : (a : ℕ) (row : List Node) → k ≤ a → Asc a row → All (λ x. x .key < b ^ D) row → counted b D k a (keys row) ≡ []
   unfolding counted
   none-counted a [] h asc fits = refl
   none-counted a (x ∷ row) h asc fits = go (counts b D k a (x .key)) refl (none-counted (x .key) row (let l = asc .0 in omega arith) (asc .1) (fits .1))
@@ -137,10 +140,10 @@ module _ (b D k : ℕ) (pos : 0 < b) (some : 0 < D) (kfits : k < b ^ D) where
           rw (lt-ltb a k (omega arith), ne-eqb (shared b D a k) (shared b D a x) (λ e. omega arith), lt-leb (shared b D a k) (shared b D x k) (omega arith)) refl
 
   -- no later key shares more with k than the least key above k does
-  later-share-less : (x : ℕ) (row : List Entry) → k < x → Asc x row → every (λ z. leb (shared b D z k) (shared b D x k)) (keys row) ≡ true
+  later-share-less : (x : ℕ) (row : List Node) → k < x → Asc x row → every (λ z. leb (shared b D z k) (shared b D x k)) (keys row) ≡ true
   later-share-less x row h asc = all-every (λ z. leb (shared b D z k) (shared b D x k)) (keys row) (all-keys row (asc-above x row asc))
     where
-      all-keys : (later : List Entry) → All (λ y. x < y .key) later → All (λ z. leb (shared b D z k) (shared b D x k) ≡ true) (keys later)
+      all-keys : (later : List Node) → All (λ y. x < y .key) later → All (λ z. leb (shared b D z k) (shared b D x k) ≡ true) (keys later)
       all-keys [] l = tt
       all-keys (y ∷ later) l =
           let m = l .0 in
@@ -148,20 +151,20 @@ module _ (b D k : ℕ) (pos : 0 < b) (some : 0 < D) (kfits : k < b ^ D) where
           (le-leb (shared b D (y .key) k) (shared b D x k) (omega (arith, shared-sym b D x k, shared-sym b D (y .key) k)), all-keys later (l .1))
 
   -- What the rule's second half asks of all keys, from a key a on: up to k each key shares with k at least what the one before does.
-  most-before : (s a : ℕ) (x : Entry) (row : List Entry) → a < x .key → x .key ≤ k →
+  most-before : (s a : ℕ) (x : Node) (row : List Node) → a < x .key → x .key ≤ k →
       every (λ z. leb (shared b D z k) s) (a ∷ keys (x ∷ row)) ≡ every (λ z. leb (shared b D z k) s) (keys (x ∷ row))
   unfolding every
   most-before s a x row h l = absorbed (leb (shared b D a k) s) (leb (shared b D (x .key) k) s) (every (λ z. leb (shared b D z k) s) (keys row))
       (λ e. le-leb (shared b D a k) s (let m = leb-true (shared b D (x .key) k) s e in omega (arith, ultra b D a (x .key) k pos (omega arith) l)))
 
-  most-above : (a : ℕ) (x : Entry) (row : List Entry) → k < x .key → Asc (x .key) row →
+  most-above : (a : ℕ) (x : Node) (row : List Node) → k < x .key → Asc (x .key) row →
       every (λ z. leb (shared b D z k) (shared b D (x .key) k)) (a ∷ keys (x ∷ row)) ≡ leb (shared b D a k) (shared b D (x .key) k)
   unfolding every
   most-above a x row h asc =
       rw (le-leb (shared b D (x .key) k) (shared b D (x .key) k) (omega arith), later-share-less (x .key) row h asc) (and-true (leb (shared b D a k) (shared b D (x .key) k)))
 
   -- "not yet counted", from a key a on: a key up to k is not one above k
-  fresh-before : (y a : ℕ) (x : Entry) (row : List Entry) → x .key ≤ k → k < y →
+  fresh-before : (y a : ℕ) (x : Node) (row : List Node) → x .key ≤ k → k < y →
       every (λ z. not (eqb z y)) (counted b D k a (keys (x ∷ row))) ≡ every (λ z. not (eqb z y)) (counted b D k (x .key) (keys row))
   unfolding every counted
   fresh-before y a x row h l = go (counts b D k a (x .key)) refl
@@ -171,7 +174,7 @@ module _ (b D k : ℕ) (pos : 0 < b) (some : 0 < D) (kfits : k < b ^ D) where
       go true e = rw (e, ne-eqb (x .key) y (λ q. omega arith)) refl
       go false e = rw e refl
 
-  counted-above : (a : ℕ) (x : Entry) (row : List Entry) → k < x .key → Asc (x .key) row → All (λ y. y .key < b ^ D) row →
+  counted-above : (a : ℕ) (x : Node) (row : List Node) → k < x .key → Asc (x .key) row → All (λ y. y .key < b ^ D) row →
       counted b D k a (keys (x ∷ row)) ≡ cond (counts b D k a (x .key)) (x .key ∷ []) []
   unfolding counted
   counted-above a x row h asc fits = rw (none-counted (x .key) row (omega arith) asc fits) refl
@@ -181,11 +184,11 @@ module _ (b D k : ℕ) (pos : 0 < b) (some : 0 < D) (kfits : k < b ^ D) where
   fresh-above x true = rw (eq-eqb x x refl) refl
   fresh-above x false = refl
 
-  met-above : (a : ℕ) (x : Entry) (row : List Entry) → k < x .key → Asc (x .key) row → met b D k a (x ∷ row) ≡ cond (meets b D k a (x .key)) (x ∷ []) []
+  met-above : (a : ℕ) (x : Node) (row : List Node) → k < x .key → Asc (x .key) row → met b D k a (x ∷ row) ≡ cond (meets b D k a (x .key)) (x ∷ []) []
   unfolding met
   met-above a x row h asc = rw (none-met b D k (x .key) row (omega arith) asc) refl
 
-  rule-up-to : (all row : List Entry) (x : Entry) (a : ℕ) → a < x .key → x .key < b ^ D → x .key ≤ k →
+  rule-up-to : (all row : List Node) (x : Node) (a : ℕ) → a < x .key → x .key < b ^ D → x .key ≤ k →
       RuleFrom b D k all (x .key) row → RuleFrom b D k all a (x ∷ row)
   unfolding counted leastAbove met
   rule-up-to all row x a h fits l rest = go (meets b D k a (x .key)) refl
@@ -194,7 +197,7 @@ module _ (b D k : ℕ) (pos : 0 < b) (some : 0 < D) (kfits : k < b ^ D) where
       go true e = rw (counted-just-met a (x .key) h fits l, e, le-ltb k (x .key) l) (ap (λ l. x .key ∷ l) rest)
       go false e = rw (counted-just-met a (x .key) h fits l, e, le-ltb k (x .key) l) rest
 
-  plus-above : (all row : List Entry) (x : Entry) (a : ℕ) → k < x .key → Asc (x .key) row → All (λ y. y .key < b ^ D) row →
+  plus-above : (all row : List Node) (x : Node) (a : ℕ) → k < x .key → Asc (x .key) row → All (λ y. y .key < b ^ D) row →
       Most b D k all a (x ∷ row) → Fresh b D k all a (x ∷ row) →
       plusOne b D k (keys all) (leastAbove k (keys (x ∷ row)))
       ≡ cond (leb (shared b D a k) (shared b D (x .key) k) && not (counts b D k a (x .key))) (x .key ∷ []) []
@@ -203,13 +206,13 @@ module _ (b D k : ℕ) (pos : 0 < b) (some : 0 < D) (kfits : k < b ^ D) where
       let shares-most = most (shared b D (x .key) k) ∙ most-above a x row l asc in
       rw (lt-ltb k (x .key) l, shares-most, fresh (x .key) l, counted-above a x row l asc fits, fresh-above (x .key) (counts b D k a (x .key))) refl
 
-  rule-above : (all row : List Entry) (x : Entry) (a : ℕ) → a ≤ k → k < x .key → x .key < b ^ D → Asc (x .key) row → All (λ y. y .key < b ^ D) row →
+  rule-above : (all row : List Node) (x : Node) (a : ℕ) → a ≤ k → k < x .key → x .key < b ^ D → Asc (x .key) row → All (λ y. y .key < b ^ D) row →
       Most b D k all a (x ∷ row) → Fresh b D k all a (x ∷ row) → RuleFrom b D k all a (x ∷ row)
   rule-above all row x a h l xfits asc fits most fresh =
       rw (plus-above all row x a l asc fits most fresh, counted-above a x row l asc fits, met-above a x row l asc, ← above-met a (x .key) h l)
       (halves (counts b D k a (x .key)) (meets b D k a (x .key)) x (counted-met a (x .key) (omega arith) xfits))
 
-  rule-met-from : (all row : List Entry) (a : ℕ) → a ≤ k → Asc a row → All (λ x. x .key < b ^ D) row →
+  rule-met-from : (all row : List Node) (a : ℕ) → a ≤ k → Asc a row → All (λ x. x .key < b ^ D) row →
       Most b D k all a row → Fresh b D k all a row → RuleFrom b D k all a row
   unfolding counted leastAbove plusOne met
   rule-met-from all [] a h asc fits most fresh = refl
@@ -225,6 +228,6 @@ module _ (b D k : ℕ) (pos : 0 < b) (some : 0 < D) (kfits : k < b ^ D) where
       go (no n) rest = rule-above all row x a h (omega arith) (fits .0) (asc .1) (fits .1) most fresh
 
   -- the rule is the list of the keys met
-  pub rule-is-met : (row : List Entry) → Asc 0 row → All (λ x. x .key < b ^ D) row → rule b D (keys row) k ≡ keys (met b D k 0 row)
+  pub rule-is-met : (row : List Node) → Asc 0 row → All (λ x. x .key < b ^ D) row → rule b D (keys row) k ≡ keys (met b D k 0 row)
   unfolding rule
   rule-is-met row asc fits = rule-met-from row row 0 (omega arith) asc fits (λ s. refl) (λ y l. refl)

@@ -7,41 +7,43 @@ use mathlib.Core.Logic.{inr}
 use mathlib.Core.Option.{Option, none, some}
 use Prim.Native.Nat.{ℕ, suc, _≤_, _<_}
 use native.Mathlib.Omega.{arith}
-use Rattle.settings.proofs.Laws.{base-is}
+use Rattle.settings.proofs.Numbers.{base-is}
+use Rattle.lists.specs.Lists.{firstNumber}
+use Rattle.lists.proofs.All.{All, all-in, members}
+use Rattle.lists.proofs.Tests.{both, and-both}
 use Rattle.meaning.specs.Keys.{shared}
-use Rattle.meaning.specs.Row.{headEntry, firstOf, Place, headPlace, settledLink, low, high, between, placeOf}
-use Rattle.meaning.specs.State.{State, positionKey}
-use Rattle.meaning.specs.Picture.{firstNumber, mark, pathWord, picture}
+use Rattle.meaning.specs.Row.{headNode, firstOf, Place, headPlace, settledLink, low, high, between, placeOf}
+use Rattle.meaning.specs.State.{State, positionKey, placesOf}
+use Rattle.meaning.specs.Picture.{mark, pathWord, picture}
 use Rattle.meaning.specs.Reading.{read, isList}
-use Rattle.meaning.specs.Words.{keyAt, valueAt, markAt, owedAt, lowAt, highAt, linkAt}
+use Rattle.meaning.specs.Words.{keyAt, valueAt, markAt, owedAt, lowAt, highAt, linkAt, positionAt}
 use Rattle.meaning.specs.Walk.{linkRead}
-use Rattle.meaning.specs.Sentences.{Standing, sharedAt, positionAt, NextLarger, Dimension, Settled, Chained, FreeChain, Owing, MayOwe, Sharing, OnPath, AList}
-use Rattle.meaning.specs.Sentences.Chained.{ended, onward}
-use Rattle.meaning.proofs.Order.{All, both, and-both}
+use Rattle.meaning.specs.Sentences.{Standing, sharedAt, NextLarger, Dimension, Settled, Chained, FreeChain, Owing, MayOwe, Sharing, OnPath, AList}
+use Rattle.meaning.specs.Sentences.Chained.{ended, chained-on}
 use Rattle.meaning.proofs.Keys.{shared-same, shared-le, shared-sym}
 use Rattle.meaning.proofs.State.{Sound, Debt}
 use Rattle.meaning.proofs.Cells.{free-range, free-distinct}
 use Rattle.meaning.proofs.Picture.{picture-length, picture-path, free-found, places-later}
 use Rattle.meaning.proofs.Reading.{Follow, distinct-follow, position-read, list-is-picture, list-sound}
 use Rattle.meaning.proofs.WalkRead.{between-is, link-read, between-facts, linkDue, linkOwing, link-tested, undue-above, read-through}
-use Rattle.meaning.proofs.Keeps.{cells-positive}
-use Rattle.meaning.proofs.SentencesRow.{all-in, members, Compared, Least, SharesAtLeast, first-with}
+use Rattle.meaning.proofs.KeepsState.{cells-positive}
+use Rattle.meaning.proofs.SentencesRow.{Compared, Least, SharesAtLeast, first-with}
 use Rattle.meaning.proofs.SentencesRow.Led.{head, led}
 use Rattle.meaning.proofs.SentencesRow.Compared.{same, later, earlier}
 use Rattle.meaning.proofs.SentencesRow.Least.{least, nowhere}
-use Rattle.meaning.proofs.SentencesCells.{placesIn, Placed, placed-has, placed-entry, placed-cell, placed-keyOf, head-placed, place-key, place-value, place-mark, place-owed, place-low, place-high, place-coordinate, place-link, place-standing, free-cell-first, free-cell-rest, free-cell-free, cell-standing, cell-unfound, cell-free, free-cell, position-placed, place-unowing}
+use Rattle.meaning.proofs.Placed.{Placed, placed-has, placed-node, placed-cell, placed-keyOf, head-placed, place-key, place-value, place-mark, place-owed, place-low, place-high, place-coordinate, place-link, place-standing, free-cell-first, free-cell-rest, free-cell-free, cell-standing, cell-unfound, cell-free, free-cell, position-placed, place-unowing}
 use Rattle.meaning.proofs.SentencesShape.{NextIn, LedIn, HasPlace, placed-shared, placed-digit, placed-led, placed-compared, next-larger, place-after, place-next-smaller, place-dimension, row-placed, place-settled}
 
 -- What a cell owes
 
 -- cell x, in place p, owes to the cell of place q
 pub record Owes (s : State) (x : ℕ) (p q : Place) : Type 0 where
-  pub placed : Placed s (q .entry .cell) q
+  pub placed : Placed s (q .node .cell) q
   pub next : NextIn s p q
-  pub positive : 0 < q .entry .cell
-  pub unowing : q .entry .owes ≡ false
+  pub positive : 0 < q .node .cell
+  pub unowing : q .node .owes ≡ false
   pub lower : p .dimension < q .dimension
-  pub owed : owedAt (picture s) x ≡ q .entry .cell
+  pub owed : owedAt (picture s) x ≡ q .node .cell
   pub low : lowAt (picture s) x ≡ p .dimension
   pub high : highAt (picture s) x ≡ q .dimension
 
@@ -51,14 +53,14 @@ module _ {s : State} (v : Sound s) where
       placed-has here (λ p. All (λ y. 0 < y .cell) (p .later))
       (places-later (λ y. 0 < y .cell) (s .settings .base) (s .settings .dimensions) (s .row) (cells-positive s v))
 
-  pub place-owes : {x : ℕ} {p : Place} → Placed s x p → p .entry .owes ≡ true → (q : Place) × Owes s x p q
+  pub place-owes : {x : ℕ} {p : Place} → Placed s x p → p .node .owes ≡ true → (q : Place) × Owes s x p q
   place-owes {x} {p} here o =
       let b = s .settings .base in
       let D = s .settings .dimensions in
-      let debt = placed-has here (λ n. n .entry .owes ≡ true → Debt b D n) (v .debts) o in
+      let debt = placed-has here (λ n. n .node .owes ≡ true → Debt b D n) (v .debts) o in
       let (q, there, next) = place-after v here (debt .later) in
-      let first : firstOf (p .later) ≡ q .entry = ap firstOf (next .later) in
-      let high-is = ap (λ y. shared b D (p .entry .key) (y .key)) first ∙ sym (next .dimension) in (
+      let first : firstOf (p .later) ≡ q .node = ap firstOf (next .later) in
+      let high-is = ap (λ y. shared b D (p .node .key) (y .key)) first ∙ sym (next .dimension) in (
         q,
         record {
           placed = there;
@@ -68,15 +70,15 @@ module _ {s : State} (v : Sound s) where
           lower = let h = debt .lower in omega arith;
           owed = place-owed v here ∙ ap (λ t. cond t (firstOf (p .later) .cell) 0) o ∙ ap (λ y. y .cell) first;
           low = place-low v here ∙ ap (λ t. cond t (p .dimension) 0) o;
-          high = place-high v here ∙ ap (λ t. cond t (shared b D (p .entry .key) (firstOf (p .later) .key)) 0) o ∙ high-is;
+          high = place-high v here ∙ ap (λ t. cond t (shared b D (p .node .key) (firstOf (p .later) .key)) 0) o ∙ high-is;
         },
       )
 
   -- a cell whose owed word is not 0 owes
-  pub owed-owes : {x : ℕ} {p : Place} → Placed s x p → 0 < owedAt (picture s) x → p .entry .owes ≡ true
-  owed-owes {x} {p} here h = at (p .entry .owes) refl
+  pub owed-owes : {x : ℕ} {p : Place} → Placed s x p → 0 < owedAt (picture s) x → p .node .owes ≡ true
+  owed-owes {x} {p} here h = at (p .node .owes) refl
     where
-      at : (t : Bool) → p .entry .owes ≡ t → t ≡ true
+      at : (t : Bool) → p .node .owes ≡ t → t ≡ true
       at true e = refl
       at false e = absurd (omega (arith, h, place-unowing v here e .0))
 
@@ -90,21 +92,21 @@ module _ {s : State} (v : Sound s) where
       }
 
   -- the head's place does not owe
-  owes-not-head : {x : ℕ} {p : Place} → Placed s x p → p .entry .owes ≡ true → 0 < x
+  owes-not-head : {x : ℕ} {p : Place} → Placed s x p → p .node .owes ≡ true → 0 < x
   owes-not-head {x} {p} here o = at (placed-led v here)
     where
       at : LedIn s p → 0 < x
-      at (head e) = absurd (false≢true (ap (λ q. q .entry .owes) (sym e) ∙ o))
+      at (head e) = absurd (false≢true (ap (λ q. q .node .owes) (sym e) ∙ o))
       at (led q there next) =
           let h = subst (All (λ y. 0 < y .cell)) (next .later) (later-positive there) .0 in
           omega (arith, placed-cell here)
 
-  owing-true : {x : ℕ} {p : Place} → Placed s x p → p .entry .owes ≡ true → (d : ℕ) → lowAt (picture s) x ≤ d → d < highAt (picture s) x →
+  owing-true : {x : ℕ} {p : Place} → Placed s x p → p .node .owes ≡ true → (d : ℕ) → lowAt (picture s) x ≤ d → d < highAt (picture s) x →
       linkOwing (s .settings .base) (s .settings .dimensions) p d ≡ true
   owing-true {x} {p} here o d h k =
       let b = s .settings .base in
       let D = s .settings .dimensions in
-      and-both (p .entry .owes) (between (low p) (high b D p) d) o
+      and-both (p .node .owes) (between (low p) (high b D p) d) o
       (between-is (low p) (high b D p) d (omega (arith, place-low v here)) (omega (arith, place-high v here)))
 
   -- from the dimension on, the link read through what is owed is the settled one
@@ -112,10 +114,10 @@ module _ {s : State} (v : Sound s) where
       linkRead (picture s) n d ≡ settledLink (s .settings .base) (s .settings .dimensions) p d
   owed-link {n} {p} here d h k =
       ap (λ c. linkRead (picture s) c d) (sym (placed-cell here))
-      ∙ placed-has here (λ p. p .dimension ≤ d → linkRead (picture s) (p .entry .cell) d ≡ settledLink (s .settings .base) (s .settings .dimensions) p d)
+      ∙ placed-has here (λ p. p .dimension ≤ d → linkRead (picture s) (p .node .cell) d ≡ settledLink (s .settings .base) (s .settings .dimensions) p d)
       (link-read s v d h) k
 
-  may-owe : {n : ℕ} {p q : Place} → Placed s n p → p .entry .owes ≡ true → Owes s n p q → MayOwe (picture s) n
+  may-owe : {n : ℕ} {p q : Place} → Placed s n p → p .node .owes ≡ true → Owes s n p q → MayOwe (picture s) n
   may-owe {n} {p} {q} here o owes =
       record {
         not-head = owes-not-head here o;
@@ -142,7 +144,7 @@ module _ {s : State} (v : Sound s) where
       above d h = omega (arith, owes .low)
 
       inside : (d : ℕ) → d < highAt (picture s) n → d < D
-      inside d k = omega (arith, k, owes .high, owes .next .dimension, shared-le b D (p .entry .key) (q .entry .key))
+      inside d k = omega (arith, k, owes .high, owes .next .dimension, shared-le b D (p .node .key) (q .node .key))
 
   -- "So in a list a cell n other than the head may owe, and only so"
   pub debt-sentence : {n : ℕ} {p : Place} → Placed s n p → 0 < owedAt (picture s) n → MayOwe (picture s) n
@@ -163,7 +165,7 @@ module _ {s : State} (v : Sound s) where
 
       not-owing : (t : Bool) → linkOwing b D p d ≡ t → t ≡ false
       not-owing true e =
-          let (owes, inside) = both (p .entry .owes) (between (low p) (high b D p) d) e in
+          let (owes, inside) = both (p .node .owes) (between (low p) (high b D p) d) e in
           let (l, k) = between-facts (low p) (high b D p) d inside in
           let (q, o) = place-owes here owes in
           absurd (own (owing-standing here o d (omega (arith, l, place-low v here, o .low)) (omega (arith, k, place-high v here, o .high))))
@@ -173,9 +175,9 @@ module _ {s : State} (v : Sound s) where
       no-debtor owes l k (head e) = false≢true (ap (λ q. q .before .owes) (sym e) ∙ owes)
       no-debtor owes l k (led q there next) =
           let (r, o) = place-owes there (ap (λ y. y .owes) (sym (next .before)) ∙ owes) in
-          let is : r .entry ≡ p .entry = ap firstOf (sym (o .next .later) ∙ next .later) in
-          let dimension = o .next .dimension ∙ ap (λ y. shared b D (q .entry .key) (y .key)) is ∙ sym (next .dimension) in
-          due-to (q .entry .cell) (owing-standing there o d (omega (arith, l, next .beforeDimension)) (omega arith))
+          let is : r .node ≡ p .node = ap firstOf (sym (o .next .later) ∙ next .later) in
+          let dimension = o .next .dimension ∙ ap (λ y. shared b D (q .node .key) (y .key)) is ∙ sym (next .dimension) in
+          due-to (q .node .cell) (owing-standing there o d (omega (arith, l, next .beforeDimension)) (omega arith))
           (o .owed ∙ ap (λ y. y .cell) is ∙ placed-cell here)
 
       not-due : (t : Bool) → linkDue p d ≡ t → t ≡ false
@@ -187,20 +189,20 @@ module _ {s : State} (v : Sound s) where
 
   -- The path
 
-  entry-member : {x : ℕ} {p : Place} → Placed s x p → List·Memᴰ (p .entry) (headEntry ∷ s .row)
-  entry-member here =
-      let (first, rest) = members (headEntry ∷ s .row) in
-      placed-entry here (λ y. List·Memᴰ y (headEntry ∷ s .row)) first rest
+  node-member : {x : ℕ} {p : Place} → Placed s x p → List·Memᴰ (p .node) (headNode ∷ s .row)
+  node-member here =
+      let (first, rest) = members (headNode ∷ s .row) in
+      placed-node here (λ y. List·Memᴰ y (headNode ∷ s .row)) first rest
 
-  entries-placed : All (HasPlace s) (headEntry ∷ s .row)
-  entries-placed = (record { place = headPlace (s .row); placed = head-placed s; entry = refl }, row-placed v)
+  nodes-placed : All (HasPlace s) (headNode ∷ s .row)
+  nodes-placed = (record { place = headPlace (s .row); placed = head-placed s; node = refl }, row-placed v)
 
   -- c is the least-key standing cell sharing the first n coordinates with x
   abbrev LeastSharing : ℕ → ℕ → ℕ → Type 0
   LeastSharing n x c = Sharing (picture s) x n c × ((y : ℕ) → Sharing (picture s) x n y → keyAt (picture s) c ≤ keyAt (picture s) y)
 
   least-sharing : {x : ℕ} {p : Place} → Placed s x p → (n : ℕ) → n ≤ s .settings .dimensions → {c : ℕ} →
-      Least (SharesAtLeast (s .settings .base) (s .settings .dimensions) (p .entry .key) n) (headEntry ∷ s .row) c → LeastSharing n x c
+      Least (SharesAtLeast (s .settings .base) (s .settings .dimensions) (p .node .key) n) (headNode ∷ s .row) c → LeastSharing n x c
   least-sharing {x} {p} here n h (least y m k a) = (
     record { standing = place-standing v there; shares = omega (arith, k, placed-shared v here there, shares) },
     λ z l. let (r, found) = cell-standing s z (l .standing) in at z r found (l .shares),
@@ -213,22 +215,22 @@ module _ {s : State} (v : Sound s) where
       D = s .settings .dimensions
 
       stands : HasPlace s y
-      stands = all-in (HasPlace s) m entries-placed
+      stands = all-in (HasPlace s) m nodes-placed
 
       there : Placed s (y .cell) (stands .place)
       there = stands .placed
 
-      shares : shared b D (p .entry .key) (stands .place .entry .key) ≡ shared b D (y .key) (p .entry .key)
-      shares = ap (λ e. shared b D (p .entry .key) (e .key)) (stands .entry) ∙ shared-sym b D (p .entry .key) (y .key)
+      shares : shared b D (p .node .key) (stands .place .node .key) ≡ shared b D (y .key) (p .node .key)
+      shares = ap (λ e. shared b D (p .node .key) (e .key)) (stands .node) ∙ shared-sym b D (p .node .key) (y .key)
 
       at : (z : ℕ) (r : Place) → Placed s z r → n ≤ sharedAt (picture s) x z → keyAt (picture s) (y .cell) ≤ keyAt (picture s) z
       at z r found l =
-          let le = all-in (λ z. SharesAtLeast b D (p .entry .key) n z → y .key ≤ z .key) (entry-member found) a
-          (omega (arith, l, placed-shared v here found, shared-sym b D (p .entry .key) (r .entry .key))) in
-          omega (arith, place-key v there, place-key v found, ap (λ e. e .key) (stands .entry))
+          let le = all-in (λ z. SharesAtLeast b D (p .node .key) n z → y .key ≤ z .key) (node-member found) a
+          (omega (arith, l, placed-shared v here found, shared-sym b D (p .node .key) (r .node .key))) in
+          omega (arith, place-key v there, place-key v found, ap (λ e. e .key) (stands .node))
   least-sharing {x} {p} here n h (nowhere a) =
-      absurd (all-in (λ z. SharesAtLeast (s .settings .base) (s .settings .dimensions) (p .entry .key) n z → ⊥) (entry-member here) a
-      (omega (arith, shared-same (s .settings .base) (s .settings .dimensions) (p .entry .key))))
+      absurd (all-in (λ z. SharesAtLeast (s .settings .base) (s .settings .dimensions) (p .node .key) n z → ⊥) (node-member here) a
+      (omega (arith, shared-same (s .settings .base) (s .settings .dimensions) (p .node .key))))
 
   -- "The position is the last cell of the path."
   pub position-is : positionAt (picture s) ≡ s .position
@@ -246,8 +248,8 @@ module _ {s : State} (v : Sound s) where
       let b = s .settings .base in
       let D = s .settings .dimensions in
       let (p, here) = position-placed v in
-      let first = first-with b D (positionKey s) (suc d) headEntry (s .row) (v .ascends) in
-      let found = subst (λ k. Least (SharesAtLeast b D k (suc d)) (headEntry ∷ s .row) (pathWord s d)) (placed-keyOf here) first in
+      let first = first-with b D (positionKey s) (suc d) headNode (s .row) (v .ascends) in
+      let found = subst (λ k. Least (SharesAtLeast b D k (suc d)) (headNode ∷ s .row) (pathWord s d)) (placed-keyOf here) first in
       let (sharing, less) = subst₂ (LeastSharing (suc d)) (sym position-is) (sym (picture-path s d h)) (least-sharing here (suc d) h found) in
       record { sharing = sharing; least = less }
 
@@ -257,17 +259,17 @@ module _ {s : State} (v : Sound s) where
   -- "All standing cells with keys up to the position's are dead."
   pub passed-dead : {x : ℕ} {p : Place} → Placed s x p → keyAt (picture s) x ≤ keyAt (picture s) (positionAt (picture s)) → markAt (picture s) x ≡ 2
   passed-dead {x} {p} here h =
-      let dead = placed-entry here (λ y. y .key ≤ positionKey s → y .live ≡ false) (λ k. refl) (v .dead) in
+      let dead = placed-node here (λ y. y .key ≤ positionKey s → y .live ≡ false) (λ k. refl) (v .dead) in
       place-mark v here ∙ ap mark (dead (omega (arith, h, place-key v here, position-key-is)))
 
   -- The free chain
 
-  chained-from : (cs : List ℕ) → Follow (s .free) cs → All (λ c. (0 < c) × (c < s .settings .cells)) cs → All (λ c. placeOf c (placesIn s) ≡ none) cs →
+  chained-from : (cs : List ℕ) → Follow (s .free) cs → All (λ c. (0 < c) × (c < s .settings .cells)) cs → All (λ c. placeOf c (placesOf s (s .row)) ≡ none) cs →
       Chained (picture s) (firstNumber cs) cs
   chained-from [] f r u = ended
   chained-from (c ∷ cs) f r u =
       let onto = free-cell-first s c (r .0 .1) (u .0) ∙ f .0 in
-      onward (r .0 .0) (subst (λ n. Chained (picture s) n cs) (sym onto) (chained-from cs (f .1) (r .1) (u .1)))
+      chained-on (r .0 .0) (subst (λ n. Chained (picture s) n cs) (sym onto) (chained-from cs (f .1) (r .1) (u .1)))
 
   -- "The chain from word 4 meets every free cell once, no other cell, and ends in 0."
   pub chain-sentence : FreeChain (picture s)
@@ -286,28 +288,28 @@ module _ {s : State} (v : Sound s) where
   pub key-sentence : {x : ℕ} {p : Place} → Placed s x p → 0 < x → (0 < keyAt (picture s) x) × (keyAt (picture s) x ≤ s .settings .largest)
   key-sentence {x} here h =
       let above = place-next-smaller v here h .smaller in
-      let most = placed-entry here (λ y. y .key ≤ s .settings .largest) (omega arith) (v .keys) in
+      let most = placed-node here (λ y. y .key ≤ s .settings .largest) (omega arith) (v .keys) in
       (omega arith, omega (arith, place-key v here))
 
   -- "Mark: 0 free, 1 live, 2 dead."
   mark-sentence : (x : ℕ) → x < s .settings .cells → markAt (picture s) x ≤ 2
-  mark-sentence x h = at (placeOf x (placesIn s)) refl
+  mark-sentence x h = at (placeOf x (placesOf s (s .row))) refl
     where
       of : (live : Bool) → mark live ≤ 2
       of true = omega arith
       of false = omega arith
 
-      at : (o : Option Place) → placeOf x (placesIn s) ≡ o → markAt (picture s) x ≤ 2
+      at : (o : Option Place) → placeOf x (placesOf s (s .row)) ≡ o → markAt (picture s) x ≤ 2
       at none e = let m = free-cell-free s x h e .mark in omega arith
-      at (some p) e = omega (arith, place-mark v (record { found = e }), of (p .entry .live))
+      at (some p) e = omega (arith, place-mark v (record { found = e }), of (p .node .live))
 
   -- "A dead cell's value is 0."
   dead-sentence : (x : ℕ) → x < s .settings .cells → markAt (picture s) x ≡ 2 → valueAt (picture s) x ≡ 0
   unfolding picture
   dead-sentence x h e =
       let (p, here) = cell-standing s x (record { cell = h; mark = inr e }) in
-      let value = placed-entry here (λ y. y .live ≡ false → y .value ≡ 0) (λ l. refl) (v .values) in
-      place-value v here ∙ value (dead (p .entry .live) (sym (place-mark v here) ∙ e))
+      let value = placed-node here (λ y. y .live ≡ false → y .value ≡ 0) (λ l. refl) (v .values) in
+      place-value v here ∙ value (dead (p .node .live) (sym (place-mark v here) ∙ e))
     where
       dead : (live : Bool) → mark live ≡ 2 → live ≡ false
       dead true m = absurd (omega arith)
@@ -318,14 +320,14 @@ module _ {s : State} (v : Sound s) where
   distinct-sentence {x} {y} {p} {q} here there e = at (placed-compared v here there)
     where
       at : Compared p q → x ≡ y
-      at (same is) = sym (placed-cell here) ∙ ap (λ r. r .entry .cell) is ∙ placed-cell there
+      at (same is) = sym (placed-cell here) ∙ ap (λ r. r .node .cell) is ∙ placed-cell there
       at (later l) = absurd (omega (arith, e, place-key v here, place-key v there, l .larger))
       at (earlier l) = absurd (omega (arith, e, place-key v here, place-key v there, l .larger))
 
   owes-nothing-sentence : {x : ℕ} {p : Place} → Placed s x p → owedAt (picture s) x ≡ 0 → (lowAt (picture s) x ≡ 0) × (highAt (picture s) x ≡ 0)
-  owes-nothing-sentence {x} {p} here e = at (p .entry .owes) refl
+  owes-nothing-sentence {x} {p} here e = at (p .node .owes) refl
     where
-      at : (t : Bool) → p .entry .owes ≡ t → (lowAt (picture s) x ≡ 0) × (highAt (picture s) x ≡ 0)
+      at : (t : Bool) → p .node .owes ≡ t → (lowAt (picture s) x ≡ 0) × (highAt (picture s) x ≡ 0)
       at true o = let (q, owes) = place-owes here o in absurd (omega (arith, e, owes .owed, owes .positive))
       at false o = let (z, low, high) = place-unowing v here o in (low, high)
 

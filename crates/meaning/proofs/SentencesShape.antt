@@ -8,47 +8,48 @@ use native.Mathlib.Decide.{decLe}
 use native.Mathlib.Omega.{arith}
 use lib.ListN.{length}
 use borrow.Author.Tests.{le-leb, lt-leb}
+use Rattle.lists.specs.Lists.{agreed}
+use Rattle.lists.proofs.All.{All, all-map, all-zip, all-in}
 use Rattle.meaning.specs.Keys.{coordinate, coordinates, shared}
-use Rattle.meaning.specs.Row.{Entry, headEntry, firstOf, Place, placesAfter, places, settledLink, firstSharing}
-use Rattle.meaning.specs.State.{State}
+use Rattle.meaning.specs.Row.{Node, headNode, firstOf, Place, placesAfter, places, settledLink, firstSharing}
+use Rattle.meaning.specs.State.{State, placesOf}
 use Rattle.meaning.specs.Picture.{picture}
 use Rattle.meaning.specs.Words.{keyAt}
-use Rattle.meaning.specs.Sentences.{agreed, sharedAt, digitAt, NextSmaller, NextLarger, Dimension, Settled, LargerAt}
+use Rattle.meaning.specs.Sentences.{sharedAt, digitAt, NextSmaller, NextLarger, Dimension, Settled, LargerAt}
 use Rattle.meaning.specs.Sentences.Dimension.{of-head, of-other}
 use Rattle.meaning.specs.Sentences.Settled.{leads, leads-nowhere, below-dimension}
-use Rattle.meaning.proofs.Order.{All, Asc, all-map, asc-above}
+use Rattle.meaning.proofs.Order.{Asc, asc-above}
 use Rattle.meaning.proofs.Keys.{shared-agreed, coordinate-less, coordinate-larger}
 use Rattle.meaning.proofs.State.{Sound, base-positive, base-above}
-use Rattle.meaning.proofs.Cells.{all-zip}
 use Rattle.meaning.proofs.Picture.{place-found, places-later}
-use Rattle.meaning.proofs.SentencesRow.{all-in, Next, Followed, Led, places-followed, places-led, Later, Compared, places-compared, places-ascend, Least, SharesExactly, first-sharing}
+use Rattle.meaning.proofs.SentencesRow.{Next, Followed, Led, places-followed, places-led, Later, Compared, places-compared, places-ascend, Least, SharesExactly, first-sharing}
 use Rattle.meaning.proofs.SentencesRow.Followed.{last, followed}
 use Rattle.meaning.proofs.SentencesRow.Led.{head, led}
 use Rattle.meaning.proofs.SentencesRow.Compared.{same, later, earlier}
 use Rattle.meaning.proofs.SentencesRow.Least.{least, nowhere}
-use Rattle.meaning.proofs.SentencesCells.{placesIn, Placed, placed-has, placed-entry, placed-cell, place-key, place-standing, cell-standing}
+use Rattle.meaning.proofs.Placed.{Placed, placed-has, placed-node, placed-cell, place-key, place-standing, cell-standing}
 
 -- q is the place after p; p is the head's or has a place before it; p is the last or has a place after it
 abbrev pub NextIn : State → Place → Place → Type 0
 NextIn s p q = Next (s .settings .base) (s .settings .dimensions) p q
 
 abbrev pub LedIn : State → Place → Type 0
-LedIn s p = Led (s .settings .base) (s .settings .dimensions) (λ q. Placed s (q .entry .cell) q) (s .row) p
+LedIn s p = Led (s .settings .base) (s .settings .dimensions) (λ q. Placed s (q .node .cell) q) (s .row) p
 
 abbrev pub FollowedIn : State → Place → Type 0
-FollowedIn s p = Followed (s .settings .base) (s .settings .dimensions) (λ q. Placed s (q .entry .cell) q) p
+FollowedIn s p = Followed (s .settings .base) (s .settings .dimensions) (λ q. Placed s (q .node .cell) q) p
 
--- an entry that has a place
-pub record HasPlace (s : State) (y : Entry) : Type 0 where
+-- a node that has a place
+pub record HasPlace (s : State) (y : Node) : Type 0 where
   pub place : Place
   pub placed : Placed s (y .cell) place
-  pub entry : place .entry ≡ y
+  pub node : place .node ≡ y
 
 -- Settled links, in any words
 
--- The first of the later entries that shares just d with a key is what link d leads to, if the later ones that do are just the larger
+-- The first of the later nodes that shares just d with a key is what link d leads to, if the later ones that do are just the larger
 -- ones at d.
-pub settled-first : (ws : List ℕ) (b D x key d : ℕ) (row : List Entry) {e : ℕ} → Dimension ws x e → e ≤ d → Asc key row →
+pub settled-first : (ws : List ℕ) (b D x key d : ℕ) (row : List Node) {e : ℕ} → Dimension ws x e → e ≤ d → Asc key row →
     All (λ y. keyAt ws (y .cell) ≡ y .key) row → All (λ y. SharesExactly b D key d y → LargerAt ws x d (y .cell)) row →
     ((P : ℕ → Type 0) → All (λ y. SharesExactly b D key d y → P (y .cell)) row → (z : ℕ) → LargerAt ws x d z → P z) →
     Settled ws x d (firstSharing b D key d row)
@@ -63,7 +64,7 @@ settled-first ws b D x key d row dimension h asc keys larger has = at (first-sha
 
 -- below the dimension the settled link is 0
 pub settled-link : (ws : List ℕ) (b D x : ℕ) (p : Place) (d : ℕ) → Dimension ws x (p .dimension) →
-    (p .dimension ≤ d → Settled ws x d (firstSharing b D (p .entry .key) d (p .later))) → Settled ws x d (settledLink b D p d)
+    (p .dimension ≤ d → Settled ws x d (firstSharing b D (p .node .key) d (p .later))) → Settled ws x d (settledLink b D p d)
 settled-link ws b D x p d dimension first = at (decLe (p .dimension) d)
   where
     at : Dec (p .dimension ≤ d) → Settled ws x d (settledLink b D p d)
@@ -71,61 +72,61 @@ settled-link ws b D x p d dimension first = at (decLe (p .dimension) d)
     at (no h) = rw (lt-leb (p .dimension) d (omega arith)) (below-dimension dimension (omega arith))
 
 module _ {s : State} (v : Sound s) where
-  pub places-placed : All (λ p. Placed s (p .entry .cell) p) (placesIn s)
-  places-placed = all-map (λ p e. record { found = e }) (placesIn s) (place-found s v)
+  pub places-placed : All (λ p. Placed s (p .node .cell) p) (placesOf s (s .row))
+  places-placed = all-map (λ p e. record { found = e }) (placesOf s (s .row)) (place-found s v)
 
   -- Keys
 
-  pub key-below : {x : ℕ} {p : Place} → Placed s x p → p .entry .key < s .settings .base ^ s .settings .dimensions
+  pub key-below : {x : ℕ} {p : Place} → Placed s x p → p .node .key < s .settings .base ^ s .settings .dimensions
   key-below here =
-      let most = placed-entry here (λ y. y .key ≤ s .settings .largest) (omega arith) (v .keys) in
+      let most = placed-node here (λ y. y .key ≤ s .settings .largest) (omega arith) (v .keys) in
       omega (arith, base-above s v)
 
   pub placed-shared : {x y : ℕ} {p q : Place} → Placed s x p → Placed s y q →
-      sharedAt (picture s) x y ≡ shared (s .settings .base) (s .settings .dimensions) (p .entry .key) (q .entry .key)
+      sharedAt (picture s) x y ≡ shared (s .settings .base) (s .settings .dimensions) (p .node .key) (q .node .key)
   unfolding picture
   placed-shared {p = p} {q = q} here there =
       let b = s .settings .base in
       let D = s .settings .dimensions in
       ap₂ (λ k l. agreed (coordinates b D k) (coordinates b D l)) (place-key v here) (place-key v there)
-      ∙ sym (shared-agreed b D (p .entry .key) (q .entry .key) (base-positive s v) (key-below here) (key-below there))
+      ∙ sym (shared-agreed b D (p .node .key) (q .node .key) (base-positive s v) (key-below here) (key-below there))
 
   pub placed-digit : {x : ℕ} {p : Place} → Placed s x p → (d : ℕ) →
-      digitAt (picture s) x d ≡ coordinate (s .settings .base) (s .settings .dimensions) (p .entry .key) d
+      digitAt (picture s) x d ≡ coordinate (s .settings .base) (s .settings .dimensions) (p .node .key) d
   unfolding picture
   placed-digit here d = ap (λ k. coordinate (s .settings .base) (s .settings .dimensions) k d) (place-key v here)
 
-  pub placed-ascends : {x : ℕ} {p : Place} → Placed s x p → Asc (p .entry .key) (p .later)
+  pub placed-ascends : {x : ℕ} {p : Place} → Placed s x p → Asc (p .node .key) (p .later)
   placed-ascends here =
-      placed-has here (λ p. Asc (p .entry .key) (p .later)) (places-ascend (s .settings .base) (s .settings .dimensions) (s .row) (v .ascends))
+      placed-has here (λ p. Asc (p .node .key) (p .later)) (places-ascend (s .settings .base) (s .settings .dimensions) (s .row) (v .ascends))
 
   pub placed-compared : {x y : ℕ} {p q : Place} → Placed s x p → Placed s y q → Compared p q
   placed-compared {p = p} here there =
       placed-has there (λ q. Compared p q)
-      (placed-has here (λ p. All (λ q. Compared p q) (placesIn s)) (places-compared (s .settings .base) (s .settings .dimensions) (s .row) (v .ascends)))
+      (placed-has here (λ p. All (λ q. Compared p q) (placesOf s (s .row))) (places-compared (s .settings .base) (s .settings .dimensions) (s .row) (v .ascends)))
 
   -- Neighbours
 
   pub placed-led : {x : ℕ} {p : Place} → Placed s x p → LedIn s p
   placed-led here =
       placed-has here (LedIn s)
-      (places-led (s .settings .base) (s .settings .dimensions) (λ q. Placed s (q .entry .cell) q) (s .row) places-placed)
+      (places-led (s .settings .base) (s .settings .dimensions) (λ q. Placed s (q .node .cell) q) (s .row) places-placed)
 
   pub placed-followed : {x : ℕ} {p : Place} → Placed s x p → FollowedIn s p
   placed-followed here =
       placed-has here (FollowedIn s)
-      (places-followed (s .settings .base) (s .settings .dimensions) (λ q. Placed s (q .entry .cell) q) (s .row) places-placed)
+      (places-followed (s .settings .base) (s .settings .dimensions) (λ q. Placed s (q .node .cell) q) (s .row) places-placed)
 
   pub next-smaller : {x y : ℕ} {p q : Place} → Placed s x p → Placed s y q → NextIn s q p → NextSmaller (picture s) x y
   next-smaller {x} {y} {p} {q} here there next =
       record {
         standing = place-standing v there;
-        smaller = omega (arith, subst (Asc (q .entry .key)) (next .later) (placed-ascends there) .0, place-key v here, place-key v there);
+        smaller = omega (arith, subst (Asc (q .node .key)) (next .later) (placed-ascends there) .0, place-key v here, place-key v there);
         next = λ z stands less. let (r, found) = cell-standing s z stands in at z r found less (placed-compared found here);
       }
     where
       at : (z : ℕ) (r : Place) → Placed s z r → keyAt (picture s) z < keyAt (picture s) x → Compared r p → keyAt (picture s) z ≤ keyAt (picture s) y
-      at z r found less (same e) = omega (arith, place-key v here, place-key v found, less, ap (λ q. q .entry .key) e)
+      at z r found less (same e) = omega (arith, place-key v here, place-key v found, less, ap (λ q. q .node .key) e)
       at z r found less (later l) = omega (arith, place-key v there, place-key v found, l .up-to, ap (λ e. e .key) (next .before))
       at z r found less (earlier l) = omega (arith, place-key v here, place-key v found, less, l .larger)
 
@@ -137,32 +138,32 @@ module _ {s : State} (v : Sound s) where
         next = λ z stands less. let (r, found) = cell-standing s z stands in at z r found less (placed-compared here found);
       }
     where
-      ascends : Asc (p .entry .key) (q .entry ∷ q .later)
-      ascends = subst (Asc (p .entry .key)) (next .later) (placed-ascends here)
+      ascends : Asc (p .node .key) (q .node ∷ q .later)
+      ascends = subst (Asc (p .node .key)) (next .later) (placed-ascends here)
 
-      all-from : All (λ z. q .entry .key ≤ z .key) (p .later)
+      all-from : All (λ z. q .node .key ≤ z .key) (p .later)
       all-from =
-          subst (All (λ z. q .entry .key ≤ z .key)) (sym (next .later))
-          (omega arith, all-map (λ z h. omega arith) (q .later) (asc-above (q .entry .key) (q .later) (ascends .1)))
+          subst (All (λ z. q .node .key ≤ z .key)) (sym (next .later))
+          (omega arith, all-map (λ z h. omega arith) (q .later) (asc-above (q .node .key) (q .later) (ascends .1)))
 
       at : (z : ℕ) (r : Place) → Placed s z r → keyAt (picture s) x < keyAt (picture s) z → Compared p r → keyAt (picture s) y ≤ keyAt (picture s) z
-      at z r found less (same e) = omega (arith, place-key v here, place-key v found, less, ap (λ q. q .entry .key) e)
-      at z r found less (later l) = omega (arith, place-key v there, place-key v found, all-in (λ z. q .entry .key ≤ z .key) (l .member) all-from)
+      at z r found less (same e) = omega (arith, place-key v here, place-key v found, less, ap (λ q. q .node .key) e)
+      at z r found less (later l) = omega (arith, place-key v there, place-key v found, all-in (λ z. q .node .key ≤ z .key) (l .member) all-from)
       at z r found less (earlier l) = omega (arith, place-key v here, place-key v found, less, l .larger)
 
   -- the place before that of a cell that is not the head
-  pub place-before : {x : ℕ} {p : Place} → Placed s x p → 0 < x → (q : Place) × Placed s (q .entry .cell) q × NextIn s q p
+  pub place-before : {x : ℕ} {p : Place} → Placed s x p → 0 < x → (q : Place) × Placed s (q .node .cell) q × NextIn s q p
   place-before {x} {p} here h = at (placed-led here)
     where
-      at : LedIn s p → (q : Place) × Placed s (q .entry .cell) q × NextIn s q p
-      at (head e) = absurd (omega (arith, h, placed-cell here, ap (λ q. q .entry .cell) e))
+      at : LedIn s p → (q : Place) × Placed s (q .node .cell) q × NextIn s q p
+      at (head e) = absurd (omega (arith, h, placed-cell here, ap (λ q. q .node .cell) e))
       at (led q there next) = (q, there, next)
 
   -- the place after that of a cell with later ones
-  pub place-after : {x : ℕ} {p : Place} → Placed s x p → 0 < length (p .later) → (q : Place) × Placed s (q .entry .cell) q × NextIn s p q
+  pub place-after : {x : ℕ} {p : Place} → Placed s x p → 0 < length (p .later) → (q : Place) × Placed s (q .node .cell) q × NextIn s p q
   place-after {x} {p} here h = at (placed-followed here)
     where
-      at : FollowedIn s p → (q : Place) × Placed s (q .entry .cell) q × NextIn s p q
+      at : FollowedIn s p → (q : Place) × Placed s (q .node .cell) q × NextIn s p q
       at (last e) = absurd (omega (arith, h, ap length e))
       at (followed q there next) = (q, there, next)
 
@@ -185,21 +186,21 @@ module _ {s : State} (v : Sound s) where
     where
       at : LedIn s p → Dimension (picture s) x (p .dimension)
       at (head e) =
-          subst₂ (Dimension (picture s)) (sym (ap (λ q. q .entry .cell) e) ∙ placed-cell here) (sym (ap (λ q. q .dimension) e)) of-head
+          subst₂ (Dimension (picture s)) (sym (ap (λ q. q .node .cell) e) ∙ placed-cell here) (sym (ap (λ q. q .dimension) e)) of-head
       at (led q there next) =
           subst (Dimension (picture s) x) (placed-shared there here ∙ sym (next .dimension)) (of-other (next-smaller here there next))
 
   -- Settled links
 
-  -- each entry of the row has a place, and so has each entry later than a place
-  placed-after : (b D : ℕ) (a : Entry) (e : ℕ) (row : List Entry) → All (λ p. Placed s (p .entry .cell) p) (placesAfter b D a e row) → All (HasPlace s) row
+  -- each node of the row has a place, and so has each node later than a place
+  placed-after : (b D : ℕ) (a : Node) (e : ℕ) (row : List Node) → All (λ p. Placed s (p .node .cell) p) (placesAfter b D a e row) → All (HasPlace s) row
   unfolding placesAfter
   placed-after b D a e [] all = tt
-  placed-after b D a e (x ∷ row) all = (record { place = _; placed = all .0; entry = refl }, placed-after b D x (shared b D (a .key) (x .key)) row (all .1))
+  placed-after b D a e (x ∷ row) all = (record { place = _; placed = all .0; node = refl }, placed-after b D x (shared b D (a .key) (x .key)) row (all .1))
 
   pub row-placed : All (HasPlace s) (s .row)
   unfolding places
-  row-placed = placed-after (s .settings .base) (s .settings .dimensions) headEntry 0 (s .row) (places-placed .1)
+  row-placed = placed-after (s .settings .base) (s .settings .dimensions) headNode 0 (s .row) (places-placed .1)
 
   pub later-placed : {x : ℕ} {p : Place} → Placed s x p → All (HasPlace s) (p .later)
   later-placed here =
@@ -209,7 +210,7 @@ module _ {s : State} (v : Sound s) where
   -- what shares exactly d coordinates with a standing cell and is larger at d is a later one
   larger-later : {x : ℕ} {p : Place} → Placed s x p → (d z : ℕ) (r : Place) → Placed s z r →
       sharedAt (picture s) x z ≡ d → digitAt (picture s) x d < digitAt (picture s) z d →
-      SharesExactly (s .settings .base) (s .settings .dimensions) (p .entry .key) d (r .entry) × Later (p .entry .key) (p .later) r
+      SharesExactly (s .settings .base) (s .settings .dimensions) (p .node .key) d (r .node) × Later (p .node .key) (p .later) r
   larger-later {x} {p} here d z r found shares larger = (exactly, at (placed-compared here found))
     where
       b : ℕ
@@ -218,38 +219,38 @@ module _ {s : State} (v : Sound s) where
       D : ℕ
       D = s .settings .dimensions
 
-      exactly : shared b D (p .entry .key) (r .entry .key) ≡ d
+      exactly : shared b D (p .node .key) (r .node .key) ≡ d
       exactly = sym (placed-shared here found) ∙ shares
 
-      above : coordinate b D (p .entry .key) d < coordinate b D (r .entry .key) d
+      above : coordinate b D (p .node .key) d < coordinate b D (r .node .key) d
       above = subst₂ (λ i j. i < j) (placed-digit here d) (placed-digit found d) larger
 
-      at : Compared p r → Later (p .entry .key) (p .later) r
-      at (same e) = absurd (omega (arith, above, ap (λ q. coordinate b D (q .entry .key) d) e))
+      at : Compared p r → Later (p .node .key) (p .later) r
+      at (same e) = absurd (omega (arith, above, ap (λ q. coordinate b D (q .node .key) d) e))
       at (later l) = l
       at (earlier l) =
           absurd (omega (
             arith,
             l .larger,
-            coordinate-larger b D (p .entry .key) (r .entry .key) d (base-positive s v) (key-below here) (key-below found) (omega (arith, exactly)) above,
+            coordinate-larger b D (p .node .key) (r .node .key) d (base-positive s v) (key-below here) (key-below found) (omega (arith, exactly)) above,
           ))
 
   -- a later one that does is larger at d
-  later-larger : {x : ℕ} {p : Place} → Placed s x p → (d : ℕ) (y : Entry) → HasPlace s y → p .entry .key < y .key →
-      SharesExactly (s .settings .base) (s .settings .dimensions) (p .entry .key) d y → LargerAt (picture s) x d (y .cell)
+  later-larger : {x : ℕ} {p : Place} → Placed s x p → (d : ℕ) (y : Node) → HasPlace s y → p .node .key < y .key →
+      SharesExactly (s .settings .base) (s .settings .dimensions) (p .node .key) d y → LargerAt (picture s) x d (y .cell)
   later-larger {x} {p} here d y stands above exactly =
       let b = s .settings .base in
       let D = s .settings .dimensions in
       let there = stands .placed in
-      let key = ap (λ e. e .key) (stands .entry) in
-      let shares : shared b D (p .entry .key) (stands .place .entry .key) ≡ d = ap (shared b D (p .entry .key)) key ∙ exactly in
-      let less = coordinate-less b D (p .entry .key) (stands .place .entry .key) (base-positive s v) (key-below here) (key-below there) (omega arith) in
+      let key = ap (λ e. e .key) (stands .node) in
+      let shares : shared b D (p .node .key) (stands .place .node .key) ≡ d = ap (shared b D (p .node .key)) key ∙ exactly in
+      let less = coordinate-less b D (p .node .key) (stands .place .node .key) (base-positive s v) (key-below here) (key-below there) (omega arith) in
       record {
         standing = place-standing v there;
         shares = placed-shared here there ∙ shares;
         larger =
             subst₂ (λ i j. i < j) (sym (placed-digit here d)) (sym (placed-digit there d))
-            (subst (λ e. coordinate b D (p .entry .key) e < coordinate b D (stands .place .entry .key) e) shares less);
+            (subst (λ e. coordinate b D (p .node .key) e < coordinate b D (stands .place .node .key) e) shares less);
       }
 
   -- "For x of dimension e and d at least e, link d of x leads to the least-key standing cell that shares exactly the first d coordinates
@@ -258,14 +259,14 @@ module _ {s : State} (v : Sound s) where
       Settled (picture s) x d (settledLink (s .settings .base) (s .settings .dimensions) p d)
   place-settled {x} {p} here d =
       settled-link (picture s) b D x p d (place-dimension here) (λ h.
-      settled-first (picture s) b D x (p .entry .key) d (p .later) (place-dimension here) h (placed-ascends here)
-      (all-map (λ y stands. place-key v (stands .placed) ∙ ap (λ e. e .key) (stands .entry)) (p .later) (later-placed here))
+      settled-first (picture s) b D x (p .node .key) d (p .later) (place-dimension here) h (placed-ascends here)
+      (all-map (λ y stands. place-key v (stands .placed) ∙ ap (λ e. e .key) (stands .node)) (p .later) (later-placed here))
       (all-zip (λ y stands above exactly. later-larger here d y stands above exactly) (p .later) (later-placed here)
-      (asc-above (p .entry .key) (p .later) (placed-ascends here)))
+      (asc-above (p .node .key) (p .later) (placed-ascends here)))
       (λ P all z l.
       let (r, found) = cell-standing s z (l .standing) in
       let (exactly, after) = larger-later here d z r found (l .shares) (l .larger) in
-      subst P (placed-cell found) (all-in (λ y. SharesExactly b D (p .entry .key) d y → P (y .cell)) (after .member) all exactly)))
+      subst P (placed-cell found) (all-in (λ y. SharesExactly b D (p .node .key) d y → P (y .cell)) (after .member) all exactly)))
     where
       b : ℕ
       b = s .settings .base

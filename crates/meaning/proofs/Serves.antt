@@ -5,21 +5,22 @@ use mathlib.Core.Option.{none, some}
 use Prim.Native.Nat.{ℕ, suc, _+_, _≤_, _<_}
 use native.Mathlib.Omega.{arith}
 use lib.ListN.{length, drop}
-use Rattle.meaning.specs.Row.{Entry, entryAt}
-use Rattle.meaning.specs.State.{State, occurrences}
-use Rattle.meaning.specs.Picture.{picture, firstNumber}
+use Rattle.lists.specs.Lists.{occurrences, firstNumber}
+use Rattle.lists.proofs.Occurrences.{occurrences-append, occurs-has}
+use Rattle.lists.proofs.All.{All, all-at}
+use Rattle.meaning.specs.Row.{Node, nodeAt}
+use Rattle.meaning.specs.State.{State}
+use Rattle.meaning.specs.Picture.{picture}
 use Rattle.meaning.specs.Reading.{read}
 use Rattle.meaning.specs.Refusals.{Outcome, refused, badKey, noFreeCell}
-use Rattle.meaning.specs.Operations.{sweepOut, insertOut, swept, freedBy, added, slotFor, slotOwes, newEntry, finished, looked}
+use Rattle.meaning.specs.Operations.{sweepOut, insertOut, swept, freedBy, added, slotFor, slotOwes, newNode, finished, looked}
 use Rattle.meaning.specs.Calls.{outcome}
-use Rattle.meaning.specs.Sentences.{countAt}
 use Rattle.meaning.specs.Promises.{EachCellOnce, SweptCellsFirst, UsesFirst, InsertUsesFirst}
-use Rattle.meaning.proofs.Order.{All}
+use Rattle.meaning.specs.Words.{cellsAt}
 use Rattle.meaning.proofs.State.{Sound, cellsIn}
-use Rattle.meaning.proofs.Places.{occurrences-append, all-at}
-use Rattle.meaning.proofs.SentencesNumbers.{occurs-has, cells-cover}
+use Rattle.meaning.proofs.SentencesNumbers.{cells-cover}
 use Rattle.meaning.proofs.Reading.{read-of-picture}
-use Rattle.meaning.proofs.WalkStop.{entry-found}
+use Rattle.meaning.proofs.WalkStop.{node-found}
 use Rattle.meaning.proofs.Ascending.{member-past}
 use Rattle.meaning.proofs.Slot.{gap, slot-is}
 use Rattle.meaning.proofs.KeepsSweep.{swept-sound}
@@ -34,7 +35,7 @@ cell-once s v x h l =
 pub each-cell-once : EachCellOnce
 unfolding picture
 each-cell-once =
-    on-read-lists (λ s ws. (x : ℕ) → 0 < x → x < countAt ws → occurrences x (map (λ e. e .cell) (s .row)) + occurrences x (s .free) ≡ 1) cell-once
+    on-read-lists (λ s ws. (x : ℕ) → 0 < x → x < cellsAt ws → occurrences x (map (λ e. e .cell) (s .row)) + occurrences x (s .free) ≡ 1) cell-once
 
 pub swept-cells-first : SweptCellsFirst
 unfolding outcome swept
@@ -44,17 +45,17 @@ swept-cells-first =
     (λ s v. ap (λ (o : Outcome). read (o .words) .free) (sweep-outcome s v) ∙ ap (λ (t : State). t .free) (read-of-picture (swept s) (swept-sound s v)))
 
 -- the new cell of an insert
-new-uses-first : (s : State) → Sound s → (key value : ℕ) → 1 ≤ key → key ≤ s .settings .largest → entryAt key (s .row) ≡ none → 0 < length (s .free) →
-    (e : Entry) × (entryAt key (added s key value (slotFor s key) .row) ≡ some e) × (e .cell ≡ firstNumber (s .free))
+new-uses-first : (s : State) → Sound s → (key value : ℕ) → 1 ≤ key → key ≤ s .settings .largest → nodeAt key (s .row) ≡ none → 0 < length (s .free) →
+    (e : Node) × (nodeAt key (added s key value (slotFor s key) .row) ≡ some e) × (e .cell ≡ firstNumber (s .free))
 new-uses-first s v key value h l a f =
     let g = gap key 0 (s .row) (v .ascends) a in
     let t = slotFor s key in
     let i = slot-is s v key h g f in
-    let e = newEntry (t .n) key value (slotOwes t) in
+    let e = newNode (t .n) key value (slotOwes t) in
     let sound = added-sound s key value v h l a f in
     let found =
-    all-at (λ x. entryAt (x .key) (added s key value t .row) ≡ some x) (finished (t .c) (finished (t .parent) (g .pre))) e (finished (t .c) (finished (t .parent) (g .post)))
-    (subst (All (λ x. entryAt (x .key) (added s key value t .row) ≡ some x)) (added-row s v key value h g f t i) (entry-found 0 (added s key value t .row) (sound .ascends))) in
+    all-at (λ x. nodeAt (x .key) (added s key value t .row) ≡ some x) (finished (t .c) (finished (t .parent) (g .pre))) e (finished (t .c) (finished (t .parent) (g .post)))
+    (subst (All (λ x. nodeAt (x .key) (added s key value t .row) ≡ some x)) (added-row s v key value h g f t i) (node-found 0 (added s key value t .row) (sound .ascends))) in
     (e, found, i .n-is)
 
 -- an outcome that is a refusal is not accepted
@@ -62,7 +63,7 @@ pub refused-not : (o p : Outcome) (n : ℕ) → o ≡ p → p .answered .refusal
 refused-not o p n e q z = let t = ap (λ (w : Outcome). w .answered .refusal) e in omega arith
 
 -- an accepted insert of a key that does not stand has a key in range and a free cell
-pub new-accepted : (s : State) → Sound s → (key value : ℕ) → entryAt key (s .row) ≡ none → insertOut (picture s) key value .answered .refusal ≡ 0 →
+pub new-accepted : (s : State) → Sound s → (key value : ℕ) → nodeAt key (s .row) ≡ none → insertOut (picture s) key value .answered .refusal ≡ 0 →
     (1 ≤ key) × (key ≤ s .settings .largest) × (0 < length (s .free))
 new-accepted s v key value a z =
     key-cases s key
@@ -73,7 +74,7 @@ new-accepted s v key value a z =
     (λ f. (h, l, f)))
     (λ h l x b. absurd (let q : _≡_ {A = ℕ} 0 1 = cc in omega arith))
 
-made-uses-first : (s : State) → Sound s → (key value : ℕ) → 1 ≤ key → key ≤ s .settings .largest → entryAt key (s .row) ≡ none → 0 < length (s .free) → UsesFirst (picture s) (insertOut (picture s) key value .words) key
+made-uses-first : (s : State) → Sound s → (key value : ℕ) → 1 ≤ key → key ≤ s .settings .largest → nodeAt key (s .row) ≡ none → 0 < length (s .free) → UsesFirst (picture s) (insertOut (picture s) key value .words) key
 unfolding added
 made-uses-first s v key value h l a f =
     let new = new-uses-first s v key value h l a f in
@@ -81,18 +82,18 @@ made-uses-first s v key value h l a f =
     let back : read (insertOut (picture s) key value .words) ≡ t =
     ap (λ (o : Outcome). read (o .words)) (insert-outcome-new s v key value h l a f) ∙ read-of-picture t (added-sound s key value v h l a f) in
     record {
-      entry = new .0;
-      stands = ap (λ (w : State). entryAt key (w .row)) back ∙ new .1;
+      node = new .0;
+      stands = ap (λ (w : State). nodeAt key (w .row)) back ∙ new .1;
       cell = new .2 ∙ ap (λ (w : State). firstNumber (w .free)) (sym (read-of-picture s v));
       free = ap (λ (w : State). w .free) back ∙ ap (λ (w : State). drop 1 (w .free)) (sym (read-of-picture s v));
     }
 
-uses-first : (s : State) → Sound s → (key value : ℕ) → entryAt key (s .row) ≡ none → insertOut (picture s) key value .answered .refusal ≡ 0 → UsesFirst (picture s) (insertOut (picture s) key value .words) key
+uses-first : (s : State) → Sound s → (key value : ℕ) → nodeAt key (s .row) ≡ none → insertOut (picture s) key value .answered .refusal ≡ 0 → UsesFirst (picture s) (insertOut (picture s) key value .words) key
 uses-first s v key value a z = let (h, l, f) = new-accepted s v key value a z in made-uses-first s v key value h l a f
 
 pub insert-uses-first : InsertUsesFirst
 unfolding outcome
 insert-uses-first =
     on-read-lists
-    (λ s ws. (key value : ℕ) → entryAt key (s .row) ≡ none → insertOut ws key value .answered .refusal ≡ 0 → UsesFirst ws (insertOut ws key value .words) key)
+    (λ s ws. (key value : ℕ) → nodeAt key (s .row) ≡ none → insertOut ws key value .answered .refusal ≡ 0 → UsesFirst ws (insertOut ws key value .words) key)
     uses-first

@@ -10,11 +10,14 @@ use lib.ListN.{length}
 use borrow.Author.Tests.{ltb-true, lt-ltb, leb-true, le-leb, eqb-true, eq-eqb, not-true, not-false}
 use Rattle.settings.specs.Numbers.{inRange, baseOf}
 use Rattle.settings.specs.Base.{IsBase}
-use Rattle.settings.proofs.Laws.{Ranges, ranges, in-range, base-is, base-at-least-two}
+use Rattle.settings.proofs.Numbers.{Ranges, ranges, in-range, base-is, base-at-least-two}
+use Rattle.lists.specs.Lists.{every, occurrences}
+use Rattle.lists.proofs.All.{All, every-all, all-every, all-map}
+use Rattle.lists.proofs.Tests.{both, and-both}
 use Rattle.meaning.specs.Keys.{shared}
-use Rattle.meaning.specs.Row.{firstOf, Place, places, every, Entry}
-use Rattle.meaning.specs.State.{State, positionKey, ascending, occurrences, debtHolds, settingsHold, keysHold, cellsHold, valuesHold, debtsHold, positionHolds, tests, valid}
-use Rattle.meaning.proofs.Order.{All, Asc, both, and-both, every-all, all-every, all-map, ascending-asc, asc-ascending}
+use Rattle.meaning.specs.Row.{firstOf, Place, places, Node}
+use Rattle.meaning.specs.State.{State, positionKey, ascending, debtHolds, settingsHold, keysHold, cellsHold, valuesHold, debtsHold, positionHolds, tests, valid}
+use Rattle.meaning.proofs.Order.{Asc, ascending-asc, asc-ascending}
 
 -- the cells of a state that are not the head: standing, then free
 abbrev pub cellsIn : State → List ℕ
@@ -24,7 +27,7 @@ cellsIn s = map (λ x. x .cell) (s .row) ++ s .free
 pub record Debt (b D : ℕ) (n : Place) : Type 0 where
   pub later : 0 < length (n .later)
   pub unowing : firstOf (n .later) .owes ≡ false
-  pub lower : n .dimension < shared b D (n .entry .key) (firstOf (n .later) .key)
+  pub lower : n .dimension < shared b D (n .node .key) (firstOf (n .later) .key)
 
 pub record Sound (s : State) : Type 0 where
   pub ranges : Ranges (s .settings .dimensions) (s .settings .largest) (s .settings .cells)
@@ -35,7 +38,7 @@ pub record Sound (s : State) : Type 0 where
   pub range : All (λ c. (0 < c) × (c < s .settings .cells)) (cellsIn s)
   pub once : All (λ c. occurrences c (cellsIn s) ≡ 1) (cellsIn s)
   pub values : All (λ x. x .live ≡ false → x .value ≡ 0) (s .row)
-  pub debts : All (λ n. n .entry .owes ≡ true → Debt (s .settings .base) (s .settings .dimensions) n) (places (s .settings .base) (s .settings .dimensions) (s .row))
+  pub debts : All (λ n. n .node .owes ≡ true → Debt (s .settings .base) (s .settings .dimensions) n) (places (s .settings .base) (s .settings .dimensions) (s .row))
   pub position : 0 < occurrences (s .position) (0 ∷ map (λ x. x .cell) (s .row))
   pub dead : All (λ x. x .key ≤ positionKey s → x .live ≡ false) (s .row)
 
@@ -62,31 +65,31 @@ passed test f xs a = all-every test xs (all-map f xs a)
 
 -- The test of one member, as a fact, and back
 
-debt-fact : (b D : ℕ) (n : Place) → debtHolds b D n ≡ true → n .entry .owes ≡ true → Debt b D n
+debt-fact : (b D : ℕ) (n : Place) → debtHolds b D n ≡ true → n .node .owes ≡ true → Debt b D n
 unfolding debtHolds
 debt-fact b D n e o =
     let later = ltb 0 (length (n .later)) in
     let unowing = not (firstOf (n .later) .owes) in
-    let lower = ltb (n .dimension) (shared b D (n .entry .key) (firstOf (n .later) .key)) in
-    let t = both (later && unowing) lower (or-else (not (n .entry .owes)) (later && unowing && lower) e (not-of (n .entry .owes) true o)) in
+    let lower = ltb (n .dimension) (shared b D (n .node .key) (firstOf (n .later) .key)) in
+    let t = both (later && unowing) lower (or-else (not (n .node .owes)) (later && unowing && lower) e (not-of (n .node .owes) true o)) in
     let u = both later unowing (t .0) in
     record {
       later = ltb-true 0 (length (n .later)) (u .0);
       unowing = not-true (firstOf (n .later) .owes) (u .1);
-      lower = ltb-true (n .dimension) (shared b D (n .entry .key) (firstOf (n .later) .key)) (t .1);
+      lower = ltb-true (n .dimension) (shared b D (n .node .key) (firstOf (n .later) .key)) (t .1);
     }
 
-debt-test : (b D : ℕ) (n : Place) → (n .entry .owes ≡ true → Debt b D n) → debtHolds b D n ≡ true
+debt-test : (b D : ℕ) (n : Place) → (n .node .owes ≡ true → Debt b D n) → debtHolds b D n ≡ true
 unfolding debtHolds
 debt-test b D n f =
     let later = ltb 0 (length (n .later)) in
     let unowing = not (firstOf (n .later) .owes) in
-    let lower = ltb (n .dimension) (shared b D (n .entry .key) (firstOf (n .later) .key)) in
-    or-from (not (n .entry .owes)) (later && unowing && lower) (λ e.
-    let d = f (not-false (n .entry .owes) e) in
+    let lower = ltb (n .dimension) (shared b D (n .node .key) (firstOf (n .later) .key)) in
+    or-from (not (n .node .owes)) (later && unowing && lower) (λ e.
+    let d = f (not-false (n .node .owes) e) in
     and-both (later && unowing) lower
     (and-both later unowing (lt-ltb 0 (length (n .later)) (d .later)) (not-of (firstOf (n .later) .owes) false (d .unowing)))
-    (lt-ltb (n .dimension) (shared b D (n .entry .key) (firstOf (n .later) .key)) (d .lower)))
+    (lt-ltb (n .dimension) (shared b D (n .node .key) (firstOf (n .later) .key)) (d .lower)))
 
 dead-fact : (position key : ℕ) (live : Bool) → (not live || ltb position key) ≡ true → key ≤ position → live ≡ false
 dead-fact position key true e h = absurd (let t = ltb-true position key e in omega arith)
@@ -121,7 +124,7 @@ module _ (s : State) where
   abbrev C : ℕ
   C = s .settings .cells
 
-  abbrev row : List Entry
+  abbrev row : List Node
   row = s .row
 
   -- a cell's number is another than the head's, and below C

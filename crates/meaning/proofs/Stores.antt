@@ -1,4 +1,4 @@
--- Stores in words of the exact length. Each index is a header's, a path word's or a place, and places of different cells or fields
+-- Stores in words of the exact length. Each index is a header's, a path word's or a cell's, and words of different cells or fields
 -- are apart, by division; so a store is read back where it was made and changes no other word.
 use mathlib.Core.Path.{_≡_, refl, sym, ap, _∙_, subst}
 use mathlib.Core.Bool.{Bool, true, false, cond}
@@ -15,9 +15,9 @@ use borrow.Author.Tests.{eq-eqb, ne-eqb}
 use Rattle.settings.specs.Numbers.{headerWords, fieldsBeforeCoordinates, cellWords, lengthOf}
 use Rattle.meaning.specs.State.{State}
 use Rattle.meaning.specs.Picture.{picture}
-use Rattle.meaning.specs.Leaves.{Finished}
-use Rattle.meaning.specs.Words.{place, wordAt, owedAt, lowAt, highAt, linkAt}
-use Rattle.meaning.specs.Stores.{store, linkField, moveLinks, clearDebt, finishWords, writePath}
+use Rattle.meaning.specs.Writes.{Finished}
+use Rattle.meaning.specs.Words.{wordIndex, wordAt, owedAt, lowAt, highAt, linkAt, dimensionsAt, linkField}
+use Rattle.meaning.specs.Layer.Stores.{store, moveLinks, clearDebt, finishWords, writePath}
 use Rattle.meaning.proofs.Picture.{picture-length}
 
 -- "Length is exactly 5 + D + C(6+2D)."
@@ -29,7 +29,7 @@ picture-exact s = record { size = picture-length s }
 
 -- word j of cell x in words of D dimensions
 abbrev pub wordIn : ℕ → List ℕ → ℕ → ℕ → ℕ
-wordIn D ws x j = getD ws (place D x j) 0
+wordIn D ws x j = getD ws (wordIndex D x j) 0
 
 -- Indexes
 
@@ -41,22 +41,22 @@ blocks-apart w x y j i hj hi e = at (decLt x y) (decLt y x)
     at (no h) (yes more) = absurd (omega (arith, mul-le-mul-right {m = suc y} {n = x} w more, suc-mul y w))
     at (no h) (no more) = omega arith
 
--- one place is word j of one cell
-pub place-apart : (D x y j i : ℕ) → j < cellWords D → i < cellWords D → place D x j ≡ place D y i → (x ≡ y) × (j ≡ i)
-place-apart D x y j i hj hi e =
+-- one cell's word is word j of one cell
+pub index-apart : (D x y j i : ℕ) → j < cellWords D → i < cellWords D → wordIndex D x j ≡ wordIndex D y i → (x ≡ y) × (j ≡ i)
+index-apart D x y j i hj hi e =
     let same : x ≡ y = blocks-apart (cellWords D) x y j i hj hi (omega arith) in
     (same, (let blocks = ap (λ z. z * cellWords D) same in omega arith))
 
--- header and path are below every place
-pub place-above : (D x j i : ℕ) → i < headerWords + D → i ≡ place D x j → ⊥
-place-above D x j i h e = omega arith
+-- header and path are below every cell's word
+pub index-above : (D x j i : ℕ) → i < headerWords + D → i ≡ wordIndex D x j → ⊥
+index-above D x j i h e = omega arith
 
-pub place-inside : (D C x j : ℕ) → x < C → j < cellWords D → place D x j < lengthOf D C
-place-inside D C x j h k = omega (arith, mul-le-mul-right {m = suc x} {n = C} (cellWords D) h, suc-mul x (cellWords D))
+pub index-inside : (D C x j : ℕ) → x < C → j < cellWords D → wordIndex D x j < lengthOf D C
+index-inside D C x j h k = omega (arith, mul-le-mul-right {m = suc x} {n = C} (cellWords D) h, suc-mul x (cellWords D))
 
--- every index is the header's, a path word's or a place
+-- every index is the header's, a path word's or a cell's word
 pub index-cases : (P : ℕ → Type 0) (D C : ℕ) → ((i : ℕ) → i < headerWords → P i) → ((d : ℕ) → d < D → P (headerWords + d)) →
-    ((x j : ℕ) → x < C → j < cellWords D → P (place D x j)) → (i : ℕ) → i < lengthOf D C → P i
+    ((x j : ℕ) → x < C → j < cellWords D → P (wordIndex D x j)) → (i : ℕ) → i < lengthOf D C → P i
 index-cases P D C header path cell i h = at (decLt i headerWords) (decLt i (headerWords + D))
   where
     at : Dec (i < headerWords) → Dec (i < headerWords + D) → P i
@@ -67,7 +67,7 @@ index-cases P D C header path cell i h = at (decLt i headerWords) (decLt i (head
         let from = i - (headerWords + D) in
         let below : from < C * w = omega arith in
         let cellBelow : from / w < C = div-lt-iff-lt-mul {k = w} {x = from} {y = C} (omega arith) .1 below in
-        let there : place D (from / w) (from % w) ≡ i = omega (arith, div-add-mod' from w) in
+        let there : wordIndex D (from / w) (from % w) ≡ i = omega (arith, div-add-mod' from w) in
         subst P there (cell (from / w) (from % w) cellBelow (mod-lt from {m = w} (omega arith)))
 
 -- every word of a cell is one of the six before the coordinates, a coordinate or a link
@@ -84,7 +84,7 @@ field-cases P D first coordinate link j h = at (decLt j fieldsBeforeCoordinates)
         let there : linkField D (j - (fieldsBeforeCoordinates + D)) ≡ j = omega arith in
         subst P there (link (j - (fieldsBeforeCoordinates + D)) (omega arith))
 
--- words of the exact length that agree in each place are the same
+-- words of the exact length that agree in each cell's word are the same
 pub words-equal : {D C : ℕ} {us ws : List ℕ} → Exact D C us → Exact D C ws → ((i : ℕ) → i < headerWords → getD us i 0 ≡ getD ws i 0) →
     ((d : ℕ) → d < D → getD us (headerWords + d) 0 ≡ getD ws (headerWords + d) 0) →
     ((x j : ℕ) → x < C → j < cellWords D → wordIn D us x j ≡ wordIn D ws x j) → us ≡ ws
@@ -99,24 +99,24 @@ exact-set {ws = ws} e i v = record { size = length-set ws i v ∙ e .size }
 pub exact-sets : {D C : ℕ} {ws : List ℕ} → Exact D C ws → (i : ℕ) (vs : List ℕ) → Exact D C (sets ws i vs)
 exact-sets {ws = ws} e i vs = record { size = length-sets ws i vs ∙ e .size }
 
--- a store below every place: in the header
+-- a store below every cell's word: in the header
 pub header-set-same : {D C : ℕ} {ws : List ℕ} → Exact D C ws → (i v : ℕ) → i < headerWords → getD (set ws i v) i 0 ≡ v
 header-set-same {ws = ws} e i v h = getD-set-same ws i v 0 (omega arith)
 
 pub header-set-path : (ws : List ℕ) (i v d : ℕ) → i < headerWords → getD (set ws i v) (headerWords + d) 0 ≡ getD ws (headerWords + d) 0
 header-set-path ws i v d h = getD-set-other ws i (headerWords + d) v 0 (λ e. omega arith)
 
-pub header-set-place : (D : ℕ) (ws : List ℕ) (i v x j : ℕ) → i < headerWords → wordIn D (set ws i v) x j ≡ wordIn D ws x j
-header-set-place D ws i v x j h = getD-set-other ws i (place D x j) v 0 (λ e. omega arith)
+pub header-set-word : (D : ℕ) (ws : List ℕ) (i v x j : ℕ) → i < headerWords → wordIn D (set ws i v) x j ≡ wordIn D ws x j
+header-set-word D ws i v x j h = getD-set-other ws i (wordIndex D x j) v 0 (λ e. omega arith)
 
 pub store-same : {D C : ℕ} {ws : List ℕ} → Exact D C ws → (x j v : ℕ) → x < C → j < cellWords D → wordIn D (store D ws x j v) x j ≡ v
-store-same {D} {C} {ws} e x j v h k = getD-set-same ws (place D x j) v 0 (omega (arith, place-inside D C x j h k))
+store-same {D} {C} {ws} e x j v h k = getD-set-same ws (wordIndex D x j) v 0 (omega (arith, index-inside D C x j h k))
 
 pub store-other : (D : ℕ) (ws : List ℕ) (x j v y i : ℕ) → j < cellWords D → i < cellWords D → (y ≡ x → i ≡ j → ⊥) → wordIn D (store D ws x j v) y i ≡ wordIn D ws y i
-store-other D ws x j v y i h k apart = getD-set-other ws (place D x j) (place D y i) v 0 (λ e. let same = place-apart D y x i j k h e in apart (same .0) (same .1))
+store-other D ws x j v y i h k apart = getD-set-other ws (wordIndex D x j) (wordIndex D y i) v 0 (λ e. let same = index-apart D y x i j k h e in apart (same .0) (same .1))
 
 pub store-below : (D : ℕ) (ws : List ℕ) (x j v i : ℕ) → i < headerWords + D → getD (store D ws x j v) i 0 ≡ getD ws i 0
-store-below D ws x j v i h = getD-set-other ws (place D x j) i v 0 (λ e. omega arith)
+store-below D ws x j v i h = getD-set-other ws (wordIndex D x j) i v 0 (λ e. omega arith)
 
 -- A run of stores
 
@@ -141,32 +141,32 @@ sets-inside ws (v ∷ vs) i (suc k) h l =
 
 -- some words of cell x from word a on
 module _ {D C : ℕ} {ws : List ℕ} (exact : Exact D C ws) (x a : ℕ) (vs : List ℕ) (here : x < C) (fit : a + length vs ≤ cellWords D) where
-  pub cell-sets-inside : (k : ℕ) → k < length vs → wordIn D (sets ws (place D x a) vs) x (a + k) ≡ getD vs k 0
+  pub cell-sets-inside : (k : ℕ) → k < length vs → wordIn D (sets ws (wordIndex D x a) vs) x (a + k) ≡ getD vs k 0
   cell-sets-inside k h =
-      let there : place D x (a + k) ≡ place D x a + k = omega arith in
-      ap (λ n. getD (sets ws (place D x a) vs) n 0) there
-      ∙ sets-inside ws vs (place D x a) k h (omega (arith, mul-le-mul-right {m = suc x} {n = C} (cellWords D) here, suc-mul x (cellWords D)))
+      let there : wordIndex D x (a + k) ≡ wordIndex D x a + k = omega arith in
+      ap (λ n. getD (sets ws (wordIndex D x a) vs) n 0) there
+      ∙ sets-inside ws vs (wordIndex D x a) k h (omega (arith, mul-le-mul-right {m = suc x} {n = C} (cellWords D) here, suc-mul x (cellWords D)))
 
 -- the other words of that cell
-pub cell-sets-before : (D : ℕ) (ws : List ℕ) (x a : ℕ) (vs : List ℕ) (j : ℕ) → j < a → wordIn D (sets ws (place D x a) vs) x j ≡ wordIn D ws x j
-cell-sets-before D ws x a vs j h = sets-before ws vs (place D x a) (place D x j) (omega arith)
+pub cell-sets-before : (D : ℕ) (ws : List ℕ) (x a : ℕ) (vs : List ℕ) (j : ℕ) → j < a → wordIn D (sets ws (wordIndex D x a) vs) x j ≡ wordIn D ws x j
+cell-sets-before D ws x a vs j h = sets-before ws vs (wordIndex D x a) (wordIndex D x j) (omega arith)
 
-pub cell-sets-after : (D : ℕ) (ws : List ℕ) (x a : ℕ) (vs : List ℕ) (j : ℕ) → a + length vs ≤ j → wordIn D (sets ws (place D x a) vs) x j ≡ wordIn D ws x j
-cell-sets-after D ws x a vs j h = sets-after ws vs (place D x a) (place D x j) (omega arith)
+pub cell-sets-after : (D : ℕ) (ws : List ℕ) (x a : ℕ) (vs : List ℕ) (j : ℕ) → a + length vs ≤ j → wordIn D (sets ws (wordIndex D x a) vs) x j ≡ wordIn D ws x j
+cell-sets-after D ws x a vs j h = sets-after ws vs (wordIndex D x a) (wordIndex D x j) (omega arith)
 
 -- the other cells
 pub cell-sets-other : (D : ℕ) (ws : List ℕ) (x a : ℕ) (vs : List ℕ) → a + length vs ≤ cellWords D → (y j : ℕ) → j < cellWords D → (y ≡ x → ⊥) →
-    wordIn D (sets ws (place D x a) vs) y j ≡ wordIn D ws y j
+    wordIn D (sets ws (wordIndex D x a) vs) y j ≡ wordIn D ws y j
 cell-sets-other D ws x a vs fit y j h ne = at (decLt y x)
   where
-    at : Dec (y < x) → wordIn D (sets ws (place D x a) vs) y j ≡ wordIn D ws y j
-    at (yes l) = sets-before ws vs (place D x a) (place D y j) (omega (arith, mul-le-mul-right {m = suc y} {n = x} (cellWords D) l, suc-mul y (cellWords D)))
+    at : Dec (y < x) → wordIn D (sets ws (wordIndex D x a) vs) y j ≡ wordIn D ws y j
+    at (yes l) = sets-before ws vs (wordIndex D x a) (wordIndex D y j) (omega (arith, mul-le-mul-right {m = suc y} {n = x} (cellWords D) l, suc-mul y (cellWords D)))
     at (no l) =
         let more : suc x ≤ y = lt-of-le-ne (omega arith) (λ e. ne (sym e)) in
-        sets-after ws vs (place D x a) (place D y j) (omega (arith, mul-le-mul-right {m = suc x} {n = y} (cellWords D) more, suc-mul x (cellWords D)))
+        sets-after ws vs (wordIndex D x a) (wordIndex D y j) (omega (arith, mul-le-mul-right {m = suc x} {n = y} (cellWords D) more, suc-mul x (cellWords D)))
 
-pub cell-sets-below : (D : ℕ) (ws : List ℕ) (x a : ℕ) (vs : List ℕ) (i : ℕ) → i < headerWords + D → getD (sets ws (place D x a) vs) i 0 ≡ getD ws i 0
-cell-sets-below D ws x a vs i h = sets-before ws vs (place D x a) i (omega arith)
+pub cell-sets-below : (D : ℕ) (ws : List ℕ) (x a : ℕ) (vs : List ℕ) (i : ℕ) → i < headerWords + D → getD (sets ws (wordIndex D x a) vs) i 0 ≡ getD ws i 0
+cell-sets-below D ws x a vs i h = sets-before ws vs (wordIndex D x a) i (omega arith)
 
 -- the path
 pub path-sets-header : (ws path : List ℕ) (i : ℕ) → i < headerWords → getD (writePath ws path) i 0 ≡ getD ws i 0
@@ -175,15 +175,15 @@ path-sets-header ws path i h = sets-before ws path headerWords i h
 pub path-sets-path : {D C : ℕ} {ws : List ℕ} → Exact D C ws → (path : List ℕ) → length path ≡ D → (d : ℕ) → d < D → getD (writePath ws path) (headerWords + d) 0 ≡ getD path d 0
 path-sets-path {ws = ws} exact path e d h = sets-inside ws path headerWords d (omega arith) (omega arith)
 
-pub path-sets-place : (D : ℕ) (ws path : List ℕ) → length path ≡ D → (x j : ℕ) → wordIn D (writePath ws path) x j ≡ wordIn D ws x j
-path-sets-place D ws path e x j = sets-after ws path headerWords (place D x j) (omega arith)
+pub path-sets-word : (D : ℕ) (ws path : List ℕ) → length path ≡ D → (x j : ℕ) → wordIn D (writePath ws path) x j ≡ wordIn D ws x j
+path-sets-word D ws path e x j = sets-after ws path headerWords (wordIndex D x j) (omega arith)
 
 -- a path written where it stands changes nothing
 pub path-sets-same : {D C : ℕ} {ws : List ℕ} → Exact D C ws → (path : List ℕ) → length path ≡ D → ((d : ℕ) → d < D → getD ws (headerWords + d) 0 ≡ getD path d 0) → writePath ws path ≡ ws
 path-sets-same {D} {C} {ws} exact path e stands =
     words-equal (exact-sets exact headerWords path) exact (path-sets-header ws path)
     (λ d h. path-sets-path exact path e d h ∙ sym (stands d h))
-    (λ x j h k. path-sets-place D ws path e x j)
+    (λ x j h k. path-sets-word D ws path e x j)
 
 -- Links moved
 
@@ -193,15 +193,15 @@ moveLinks-length D ws n c d zero = refl
 moveLinks-length D ws n c d (suc k) =
     let given = store D ws n (linkField D d) (wordIn D ws c (linkField D d)) in
     moveLinks-length D (store D given c (linkField D d) 0) n c (suc d) k
-    ∙ length-set given (place D c (linkField D d)) 0
-    ∙ length-set ws (place D n (linkField D d)) (wordIn D ws c (linkField D d))
+    ∙ length-set given (wordIndex D c (linkField D d)) 0
+    ∙ length-set ws (wordIndex D n (linkField D d)) (wordIn D ws c (linkField D d))
 
 pub exact-moved : {D C : ℕ} {ws : List ℕ} → Exact D C ws → (n c d k : ℕ) → Exact D C (moveLinks D ws n c d k)
 exact-moved {D} {C} {ws} e n c d k = record { size = moveLinks-length D ws n c d k ∙ e .size }
 
 -- a word that is none of the links in question
 pub moveLinks-kept : (D : ℕ) (ws : List ℕ) (n c d k i : ℕ) →
-    ((m : ℕ) → d ≤ m → m < d + k → (i ≡ place D n (linkField D m) → ⊥) × (i ≡ place D c (linkField D m) → ⊥)) →
+    ((m : ℕ) → d ≤ m → m < d + k → (i ≡ wordIndex D n (linkField D m) → ⊥) × (i ≡ wordIndex D c (linkField D m) → ⊥)) →
     getD (moveLinks D ws n c d k) i 0 ≡ getD ws i 0
 unfolding moveLinks
 moveLinks-kept D ws n c d zero i apart = refl
@@ -210,33 +210,33 @@ moveLinks-kept D ws n c d (suc k) i apart =
     let given = store D ws n (linkField D d) value in
     let first = apart d (omega arith) (omega arith) in
     moveLinks-kept D (store D given c (linkField D d) 0) n c (suc d) k i (λ m h l. apart m (omega arith) (omega arith))
-    ∙ getD-set-other given (place D c (linkField D d)) i 0 0 (first .1)
-    ∙ getD-set-other ws (place D n (linkField D d)) i value 0 (first .0)
+    ∙ getD-set-other given (wordIndex D c (linkField D d)) i 0 0 (first .1)
+    ∙ getD-set-other ws (wordIndex D n (linkField D d)) i value 0 (first .0)
 
 pub moveLinks-below : (D : ℕ) (ws : List ℕ) (n c d k i : ℕ) → i < headerWords + D → getD (moveLinks D ws n c d k) i 0 ≡ getD ws i 0
 moveLinks-below D ws n c d k i h =
-    moveLinks-kept D ws n c d k i (λ m l u. (place-above D n (linkField D m) i h, place-above D c (linkField D m) i h))
+    moveLinks-kept D ws n c d k i (λ m l u. (index-above D n (linkField D m) i h, index-above D c (linkField D m) i h))
 
 -- the words of a cell that is neither of the two
 pub moveLinks-cell : (D : ℕ) (ws : List ℕ) (n c d k : ℕ) → d + k ≤ D → (x j : ℕ) → j < cellWords D → (x ≡ n → ⊥) → (x ≡ c → ⊥) →
     wordIn D (moveLinks D ws n c d k) x j ≡ wordIn D ws x j
 moveLinks-cell D ws n c d k fit x j h not-n not-c =
-    moveLinks-kept D ws n c d k (place D x j)
-    (λ m l u. (λ e. not-n (place-apart D x n j (linkField D m) h (omega arith) e .0), λ e. not-c (place-apart D x c j (linkField D m) h (omega arith) e .0)))
+    moveLinks-kept D ws n c d k (wordIndex D x j)
+    (λ m l u. (λ e. not-n (index-apart D x n j (linkField D m) h (omega arith) e .0), λ e. not-c (index-apart D x c j (linkField D m) h (omega arith) e .0)))
 
 -- a field that is none of the links in question
 pub moveLinks-field : (D : ℕ) (ws : List ℕ) (n c d k : ℕ) → d + k ≤ D → (x j : ℕ) → j < cellWords D →
     ((m : ℕ) → d ≤ m → m < d + k → j ≡ linkField D m → ⊥) → wordIn D (moveLinks D ws n c d k) x j ≡ wordIn D ws x j
 moveLinks-field D ws n c d k fit x j h other =
-    moveLinks-kept D ws n c d k (place D x j)
-    (λ m l u. (λ e. other m l u (place-apart D x n j (linkField D m) h (omega arith) e .1), λ e. other m l u (place-apart D x c j (linkField D m) h (omega arith) e .1)))
+    moveLinks-kept D ws n c d k (wordIndex D x j)
+    (λ m l u. (λ e. other m l u (index-apart D x n j (linkField D m) h (omega arith) e .1), λ e. other m l u (index-apart D x c j (linkField D m) h (omega arith) e .1)))
 
 -- the words after one link has moved
 abbrev movedLink : ℕ → List ℕ → ℕ → ℕ → ℕ → List ℕ
 movedLink D ws n c d = store D (store D ws n (linkField D d) (wordIn D ws c (linkField D d))) c (linkField D d) 0
 
 exact-link : {D C : ℕ} {ws : List ℕ} → Exact D C ws → (n c d : ℕ) → Exact D C (movedLink D ws n c d)
-exact-link {D} {C} {ws} exact n c d = exact-set (exact-set exact (place D n (linkField D d)) (wordIn D ws c (linkField D d))) (place D c (linkField D d)) 0
+exact-link {D} {C} {ws} exact n c d = exact-set (exact-set exact (wordIndex D n (linkField D d)) (wordIn D ws c (linkField D d))) (wordIndex D c (linkField D d)) 0
 
 -- the other links of all cells
 link-other : (D : ℕ) (ws : List ℕ) (n c d x i : ℕ) → d < D → i < D → (d ≡ i → ⊥) → wordIn D (movedLink D ws n c d) x (linkField D i) ≡ wordIn D ws x (linkField D i)
@@ -288,7 +288,7 @@ moveLinks-cleared {D} {C} {ws} exact n c d (suc k) here fit i h l =
         let value = wordIn D ws c (linkField D d) in
         subst (λ m. wordIn D (moveLinks D moved n c (suc d) k) c (linkField D m) ≡ 0) e
         (lower-kept D moved n c d k c (omega arith)
-        ∙ store-same (exact-set exact (place D n (linkField D d)) value) c (linkField D d) 0 here (omega arith))
+        ∙ store-same (exact-set exact (wordIndex D n (linkField D d)) value) c (linkField D d) 0 here (omega arith))
     at (no ne) more = more (lt-of-le-ne h ne) (omega arith)
 
 -- What a cell owes, finished
@@ -311,7 +311,7 @@ exact-finished {D} {C} {ws} exact n = at (eqb (owedAt ws n) 0)
   where
     at : (t : Bool) → Exact D C (cond t ws (settledWords D ws n))
     at true = exact
-    at false = exact-sets (exact-moved exact n (owedAt ws n) (lowAt ws n) (highAt ws n - lowAt ws n)) (place D n 3) (0 ∷ 0 ∷ 0 ∷ [])
+    at false = exact-sets (exact-moved exact n (owedAt ws n) (lowAt ws n) (highAt ws n - lowAt ws n)) (wordIndex D n 3) (0 ∷ 0 ∷ 0 ∷ [])
 
 pub finishWords-below : (D : ℕ) (ws : List ℕ) (n i : ℕ) → i < headerWords + D → getD (finishWords D ws n) i 0 ≡ getD ws i 0
 unfolding finishWords
@@ -330,7 +330,7 @@ zeros-at (suc (suc zero)) = refl
 zeros-at (suc (suc (suc k))) = refl
 
 -- cell n owes something that can be finished
-pub record Owing (D C : ℕ) (ws : List ℕ) (n : ℕ) : Type 0 where
+pub record OwingWithin (D C : ℕ) (ws : List ℕ) (n : ℕ) : Type 0 where
   pub cell : n < C
   pub owes : 0 < owedAt ws n
   pub owed : owedAt ws n < C
@@ -338,7 +338,7 @@ pub record Owing (D C : ℕ) (ws : List ℕ) (n : ℕ) : Type 0 where
   pub low : lowAt ws n ≤ highAt ws n
   pub high : highAt ws n ≤ D
 
-module _ {D C : ℕ} {ws : List ℕ} (exact : Exact D C ws) (n : ℕ) (debt : Owing D C ws n) where
+module _ {D C : ℕ} {ws : List ℕ} (exact : Exact D C ws) (n : ℕ) (debt : OwingWithin D C ws n) where
   abbrev moved : List ℕ
   moved = moveLinks D ws n (owedAt ws n) (lowAt ws n) (highAt ws n - lowAt ws n)
 
@@ -351,20 +351,20 @@ module _ {D C : ℕ} {ws : List ℕ} (exact : Exact D C ws) (n : ℕ) (debt : Ow
   -- ".. and clears the three words"
   pub finishWords-debt : (k : ℕ) → k < 3 → wordIn D (finishWords D ws n) n (3 + k) ≡ 0
   finishWords-debt k h =
-      finished-as (place D n (3 + k)) 0
+      finished-as (wordIndex D n (3 + k)) 0
       (cell-sets-inside (exact-moved exact n (owedAt ws n) (lowAt ws n) (highAt ws n - lowAt ws n)) n 3 (0 ∷ 0 ∷ 0 ∷ []) (debt .cell) (omega arith) k h ∙ zeros-at k)
 
   -- links low to high-1 of n are those that stood in the owed cell
   pub finishWords-given : (i : ℕ) → lowAt ws n ≤ i → i < highAt ws n → wordIn D (finishWords D ws n) n (linkField D i) ≡ wordIn D ws (owedAt ws n) (linkField D i)
   finishWords-given i h l =
-      finished-as (place D n (linkField D i)) (wordIn D ws (owedAt ws n) (linkField D i))
+      finished-as (wordIndex D n (linkField D i)) (wordIn D ws (owedAt ws n) (linkField D i))
       (cell-sets-after D moved n 3 (0 ∷ 0 ∷ 0 ∷ []) (linkField D i) (omega arith)
       ∙ moveLinks-given exact n (owedAt ws n) (lowAt ws n) (highAt ws n - lowAt ws n) (debt .cell) (debt .apart) fits i h (omega arith))
 
   -- and those of the owed cell are 0
   pub finishWords-cleared : (i : ℕ) → lowAt ws n ≤ i → i < highAt ws n → wordIn D (finishWords D ws n) (owedAt ws n) (linkField D i) ≡ 0
   finishWords-cleared i h l =
-      finished-as (place D (owedAt ws n) (linkField D i)) 0
+      finished-as (wordIndex D (owedAt ws n) (linkField D i)) 0
       (cell-sets-other D moved n 3 (0 ∷ 0 ∷ 0 ∷ []) (omega arith) (owedAt ws n) (linkField D i) (omega arith) (λ e. debt .apart (sym e))
       ∙ moveLinks-cleared exact n (owedAt ws n) (lowAt ws n) (highAt ws n - lowAt ws n) (debt .owed) fits i h (omega arith))
 
@@ -372,7 +372,7 @@ module _ {D C : ℕ} {ws : List ℕ} (exact : Exact D C ws) (n : ℕ) (debt : Ow
   pub finishWords-other : (x j : ℕ) → j < cellWords D → (x ≡ n → 3 ≤ j → j < fieldsBeforeCoordinates → ⊥) →
       ((i : ℕ) → lowAt ws n ≤ i → i < highAt ws n → j ≡ linkField D i → (x ≡ n → ⊥) × (x ≡ owedAt ws n → ⊥)) →
       wordIn D (finishWords D ws n) x j ≡ wordIn D ws x j
-  finishWords-other x j h not-debt not-link = finished-as (place D x j) (wordIn D ws x j) (uncleared (ℕ-discrete x n) (decLt j 3) ∙ unmoved)
+  finishWords-other x j h not-debt not-link = finished-as (wordIndex D x j) (wordIn D ws x j) (uncleared (ℕ-discrete x n) (decLt j 3) ∙ unmoved)
     where
       at-least : x ≡ n → 3 ≤ j → Dec (j < fieldsBeforeCoordinates) → fieldsBeforeCoordinates ≤ j
       at-least e l (yes u) = absurd (not-debt e l u)
@@ -387,10 +387,10 @@ module _ {D C : ℕ} {ws : List ℕ} (exact : Exact D C ws) (n : ℕ) (debt : Ow
 
       unmoved : wordIn D moved x j ≡ wordIn D ws x j
       unmoved =
-          moveLinks-kept D ws n (owedAt ws n) (lowAt ws n) (highAt ws n - lowAt ws n) (place D x j)
+          moveLinks-kept D ws n (owedAt ws n) (lowAt ws n) (highAt ws n - lowAt ws n) (wordIndex D x j)
           (λ i l u. (
-            λ e. let same = place-apart D x n j (linkField D i) h (omega (arith, fits)) e in not-link i l (omega arith) (same .1) .0 (same .0),
-            λ e. let same = place-apart D x (owedAt ws n) j (linkField D i) h (omega (arith, fits)) e in not-link i l (omega arith) (same .1) .1 (same .0),
+            λ e. let same = index-apart D x n j (linkField D i) h (omega (arith, fits)) e in not-link i l (omega arith) (same .1) .0 (same .0),
+            λ e. let same = index-apart D x (owedAt ws n) j (linkField D i) h (omega (arith, fits)) e in not-link i l (omega arith) (same .1) .1 (same .0),
           ))
 
   -- every word of a cell that is neither of the two
@@ -412,16 +412,16 @@ module _ {D C : ℕ} {ws : List ℕ} (exact : Exact D C ws) (n : ℕ) (debt : Ow
   finishWords-after j l h other = finishWords-other n j h (λ e m u. omega arith) (λ i m u e. absurd (other i m u e))
 
 -- a word read by the dimensions that the words say
-pub wordAt-in : (D : ℕ) (ws : List ℕ) → getD ws 0 0 ≡ D → (x j : ℕ) → wordAt ws x j ≡ wordIn D ws x j
+pub wordAt-in : (D : ℕ) (ws : List ℕ) → dimensionsAt ws ≡ D → (x j : ℕ) → wordAt ws x j ≡ wordIn D ws x j
 wordAt-in D ws e x j = ap (λ m. wordIn m ws x j) e
 
-pub linkAt-in : (D : ℕ) (ws : List ℕ) → getD ws 0 0 ≡ D → (x d : ℕ) → linkAt ws x d ≡ wordIn D ws x (linkField D d)
+pub linkAt-in : (D : ℕ) (ws : List ℕ) → dimensionsAt ws ≡ D → (x d : ℕ) → linkAt ws x d ≡ wordIn D ws x (linkField D d)
 linkAt-in D ws e x d = ap (λ m. wordIn m ws x (linkField m d)) e
 
-pub finishWords-finished : {D C : ℕ} {ws : List ℕ} → Exact D C ws → getD ws 0 0 ≡ D → (n : ℕ) → Owing D C ws n → Finished ws (finishWords D ws n) n
+pub finishWords-finished : {D C : ℕ} {ws : List ℕ} → Exact D C ws → dimensionsAt ws ≡ D → (n : ℕ) → OwingWithin D C ws n → Finished ws (finishWords D ws n) n
 finishWords-finished {D} {C} {ws} exact dimensions n debt =
     let us = finishWords D ws n in
-    let same : getD us 0 0 ≡ D = finishWords-below D ws n 0 (omega arith) ∙ dimensions in
+    let same : dimensionsAt us ≡ D = finishWords-below D ws n 0 (omega arith) ∙ dimensions in
     record {
       given = λ d l h. linkAt-in D us same n d ∙ finishWords-given exact n debt d l h ∙ sym (linkAt-in D ws dimensions (owedAt ws n) d);
       cleared = λ d l h. linkAt-in D us same (owedAt ws n) d ∙ finishWords-cleared exact n debt d l h;

@@ -1,5 +1,5 @@
 -- Dropping the front of a row in which nobody owes, word by word. Every link is settled; so the words of a cell that stays depend on its
--- entry, its dimension and the entries after it, and dropping the front changes them for the head and the new position alone.
+-- node, its dimension and the nodes after it, and dropping the front changes them for the head and the new position alone.
 use mathlib.Core.Path.{_≡_, refl, sym, ap, ap₂, _∙_, subst}
 use mathlib.Core.Bool.{Bool, false}
 use mathlib.Core.List.{List, [], _∷_, _++_, map, reverseAux, map-append}
@@ -11,25 +11,26 @@ use lib.Arith.{lt-of-le-ne}
 use lib.ListN.{getD}
 use borrow.Author.Tests.{lt-leb}
 use Rattle.settings.specs.Numbers.{headerWords, fieldsBeforeCoordinates, cellWords}
+use Rattle.lists.specs.Lists.{occurrences}
+use Rattle.lists.proofs.Occurrences.{Distinct, occurrences-none, distinct-left, occurrences-reverseAux, occurs-has}
+use Rattle.lists.proofs.All.{All, all-left, all-right, all-mapped, all-at}
 use Rattle.meaning.specs.Keys.{coordinate, shared}
-use Rattle.meaning.specs.Row.{Entry, headEntry, firstSharing, Place, headPlace, placesAfter, places, settledLink, placeOf}
-use Rattle.meaning.specs.State.{State, positionKey, occurrences}
+use Rattle.meaning.specs.Row.{Node, headNode, firstSharing, Place, headPlace, placesAfter, places, settledLink, placeOf}
+use Rattle.meaning.specs.State.{State, positionKey, placesOf}
 use Rattle.meaning.specs.Picture.{nextFree, freeWords, wordsOf, firstWith, picture}
 use Rattle.meaning.specs.Operations.{withRow}
-use Rattle.meaning.specs.Paths.{pathFor}
-use Rattle.meaning.specs.Stores.{linkField}
-use Rattle.meaning.specs.SweepStores.{dropFront}
-use Rattle.meaning.proofs.Order.{All, all-left, all-right}
+use Rattle.meaning.specs.Layer.Paths.{pathFor}
+use Rattle.meaning.specs.Layer.SweepStores.{dropFront}
+use Rattle.meaning.specs.Words.{linkField}
 use Rattle.meaning.proofs.Keys.{shared-same, shared-le, shared-less}
 use Rattle.meaning.proofs.State.{Sound, base-positive}
-use Rattle.meaning.proofs.Cells.{Distinct, occurrences-none, distinct-left, row-distinct, row-range}
+use Rattle.meaning.proofs.Cells.{row-distinct, row-range}
 use Rattle.meaning.proofs.Picture.{picture-free, picture-path, place-here, place-past, free-found}
-use Rattle.meaning.proofs.Places.{all-mapped, all-at, occurrences-reverseAux, lastFrom, dimensionFrom, keyOf-same, keyOf-other}
-use Rattle.meaning.proofs.Keeps.{cell-alone}
+use Rattle.meaning.proofs.Places.{lastFrom, dimensionFrom, keyOf-same, keyOf-other}
+use Rattle.meaning.proofs.KeepsState.{cell-alone}
 use Rattle.meaning.proofs.Parent.{dimensionAfter, Without, asc-last, apart-before, place-at, first-skips, first-hits}
 use Rattle.meaning.proofs.Slot.{sound-apart, dimensions-positive}
-use Rattle.meaning.proofs.SentencesNumbers.{occurs-has}
-use Rattle.meaning.proofs.SentencesCells.{placesIn, Placed, placed-has, placed-below, head-placed}
+use Rattle.meaning.proofs.Placed.{Placed, placed-has, placed-below, head-placed}
 use Rattle.meaning.proofs.WalkRead.{settled-above}
 use Rattle.meaning.proofs.Stores.{Exact, wordIn, picture-exact, words-equal, field-cases}
 use Rattle.meaning.proofs.Changed.{wordsBy, standing-by, by-coordinate, by-link, picture-place, placed-word}
@@ -38,21 +39,21 @@ use Rattle.meaning.proofs.SweepStores.{nextFree-behind, Dropping, exact
 
 -- Words of cells where nothing is owed
 
--- neither a place's entry nor the one before it owes
+-- neither a place's node nor the one before it owes
 abbrev Unowing : Place → Type 0
-Unowing p = (p .before .owes ≡ false) × (p .entry .owes ≡ false)
+Unowing p = (p .before .owes ≡ false) × (p .node .owes ≡ false)
 
-unowing-after : (b D : ℕ) (a : Entry) (e : ℕ) (row : List Entry) → a .owes ≡ false → All (λ x. x .owes ≡ false) row → All Unowing (placesAfter b D a e row)
+unowing-after : (b D : ℕ) (a : Node) (e : ℕ) (row : List Node) → a .owes ≡ false → All (λ x. x .owes ≡ false) row → All Unowing (placesAfter b D a e row)
 unfolding placesAfter
 unowing-after b D a e [] p h = tt
 unowing-after b D a e (x ∷ row) p h = ((p, h .0), unowing-after b D x (shared b D (a .key) (x .key)) row (h .0) (h .1))
 
-unowing-places : (b D : ℕ) (row : List Entry) → All (λ x. x .owes ≡ false) row → All Unowing (places b D row)
+unowing-places : (b D : ℕ) (row : List Node) → All (λ x. x .owes ≡ false) row → All Unowing (places b D row)
 unfolding places
-unowing-places b D row h = ((refl, refl), unowing-after b D headEntry 0 row refl h)
+unowing-places b D row h = ((refl, refl), unowing-after b D headNode 0 row refl h)
 
--- words before the links depend on the entry alone
-before-links : (b D value : ℕ) (live : Bool) (p q : Place) → p .entry .key ≡ q .entry .key → (j : ℕ) → j < fieldsBeforeCoordinates + D →
+-- words before the links depend on the node alone
+before-links : (b D value : ℕ) (live : Bool) (p q : Place) → p .node .key ≡ q .node .key → (j : ℕ) → j < fieldsBeforeCoordinates + D →
     getD (wordsBy b D value live false false p) j 0 ≡ getD (wordsBy b D value live false false q) j 0
 unfolding wordsBy
 before-links b D value live p q e j h = at (decLt j fieldsBeforeCoordinates)
@@ -77,31 +78,31 @@ before-links b D value live p q e j h = at (decLt j fieldsBeforeCoordinates)
 
 -- a standing cell's words
 unowing-word : (s : State) → Sound s → All (λ x. x .owes ≡ false) (s .row) → {x : ℕ} {p : Place} → Placed s x p → (j : ℕ) → j < cellWords (s .settings .dimensions) →
-    wordIn (s .settings .dimensions) (picture s) x j ≡ getD (wordsBy (s .settings .base) (s .settings .dimensions) (p .entry .value) (p .entry .live) false false p) j 0
+    wordIn (s .settings .dimensions) (picture s) x j ≡ getD (wordsBy (s .settings .base) (s .settings .dimensions) (p .node .value) (p .node .live) false false p) j 0
 unowing-word s v unowing {x} {p} here j h =
     let nothing = placed-has here Unowing (unowing-places (s .settings .base) (s .settings .dimensions) (s .row) unowing) in
     placed-word s here j (placed-below v here) h
-    ∙ ap₂ (λ t u. getD (wordsBy (s .settings .base) (s .settings .dimensions) (p .entry .value) (p .entry .live) t u p) j 0) (nothing .0) (nothing .1)
+    ∙ ap₂ (λ t u. getD (wordsBy (s .settings .base) (s .settings .dimensions) (p .node .value) (p .node .live) t u p) j 0) (nothing .0) (nothing .1)
 
 -- its links are settled
 unowing-link : (s : State) → Sound s → All (λ x. x .owes ≡ false) (s .row) → {x : ℕ} {p : Place} → Placed s x p → (d : ℕ) → d < s .settings .dimensions →
     wordIn (s .settings .dimensions) (picture s) x (linkField (s .settings .dimensions) d) ≡ settledLink (s .settings .base) (s .settings .dimensions) p d
 unowing-link s v unowing {x} {p} here d h =
     unowing-word s v unowing here (linkField (s .settings .dimensions) d) (omega arith)
-    ∙ by-link (s .settings .base) (s .settings .dimensions) (p .entry .value) (p .entry .live) false false p d h
+    ∙ by-link (s .settings .base) (s .settings .dimensions) (p .node .value) (p .node .live) false false p d h
 
 settled-below : (b D : ℕ) (p : Place) (d : ℕ) → d < p .dimension → settledLink b D p d ≡ 0
 settled-below b D p d h = rw (lt-leb (p .dimension) d h) refl
 
--- the words of what comes after an entry that owes nothing do not depend on that one's dimension
-later-words : (b D : ℕ) (free : List ℕ) (y : ℕ) (a : Entry) (e f : ℕ) (later : List Entry) → a .owes ≡ false →
+-- the words of what comes after a node that owes nothing do not depend on that one's dimension
+later-words : (b D : ℕ) (free : List ℕ) (y : ℕ) (a : Node) (e f : ℕ) (later : List Node) → a .owes ≡ false →
     wordsOf b D free y (placeOf y (placesAfter b D a e later)) ≡ wordsOf b D free y (placeOf y (placesAfter b D a f later))
 unfolding placesAfter wordsOf wordsBy
 later-words b D free y a e f [] h = refl
 later-words b D free y a e f (x ∷ later) h = at (ℕ-discrete (x .cell) y)
   where
     here : ℕ → Place
-    here n = record { entry = x; dimension = shared b D (a .key) (x .key); before = a; beforeDimension = n; later = later }
+    here n = record { node = x; dimension = shared b D (a .key) (x .key); before = a; beforeDimension = n; later = later }
 
     more : List Place
     more = placesAfter b D x (shared b D (a .key) (x .key)) later
@@ -114,14 +115,14 @@ later-words b D free y a e f (x ∷ later) h = at (ℕ-discrete (x .cell) y)
     at (no ne) = ap (wordsOf b D free y) (place-past y (here e) more ne ∙ sym (place-past y (here f) more ne))
 
 -- the places of what comes after x, in a row with a front
-places-past : (b D y : ℕ) (a : Entry) (e : ℕ) (front : List Entry) (x : Entry) (later : List Entry) → All (λ c. y ≡ c → ⊥) (map (λ z. z .cell) front) → (y ≡ x .cell → ⊥) →
+places-past : (b D y : ℕ) (a : Node) (e : ℕ) (front : List Node) (x : Node) (later : List Node) → All (λ c. y ≡ c → ⊥) (map (λ z. z .cell) front) → (y ≡ x .cell → ⊥) →
     placeOf y (placesAfter b D a e (front ++ x ∷ later)) ≡ placeOf y (placesAfter b D x (dimensionAfter b D a front (x .key)) later)
 unfolding placesAfter lastFrom
 places-past b D y a e [] x later o ne =
-    place-past y (record { entry = x; dimension = shared b D (a .key) (x .key); before = a; beforeDimension = e; later = later })
+    place-past y (record { node = x; dimension = shared b D (a .key) (x .key); before = a; beforeDimension = e; later = later })
     (placesAfter b D x (shared b D (a .key) (x .key)) later) (λ q. ne (sym q))
 places-past b D y a e (z ∷ front) x later o ne =
-    place-past y (record { entry = z; dimension = shared b D (a .key) (z .key); before = a; beforeDimension = e; later = front ++ x ∷ later })
+    place-past y (record { node = z; dimension = shared b D (a .key) (z .key); before = a; beforeDimension = e; later = front ++ x ∷ later })
     (placesAfter b D z (shared b D (a .key) (z .key)) (front ++ x ∷ later)) (λ q. o .0 (sym q))
     ∙ places-past b D y z (shared b D (a .key) (z .key)) front x later (o .1) ne
 
@@ -147,35 +148,35 @@ word-cases P D before link j h = field-cases P D (λ i l. before i (omega arith)
 -- The front dropped
 
 -- the row with a front before x
-abbrev pub fronted : State → List Entry → Entry → List Entry → State
+abbrev pub fronted : State → List Node → Node → List Node → State
 fronted s front x later = withRow s (front ++ x ∷ later)
 
 -- x the position, the cells of the front put in front of the free chain
-abbrev pub dropped : State → List Entry → Entry → List Entry → State
+abbrev pub dropped : State → List Node → Node → List Node → State
 dropped s front x later = record { settings = s .settings; row = x ∷ later; free = reverseAux (map (λ y. y .cell) front) (s .free); position = x .cell }
 
 -- how many coordinates x shares with the head, and the number of the link by which it was reached
-abbrev pub zeros : State → Entry → ℕ
+abbrev pub zeros : State → Node → ℕ
 zeros s x = shared (s .settings .base) (s .settings .dimensions) 0 (x .key)
 
-abbrev pub reached : State → List Entry → Entry → ℕ
-reached s front x = dimensionAfter (s .settings .base) (s .settings .dimensions) headEntry front (x .key)
+abbrev pub reached : State → List Node → Node → ℕ
+reached s front x = dimensionAfter (s .settings .base) (s .settings .dimensions) headNode front (x .key)
 
 -- x's place before and after
-abbrev placeBefore : State → List Entry → Entry → List Entry → Place
+abbrev placeBefore : State → List Node → Node → List Node → Place
 placeBefore s front x later =
-    record { entry = x; dimension = reached s front x; before = lastFrom headEntry front; beforeDimension = dimensionFrom (s .settings .base) (s .settings .dimensions) headEntry 0 front; later = later }
+    record { node = x; dimension = reached s front x; before = lastFrom headNode front; beforeDimension = dimensionFrom (s .settings .base) (s .settings .dimensions) headNode 0 front; later = later }
 
-abbrev placeAfter : State → Entry → List Entry → Place
-placeAfter s x later = record { entry = x; dimension = zeros s x; before = headEntry; beforeDimension = 0; later = later }
+abbrev placeAfter : State → Node → List Node → Place
+placeAfter s x later = record { node = x; dimension = zeros s x; before = headNode; beforeDimension = 0; later = later }
 
 -- the words after the front is dropped
-abbrev pub written : State → List Entry → Entry → List Entry → List ℕ
+abbrev pub written : State → List Node → Node → List Node → List ℕ
 written s front x later =
     dropFront (s .settings .dimensions) (picture (fronted s front x later)) (x .cell) (reached s front x)
     (pathFor (s .settings .base) (s .settings .dimensions) (front ++ x ∷ later) (x .key)) (zeros s x) (map (λ y. y .cell) front)
 
-module _ (s : State) (front : List Entry) (x : Entry) (later : List Entry) (v : Sound (fronted s front x later)) (w : Sound (dropped s front x later))
+module _ (s : State) (front : List Node) (x : Node) (later : List Node) (v : Sound (fronted s front x later)) (w : Sound (dropped s front x later))
     (unowing : All (λ y. y .owes ≡ false) (front ++ x ∷ later)) where
   pos : 0 < s .settings .base
   pos = base-positive (fronted s front x later) v
@@ -184,7 +185,7 @@ module _ (s : State) (front : List Entry) (x : Entry) (later : List Entry) (v : 
   deep = dimensions-positive (fronted s front x later) v
 
   key-positive : 0 < x .key
-  key-positive = let less = asc-last headEntry front (x ∷ later) (v .ascends) .0 in omega arith
+  key-positive = let less = asc-last headNode front (x ∷ later) (v .ascends) .0 in omega arith
 
   pub dropping : Dropping (s .settings .dimensions) (s .settings .cells) (x .cell) (reached s front x) (zeros s x) (map (λ y. y .cell) front)
   dropping =
@@ -198,7 +199,7 @@ module _ (s : State) (front : List Entry) (x : Entry) (later : List Entry) (v : 
         standing = own .0;
         inside = shared-less b D 0 (x .key) deep (let h = key-positive in omega arith);
         falls = dimension-falls b D pos front x later (v .ascends);
-        least = shared-le b D (lastFrom headEntry front .key) (x .key);
+        least = shared-le b D (lastFrom headNode front .key) (x .key);
         distinct =
             distinct-left (map (λ y. y .cell) front) (map (λ y. y .cell) (x ∷ later))
             (subst Distinct (map-append (λ y. y .cell) front (x ∷ later)) (row-distinct (fronted s front x later) v));
@@ -206,16 +207,16 @@ module _ (s : State) (front : List Entry) (x : Entry) (later : List Entry) (v : 
         apart = occurrences-none (x .cell) (map (λ y. y .cell) front) (cell-alone (fronted s front x later) v front x later refl .not-front);
       }
 
-  others : Without (x .cell) (headEntry ∷ front)
-  others = apart-before (headEntry ∷ front) x later (sound-apart (fronted s front x later) v)
+  others : Without (x .cell) (headNode ∷ front)
+  others = apart-before (headNode ∷ front) x later (sound-apart (fronted s front x later) v)
 
   placed-before : Placed (fronted s front x later) (x .cell) (placeBefore s front x later)
   unfolding places
-  placed-before = record { found = place-at (s .settings .base) (s .settings .dimensions) headEntry 0 headEntry 0 front x later others }
+  placed-before = record { found = place-at (s .settings .base) (s .settings .dimensions) headNode 0 headNode 0 front x later others }
 
   placed-after : Placed (dropped s front x later) (x .cell) (placeAfter s x later)
   unfolding places lastFrom dimensionFrom
-  placed-after = record { found = place-at (s .settings .base) (s .settings .dimensions) headEntry 0 headEntry 0 [] x later (others .0, tt) }
+  placed-after = record { found = place-at (s .settings .base) (s .settings .dimensions) headNode 0 headNode 0 [] x later (others .0, tt) }
 
   exact : Exact (s .settings .dimensions) (s .settings .cells) (picture (fronted s front x later))
   exact = picture-exact (fronted s front x later)
@@ -235,40 +236,40 @@ module _ (s : State) (front : List Entry) (x : Entry) (later : List Entry) (v : 
       at (no ne) = let l : i < 4 = lt-of-le-ne (omega arith) ne in header-settings (dropped s front x later) (fronted s front x later) refl i l ∙ sym (dropFront-header exact pathBefore dropping i l)
 
   position-key : positionKey (dropped s front x later) ≡ x .key
-  position-key = keyOf-other (x .cell) headEntry (x ∷ later) (others .0) ∙ keyOf-same (x .cell) x later refl
+  position-key = keyOf-other (x .cell) headNode (x ∷ later) (others .0) ∙ keyOf-same (x .cell) x later refl
 
   path-dropped : (d : ℕ) → d < s .settings .dimensions → getD (picture (dropped s front x later)) (headerWords + d) 0 ≡ getD (written s front x later) (headerWords + d) 0
   path-dropped d h =
       picture-path (dropped s front x later) d h
-      ∙ ap (λ k. firstWith (s .settings .base) (s .settings .dimensions) k (suc d) (headEntry ∷ x ∷ later)) position-key
+      ∙ ap (λ k. firstWith (s .settings .base) (s .settings .dimensions) k (suc d) (headNode ∷ x ∷ later)) position-key
       ∙ at (decLt d (zeros s x))
     where
-      at : Dec (d < zeros s x) → firstWith (s .settings .base) (s .settings .dimensions) (x .key) (suc d) (headEntry ∷ x ∷ later) ≡ getD (written s front x later) (headerWords + d) 0
-      at (yes l) = first-hits (s .settings .base) (s .settings .dimensions) (x .key) (suc d) headEntry (x ∷ later) l ∙ sym (dropFront-path-head exact pathBefore dropping d l)
+      at : Dec (d < zeros s x) → firstWith (s .settings .base) (s .settings .dimensions) (x .key) (suc d) (headNode ∷ x ∷ later) ≡ getD (written s front x later) (headerWords + d) 0
+      at (yes l) = first-hits (s .settings .base) (s .settings .dimensions) (x .key) (suc d) headNode (x ∷ later) l ∙ sym (dropFront-path-head exact pathBefore dropping d l)
       at (no l) =
-          first-skips (s .settings .base) (s .settings .dimensions) (x .key) (suc d) headEntry (x ∷ later) (omega arith)
+          first-skips (s .settings .base) (s .settings .dimensions) (x .key) (suc d) headNode (x ∷ later) (omega arith)
           ∙ first-hits (s .settings .base) (s .settings .dimensions) (x .key) (suc d) x later (omega (arith, shared-same (s .settings .base) (s .settings .dimensions) (x .key)))
           ∙ sym (dropFront-path-position exact pathBefore dropping d (omega arith) h)
 
   -- A cell that is neither the head nor the new position, and is not freed
 
   found-before : (y : ℕ) → (y ≡ 0 → ⊥) → (y ≡ x .cell → ⊥) → All (λ c. y ≡ c → ⊥) (map (λ z. z .cell) front) →
-      placeOf y (placesIn (fronted s front x later)) ≡ placeOf y (placesAfter (s .settings .base) (s .settings .dimensions) x (reached s front x) later)
+      placeOf y (placesOf (fronted s front x later) (fronted s front x later .row)) ≡ placeOf y (placesAfter (s .settings .base) (s .settings .dimensions) x (reached s front x) later)
   unfolding places
   found-before y not-head not-x a =
       let b = s .settings .base in
       let D = s .settings .dimensions in
-      place-past y (headPlace (front ++ x ∷ later)) (placesAfter b D headEntry 0 (front ++ x ∷ later)) (λ q. not-head (sym q))
-      ∙ places-past b D y headEntry 0 front x later a not-x
+      place-past y (headPlace (front ++ x ∷ later)) (placesAfter b D headNode 0 (front ++ x ∷ later)) (λ q. not-head (sym q))
+      ∙ places-past b D y headNode 0 front x later a not-x
 
   found-after : (y : ℕ) → (y ≡ 0 → ⊥) → (y ≡ x .cell → ⊥) →
-      placeOf y (placesIn (dropped s front x later)) ≡ placeOf y (placesAfter (s .settings .base) (s .settings .dimensions) x (zeros s x) later)
+      placeOf y (placesOf (dropped s front x later) (dropped s front x later .row)) ≡ placeOf y (placesAfter (s .settings .base) (s .settings .dimensions) x (zeros s x) later)
   unfolding places lastFrom
   found-after y not-head not-x =
       let b = s .settings .base in
       let D = s .settings .dimensions in
-      place-past y (headPlace (x ∷ later)) (placesAfter b D headEntry 0 (x ∷ later)) (λ q. not-head (sym q))
-      ∙ places-past b D y headEntry 0 [] x later tt not-x
+      place-past y (headPlace (x ∷ later)) (placesAfter b D headNode 0 (x ∷ later)) (λ q. not-head (sym q))
+      ∙ places-past b D y headNode 0 [] x later tt not-x
 
   abbrev Dropped : ℕ → ℕ → Type 0
   Dropped y j = wordIn (s .settings .dimensions) (picture (dropped s front x later)) y j ≡ wordIn (s .settings .dimensions) (written s front x later) y j
@@ -297,7 +298,7 @@ module _ (s : State) (front : List Entry) (x : Entry) (later : List Entry) (v : 
       let freed = map (λ z. z .cell) front in
       let chain = reverseAux freed (s .free) in
       let met : 0 < occurrences y chain = omega (arith, within, occurrences-reverseAux y freed (s .free)) in
-      let unfound = occurs-has (λ c. placeOf c (placesIn (dropped s front x later)) ≡ none) y chain met (free-found (dropped s front x later) w) in
+      let unfound = occurs-has (λ c. placeOf c (placesOf (dropped s front x later) (dropped s front x later .row)) ≡ none) y chain met (free-found (dropped s front x later) w) in
       picture-place (dropped s front x later) y j h k
       ∙ ap (λ o. getD (wordsOf b D chain y o) j 0) unfound
       ∙ sym (occurs-has (λ c. (i : ℕ) → i < cellWords D → wordIn D (written s front x later) c i ≡ getD (freeWords D (nextFree c chain)) i 0) y freed within

@@ -1,4 +1,4 @@
--- "It finishes all that is owed": cell after cell, what each owes is finished, and at the end no entry owes. A free cell owes nothing; and
+-- "It finishes all that is owed": cell after cell, what each owes is finished, and at the end no node owes. A free cell owes nothing; and
 -- of a standing one, what is written is the picture of the state with that debt paid, which is a state in order again.
 use mathlib.Core.Path.{_≡_, refl, sym, ap, ap₂, _∙_, subst}
 use mathlib.Core.Bool.{false}
@@ -8,32 +8,34 @@ use Prim.Native.Nat.{ℕ, zero, suc, _+_, _-_, _≤_, _<_}
 use native.Mathlib.Decide.{decLt}
 use native.Mathlib.Omega.{arith}
 use lib.Arith.{lt-of-le-ne}
-use Rattle.meaning.specs.Row.{Entry, placeOf}
-use Rattle.meaning.specs.State.{State, occurrences}
+use Rattle.lists.specs.Lists.{occurrences}
+use Rattle.lists.proofs.Occurrences.{occurrences-none}
+use Rattle.lists.proofs.All.{All, all-map, all-each, all-of-map, all-mapped}
+use Rattle.meaning.specs.Row.{Node, placeOf}
+use Rattle.meaning.specs.State.{State, placesOf}
 use Rattle.meaning.specs.Picture.{picture}
 use Rattle.meaning.specs.Operations.{paid, finished, withRow}
-use Rattle.meaning.specs.Stores.{finishWords}
-use Rattle.meaning.specs.SweepStores.{finishAll}
-use Rattle.meaning.proofs.Order.{All, all-map}
+use Rattle.meaning.specs.Layer.Stores.{finishWords}
+use Rattle.meaning.specs.Layer.SweepStores.{finishAll}
 use Rattle.meaning.proofs.State.{Sound}
-use Rattle.meaning.proofs.Cells.{all-each, all-of-map, occurrences-none, row-range}
+use Rattle.meaning.proofs.Cells.{row-range}
 use Rattle.meaning.proofs.Picture.{place-none, places-cells}
-use Rattle.meaning.proofs.Places.{all-mapped, onCell, onCell-cases}
-use Rattle.meaning.proofs.Keeps.{changed-sound}
+use Rattle.meaning.proofs.Places.{onCell, onCell-cases}
+use Rattle.meaning.proofs.KeepsState.{changed-sound}
 use Rattle.meaning.proofs.KeepsFinish.{finished-sound}
 use Rattle.meaning.proofs.KeepsSweep.{paid-all-keeping}
-use Rattle.meaning.proofs.SentencesCells.{placesIn, free-cell-rest}
+use Rattle.meaning.proofs.Placed.{free-cell-rest}
 use Rattle.meaning.proofs.Stores.{finishWords-none}
 use Rattle.meaning.proofs.FinishWords.{finish-words}
 
 -- One cell
 
--- where no entry has the cell, nothing changes
-finished-none : (c : ℕ) (row : List Entry) → All (λ x. c ≡ x .cell → ⊥) row → finished c row ≡ row
+-- where no node has the cell, nothing changes
+finished-none : (c : ℕ) (row : List Node) → All (λ x. c ≡ x .cell → ⊥) row → finished c row ≡ row
 unfolding finished
 finished-none c [] a = refl
 finished-none c (x ∷ row) a =
-    ap₂ {C = List Entry} (λ y r. y ∷ r) (onCell-cases (λ y. y ≡ x) c paid x (λ e. absurd (a .0 (sym e))) (λ ne. refl)) (finished-none c row (a .1))
+    ap₂ {C = List Node} (λ y r. y ∷ r) (onCell-cases (λ y. y ≡ x) c paid x (λ e. absurd (a .0 (sym e))) (λ ne. refl)) (finished-none c row (a .1))
 
 pub finish-cell : (s : State) → Sound s → (x : ℕ) → x < s .settings .cells → finishWords (s .settings .dimensions) (picture s) x ≡ picture (withRow s (finished x (s .row)))
 finish-cell s v x below = at (decLt 0 (occurrences x (0 ∷ cells)))
@@ -46,15 +48,15 @@ finish-cell s v x below = at (decLt 0 (occurrences x (0 ∷ cells)))
     at (no free) =
         let others = occurrences-none x (0 ∷ cells) (omega arith) in
         let apart = subst (All (λ c. x ≡ c → ⊥)) (sym (places-cells (s .settings .base) (s .settings .dimensions) (s .row))) others in
-        let unfound : placeOf x (placesIn s) ≡ none =
-        place-none x (placesIn s) (all-map (λ p ne e. ne (sym e)) (placesIn s) (all-of-map (λ c. x ≡ c → ⊥) (λ p. p .entry .cell) (placesIn s) apart)) in
+        let unfound : placeOf x (placesOf s (s .row)) ≡ none =
+        place-none x (placesOf s (s .row)) (all-map (λ p ne e. ne (sym e)) (placesOf s (s .row)) (all-of-map (λ c. x ≡ c → ⊥) (λ p. p .node .cell) (placesOf s (s .row)) apart)) in
         finishWords-none (s .settings .dimensions) (picture s) x (free-cell-rest s x below unfound 3 (omega arith) (omega arith))
         ∙ ap (λ row. picture (withRow s row)) (sym (finished-none x (s .row) (all-of-map (λ c. x ≡ c → ⊥) (λ y. y .cell) (s .row) (others .1))))
 
 -- Cell after cell
 
 -- what n cells from x on owe is finished
-finishedFrom : ℕ → ℕ → List Entry → List Entry
+finishedFrom : ℕ → ℕ → List Node → List Node
 finishedFrom x zero row = row
 finishedFrom x (suc n) row = finishedFrom (suc x) n (finished x row)
 
@@ -65,25 +67,25 @@ finish-from s v x (suc n) h =
     ap (λ ws. finishAll (s .settings .dimensions) ws (suc x) n) (finish-cell s v x (omega arith))
     ∙ finish-from (withRow s (finished x (s .row))) (finished-sound s x v) (suc x) n (omega arith)
 
-paid-once : (c : ℕ) (x : Entry) → paid (onCell c paid x) ≡ paid x
+paid-once : (c : ℕ) (x : Node) → paid (onCell c paid x) ≡ paid x
 paid-once c x = onCell-cases (λ y. paid y ≡ paid x) c paid x (λ e. refl) (λ ne. refl)
 
-paid-finished : (c : ℕ) (row : List Entry) → map paid (finished c row) ≡ map paid row
+paid-finished : (c : ℕ) (row : List Node) → map paid (finished c row) ≡ map paid row
 unfolding finished
 paid-finished c [] = refl
-paid-finished c (x ∷ row) = ap₂ {C = List Entry} (λ y r. y ∷ r) (paid-once c x) (paid-finished c row)
+paid-finished c (x ∷ row) = ap₂ {C = List Node} (λ y r. y ∷ r) (paid-once c x) (paid-finished c row)
 
--- entries that owe nothing
-pub paid-unowing : (row : List Entry) → All (λ x. x .owes ≡ false) row → map paid row ≡ row
+-- nodes that owe nothing
+pub paid-unowing : (row : List Node) → All (λ x. x .owes ≡ false) row → map paid row ≡ row
 paid-unowing [] a = refl
 paid-unowing (x ∷ row) a =
-    ap₂ {C = List Entry} (λ t r. record { cell = x .cell; key = x .key; value = x .value; live = x .live; owes = t } ∷ r) (sym (a .0)) (paid-unowing row (a .1))
+    ap₂ {C = List Node} (λ t r. record { cell = x .cell; key = x .key; value = x .value; live = x .live; owes = t } ∷ r) (sym (a .0)) (paid-unowing row (a .1))
 
 -- the cells below x owe nothing, and all are below x + n
-abbrev FinishedTo : ℕ → ℕ → Entry → Type 0
+abbrev FinishedTo : ℕ → ℕ → Node → Type 0
 FinishedTo x n y = (y .cell < x → y .owes ≡ false) × (y .cell < x + n)
 
-finished-next : (x n : ℕ) (row : List Entry) → All (FinishedTo x (suc n)) row → All (FinishedTo (suc x) n) (finished x row)
+finished-next : (x n : ℕ) (row : List Node) → All (FinishedTo x (suc n)) row → All (FinishedTo (suc x) n) (finished x row)
 unfolding finished
 finished-next x n [] a = tt
 finished-next x n (y ∷ row) a = (
@@ -93,7 +95,7 @@ finished-next x n (y ∷ row) a = (
   finished-next x n row (a .1),
 )
 
-finished-all : (x n : ℕ) (row : List Entry) → All (FinishedTo x n) row → finishedFrom x n row ≡ map paid row
+finished-all : (x n : ℕ) (row : List Node) → All (FinishedTo x n) row → finishedFrom x n row ≡ map paid row
 unfolding finishedFrom
 finished-all x zero row a = sym (paid-unowing row (all-map (λ y h. let below = h .1 in h .0 (omega arith)) row a))
 finished-all x (suc n) row a = finished-all (suc x) n (finished x row) (finished-next x n row a) ∙ paid-finished x row
@@ -106,9 +108,9 @@ finish-all s v =
     ∙ ap (λ row. picture (withRow s row))
     (finished-all 1 (s .settings .cells - 1) (s .row) (all-map (λ y r. let above = r .0 in let below = r .1 in (λ l. absurd (omega arith), omega arith)) (s .row) (row-range s v)))
 
--- the state then is in order, and no entry owes
+-- the state then is in order, and no node owes
 pub paid-sound : (s : State) → Sound s → Sound (withRow s (map paid (s .row)))
 paid-sound s v = changed-sound s paid (s .position) v paid-all-keeping (λ x e. refl) (v .values) (v .position) (v .dead)
 
-pub paid-owes-nothing : (row : List Entry) → All (λ x. x .owes ≡ false) (map paid row)
+pub paid-owes-nothing : (row : List Node) → All (λ x. x .owes ≡ false) (map paid row)
 paid-owes-nothing row = all-mapped (λ x. x .owes ≡ false) paid row (all-each (λ x. refl) row)

@@ -1,5 +1,5 @@
 -- What document 01 says of a sweep, as laws of the swept state and its words: nobody owes, the freed cells are at the front of the free
--- chain, the one of greatest key first, live entries stay as they are, and the position is the greatest dead cell below every live key.
+-- chain, the one of greatest key first, live nodes stay as they are, and the position is the greatest dead cell below every live key.
 use mathlib.Core.Path.{_≡_, refl, sym, ap, _∙_, subst}
 use mathlib.Core.Bool.{Bool, true, false, cond, true≢false}
 use mathlib.Core.List.{List, [], _∷_, _++_, map, reverse, reverseAux, dropLast}
@@ -9,21 +9,23 @@ use Prim.Native.Nat.{ℕ, zero, suc, _≤_, _<_}
 use native.Mathlib.Decide.{decLt}
 use native.Mathlib.Omega.{arith}
 use lib.ListN.{getD}
-use Rattle.meaning.specs.Row.{Entry, headEntry, Place, headPlace, placeOf, those}
-use Rattle.meaning.specs.State.{State, occurrences}
-use Rattle.meaning.specs.Picture.{mark, firstNumber, picture}
-use Rattle.meaning.specs.Words.{keyAt, valueAt, markAt, linkAt}
+use Rattle.lists.specs.Lists.{those, occurrences, firstNumber}
+use Rattle.lists.proofs.Occurrences.{occurrences-reverseAux, all-occur}
+use Rattle.lists.proofs.All.{All, all-map, all-append, all-left, all-zip, all-of-map, all-at}
+use Rattle.meaning.specs.Row.{Node, headNode, Place, headPlace, placeOf}
+use Rattle.meaning.specs.State.{State, placesOf}
+use Rattle.meaning.specs.Picture.{mark, picture}
+use Rattle.meaning.specs.Words.{keyAt, valueAt, markAt, linkAt, positionAt}
 use Rattle.meaning.specs.Operations.{paid, deadFront, fromLive, lastOf, lastAlone, freedBy, swept}
-use Rattle.meaning.specs.Sentences.{Free, Standing, Settled, Owing, positionAt}
-use Rattle.meaning.specs.Leaves.{OwesNothing, Swept}
-use Rattle.meaning.proofs.Order.{All, Asc, all-map, all-append, all-left, asc-above}
+use Rattle.meaning.specs.Sentences.{Free, Standing, Settled, Owing}
+use Rattle.meaning.specs.Writes.{OwesNothing, Swept}
+use Rattle.meaning.proofs.Order.{Asc, asc-above}
 use Rattle.meaning.proofs.State.{Sound}
-use Rattle.meaning.proofs.Cells.{all-of-map, all-zip}
 use Rattle.meaning.proofs.Picture.{picture-free}
-use Rattle.meaning.proofs.Places.{occurrences-reverseAux, asc-left, asc-right, all-occur, all-at}
-use Rattle.meaning.proofs.Keeps.{cells-positive, row-split, deadFront-dead, fromLive-live, live-split, last-split, last-cases}
+use Rattle.meaning.proofs.Places.{asc-left, asc-right}
+use Rattle.meaning.proofs.KeepsState.{cells-positive, row-split, deadFront-dead, fromLive-live, live-split, last-split, last-cases}
 use Rattle.meaning.proofs.KeepsSweep.{keptBy, swept-split, kept-asc, swept-dead, swept-sound}
-use Rattle.meaning.proofs.SentencesCells.{placesIn, Placed, placed-entry, placed-cell, head-placed, place-key, place-value, place-mark, place-standing, free-cell-rest, cell-standing, cell-free, free-cell, place-unowing}
+use Rattle.meaning.proofs.Placed.{Placed, placed-node, placed-cell, head-placed, place-key, place-value, place-mark, place-standing, free-cell-rest, cell-standing, cell-free, free-cell, place-unowing}
 use Rattle.meaning.proofs.SentencesShape.{HasPlace, row-placed}
 use Rattle.meaning.proofs.Sentences.{position-is, picture-sentences}
 use Rattle.meaning.proofs.SweepFinish.{paid-owes-nothing}
@@ -37,9 +39,9 @@ swept-unowing s = paid-owes-nothing (keptBy (s .row))
 -- "A cell that owes nothing has owed, low and high 0.": every cell
 pub swept-owes-nothing : (s : State) → Sound s → (x : ℕ) → x < s .settings .cells → OwesNothing (picture (swept s)) x
 unfolding swept
-swept-owes-nothing s v x h = at (placeOf x (placesIn (swept s))) refl
+swept-owes-nothing s v x h = at (placeOf x (placesOf (swept s) (swept s .row))) refl
   where
-    at : (o : Option Place) → placeOf x (placesIn (swept s)) ≡ o → OwesNothing (picture (swept s)) x
+    at : (o : Option Place) → placeOf x (placesOf (swept s) (swept s .row)) ≡ o → OwesNothing (picture (swept s)) x
     at none e = (
       free-cell-rest (swept s) x h e 3 (omega arith) (omega arith),
       free-cell-rest (swept s) x h e 4 (omega arith) (omega arith),
@@ -47,16 +49,16 @@ swept-owes-nothing s v x h = at (placeOf x (placesIn (swept s))) refl
     )
     at (some p) e =
         let here : Placed (swept s) x p = record { found = e } in
-        place-unowing (swept-sound s v) here (placed-entry here (λ y. y .owes ≡ false) refl (swept-unowing s))
+        place-unowing (swept-sound s v) here (placed-node here (λ y. y .owes ≡ false) refl (swept-unowing s))
 
 -- "frees every cell strictly between head and position in key order, each put at the front of the free chain"
 
 -- each key is above all that follow
-abbrev pub Descending : List Entry → Type 0
+abbrev pub Descending : List Node → Type 0
 Descending [] = Unit {0}
 Descending (x ∷ row) = All (λ y. y .key < x .key) row × Descending row
 
-descending-onto : (key : ℕ) (xs ys : List Entry) → Asc key xs → All (λ y. y .key ≤ key) ys → Descending ys → Descending (reverseAux xs ys)
+descending-onto : (key : ℕ) (xs ys : List Node) → Asc key xs → All (λ y. y .key ≤ key) ys → Descending ys → Descending (reverseAux xs ys)
 descending-onto key [] ys asc low down = down
 descending-onto key (x ∷ xs) ys asc low down =
     let above = asc .0 in
@@ -65,7 +67,7 @@ descending-onto key (x ∷ xs) ys asc low down =
 pub freed-descending : (s : State) → Sound s → Descending (reverse (freedBy (s .row)))
 freed-descending s v = descending-onto 0 (freedBy (s .row)) [] (asc-left 0 (freedBy (s .row)) (keptBy (s .row)) (subst (Asc 0) (swept-split (s .row)) (v .ascends))) tt tt
 
-cells-onto : (xs ys : List Entry) (free : List ℕ) → reverseAux (map (λ x. x .cell) xs) (map (λ x. x .cell) ys ++ free) ≡ map (λ x. x .cell) (reverseAux xs ys) ++ free
+cells-onto : (xs ys : List Node) (free : List ℕ) → reverseAux (map (λ x. x .cell) xs) (map (λ x. x .cell) ys ++ free) ≡ map (λ x. x .cell) (reverseAux xs ys) ++ free
 cells-onto [] ys free = refl
 cells-onto (x ∷ xs) ys free = cells-onto xs (x ∷ ys) free
 
@@ -84,24 +86,24 @@ freed-free s v =
     all-map (λ x met. free-cell (swept-sound s v) (x .cell) (omega (arith, met, occurrences-reverseAux (x .cell) cells (s .free)))) (freedBy (s .row))
     (all-of-map (λ c. 0 < occurrences c cells) (λ x. x .cell) (freedBy (s .row)) (all-occur cells))
 
--- Live entries keep their cells, keys, values and marks
+-- Live nodes keep their cells, keys, values and marks
 
 -- none of those freed is live
-freed-dead : (row : List Entry) → All (λ x. x .live ≡ false) (freedBy row)
+freed-dead : (row : List Node) → All (λ x. x .live ≡ false) (freedBy row)
 unfolding freedBy
 freed-dead row = all-left (λ x. x .live ≡ false) (freedBy row) (lastAlone (deadFront row)) (subst (All (λ x. x .live ≡ false)) (sym (last-split (deadFront row))) (deadFront-dead row))
 
-those-paid : (row : List Entry) → those (λ x. x .live) (map paid row) ≡ map paid (those (λ x. x .live) row)
+those-paid : (row : List Node) → those (λ x. x .live) (map paid row) ≡ map paid (those (λ x. x .live) row)
 unfolding those
 those-paid [] = refl
 those-paid (x ∷ row) = at (x .live) (those-paid row)
   where
     at : (t : Bool) → those (λ y. y .live) (map paid row) ≡ map paid (those (λ y. y .live) row) →
         cond t (paid x ∷ those (λ y. y .live) (map paid row)) (those (λ y. y .live) (map paid row)) ≡ map paid (cond t (x ∷ those (λ y. y .live) row) (those (λ y. y .live) row))
-    at true e = ap {B = List Entry} (λ r. paid x ∷ r) e
+    at true e = ap {B = List Node} (λ r. paid x ∷ r) e
     at false e = e
 
-those-past : (front later : List Entry) → All (λ x. x .live ≡ false) front → those (λ x. x .live) (front ++ later) ≡ those (λ x. x .live) later
+those-past : (front later : List Node) → All (λ x. x .live ≡ false) front → those (λ x. x .live) (front ++ later) ≡ those (λ x. x .live) later
 unfolding those
 those-past [] later a = refl
 those-past (x ∷ front) later a = ap (λ t. cond t (x ∷ those (λ y. y .live) (front ++ later)) (those (λ y. y .live) (front ++ later))) (a .0) ∙ those-past front later (a .1)
@@ -115,28 +117,28 @@ swept-live s =
 
 -- "moves the position to the greatest dead cell below every live key"
 
--- the last of some entries with ascending keys is above what is below the first, ..
-last-above : (low : ℕ) (x : Entry) (row : List Entry) → Asc low (x ∷ row) → low < lastOf (x ∷ row) .key
+-- the last of some nodes with ascending keys is above what is below the first, ..
+last-above : (low : ℕ) (x : Node) (row : List Node) → Asc low (x ∷ row) → low < lastOf (x ∷ row) .key
 unfolding lastOf
 last-above low x [] a = a .0
 last-above low x (y ∷ row) a = let more = last-above (x .key) y row (a .1) in let first = a .0 in omega arith
 
 -- .. not below any of them, ..
-last-most : (low : ℕ) (row : List Entry) → Asc low row → All (λ y. y .key ≤ lastOf row .key) row
+last-most : (low : ℕ) (row : List Node) → Asc low row → All (λ y. y .key ≤ lastOf row .key) row
 unfolding lastOf
 last-most low [] a = tt
 last-most low (x ∷ []) a = (omega arith, tt)
 last-most low (x ∷ y ∷ row) a = let above = last-above (x .key) y row (a .1) in (omega arith, last-most (x .key) (y ∷ row) (a .1))
 
 -- .. and above all but itself
-drop-below : (low : ℕ) (row : List Entry) → Asc low row → All (λ y. y .key < lastOf row .key) (dropLast row)
+drop-below : (low : ℕ) (row : List Node) → Asc low row → All (λ y. y .key < lastOf row .key) (dropLast row)
 unfolding lastOf
 drop-below low [] a = tt
 drop-below low (x ∷ []) a = tt
 drop-below low (x ∷ y ∷ row) a = (last-above (x .key) y row (a .1), drop-below (x .key) (y ∷ row) (a .1))
 
--- the entry that becomes the position
-abbrev target : State → Entry
+-- the node that becomes the position
+abbrev target : State → Node
 target s = lastOf (deadFront (s .row))
 
 -- a cell of mark 1 is live
@@ -144,8 +146,8 @@ pub live-marked : (live : Bool) → mark live ≡ 1 → live ≡ true
 live-marked true e = refl
 live-marked false e = absurd (omega arith)
 
--- an entry on the words after the sweep, as it was
-pub record Stays (ws : List ℕ) (x : Entry) : Type 0 where
+-- a node on the words after the sweep, as it was
+pub record Stays (ws : List ℕ) (x : Node) : Type 0 where
   pub key : keyAt ws (x .cell) ≡ x .key
   pub value : valueAt ws (x .cell) ≡ x .value
   pub same : markAt ws (x .cell) ≡ mark (x .live)
@@ -168,7 +170,7 @@ module _ {s : State} (v : Sound s) where
       (λ z q up. (omega arith, all-map (λ y h. omega arith) later (asc-above (z .key) later (up .1))))
       (kept-asc 0 (s .row) (v .ascends))
     where
-      later : List Entry
+      later : List Node
       later = fromLive (s .row)
 
   target-dead : target s .live ≡ false
@@ -178,11 +180,11 @@ module _ {s : State} (v : Sound s) where
   target-placed =
       last-cases (λ z last. HasPlace s z) (HasPlace s) (deadFront (s .row))
       (all-left (HasPlace s) (deadFront (s .row)) (fromLive (s .row)) (subst (All (HasPlace s)) (sym (row-split (s .row))) (row-placed v)))
-      (record { place = headPlace (s .row); placed = head-placed s; entry = refl })
+      (record { place = headPlace (s .row); placed = head-placed s; node = refl })
       (λ x h. h)
 
   -- what holds of those freed and of those kept holds of the row
-  row-has : (P : Entry → Type 0) → All P (freedBy (s .row)) → All P (keptBy (s .row)) → All P (s .row)
+  row-has : (P : Node → Type 0) → All P (freedBy (s .row)) → All P (keptBy (s .row)) → All P (s .row)
   row-has P freed kept = subst (All P) (sym (swept-split (s .row))) (all-append P (freedBy (s .row)) (keptBy (s .row)) freed kept)
 
   live-above : All (λ y. y .live ≡ true → target s .key < y .key) (s .row)
@@ -191,13 +193,13 @@ module _ {s : State} (v : Sound s) where
       (all-map (λ y dead live. absurd (true≢false (sym live ∙ dead))) (freedBy (s .row)) (freed-dead (s .row)))
       (all-map (λ y dead live. at y dead live (decLt (target s .key) (y .key))) (keptBy (s .row)) (swept-dead (s .row) (v .ascends)))
     where
-      at : (y : Entry) → (y .key ≤ target s .key → y .live ≡ false) → y .live ≡ true → Dec (target s .key < y .key) → target s .key < y .key
+      at : (y : Node) → (y .key ≤ target s .key → y .live ≡ false) → y .live ≡ true → Dec (target s .key < y .key) → target s .key < y .key
       at y dead live (yes h) = h
       at y dead live (no h) = absurd (true≢false (sym live ∙ dead (omega arith)))
 
   -- y is below every live key
-  abbrev BelowLive : Entry → Type 0
-  BelowLive y = (z : Entry) → HasPlace s z → z .live ≡ true → y .key < z .key
+  abbrev BelowLive : Node → Type 0
+  BelowLive y = (z : Node) → HasPlace s z → z .live ≡ true → y .key < z .key
 
   dead-up-to : All (λ y. BelowLive y → y .key ≤ target s .key) (s .row)
   dead-up-to =
@@ -205,10 +207,10 @@ module _ {s : State} (v : Sound s) where
       (all-append UpTo (deadFront (s .row)) (fromLive (s .row)) (all-map (λ y h below. h) (deadFront (s .row)) (last-most 0 (deadFront (s .row)) front-ascends))
       (from (fromLive (s .row)) refl))
     where
-      UpTo : Entry → Type 0
+      UpTo : Node → Type 0
       UpTo y = BelowLive y → y .key ≤ target s .key
 
-      from : (rest : List Entry) → fromLive (s .row) ≡ rest → All UpTo rest
+      from : (rest : List Node) → fromLive (s .row) ≡ rest → All UpTo rest
       from [] e = tt
       from (z ∷ later) e =
           let split = live-split (s .row) z later e in
@@ -230,13 +232,13 @@ module _ {s : State} (v : Sound s) where
   kept-stays =
       all-map (λ x h.
       record {
-        key = place-key sound (h .placed) ∙ ap (λ y. y .key) (h .entry);
-        value = place-value sound (h .placed) ∙ ap (λ y. y .value) (h .entry);
-        same = place-mark sound (h .placed) ∙ ap (λ y. mark (y .live)) (h .entry);
+        key = place-key sound (h .placed) ∙ ap (λ y. y .key) (h .node);
+        value = place-value sound (h .placed) ∙ ap (λ y. y .value) (h .node);
+        same = place-mark sound (h .placed) ∙ ap (λ y. mark (y .live)) (h .node);
       })
       (keptBy (s .row)) (all-of-map (HasPlace (swept s)) paid (keptBy (s .row)) (row-placed sound))
 
-  head-stays : Stays (picture (swept s)) headEntry
+  head-stays : Stays (picture (swept s)) headNode
   head-stays = let here = head-placed (swept s) in record { key = place-key sound here; value = place-value sound here; same = place-mark sound here }
 
   kept-all-stay : All (λ y. (y .cell ≡ 0) ⊎ (target s .key ≤ y .key) → Stays (picture (swept s)) y) (s .row)
@@ -246,7 +248,7 @@ module _ {s : State} (v : Sound s) where
       (all-left (λ y. 0 < y .cell) (freedBy (s .row)) (keptBy (s .row)) (subst (All (λ y. 0 < y .cell)) (swept-split (s .row)) (cells-positive s v))))
       (all-map (λ y stays where-is. stays) (keptBy (s .row)) kept-stays)
     where
-      not : (y : Entry) → y .key < target s .key → 0 < y .cell → (y .cell ≡ 0) ⊎ (target s .key ≤ y .key) → Stays (picture (swept s)) y
+      not : (y : Node) → y .key < target s .key → 0 < y .cell → (y .cell ≡ 0) ⊎ (target s .key ≤ y .key) → Stays (picture (swept s)) y
       not y low positive (inl e) = absurd (omega arith)
       not y low positive (inr h) = absurd (omega arith)
 
@@ -257,18 +259,18 @@ module _ {s : State} (v : Sound s) where
   position-swept = position-is sound
 
   target-key : keyAt (picture s) (positionAt (picture (swept s))) ≡ target s .key
-  target-key = ap (keyAt (picture s)) position-swept ∙ place-key v (target-placed .placed) ∙ ap (λ y. y .key) (target-placed .entry)
+  target-key = ap (keyAt (picture s)) position-swept ∙ place-key v (target-placed .placed) ∙ ap (λ y. y .key) (target-placed .node)
 
   target-mark : markAt (picture s) (positionAt (picture (swept s))) ≡ 2
   target-mark =
-      ap (markAt (picture s)) position-swept ∙ place-mark v (target-placed .placed) ∙ ap (λ y. mark (y .live)) (target-placed .entry) ∙ ap mark target-dead
+      ap (markAt (picture s)) position-swept ∙ place-mark v (target-placed .placed) ∙ ap (λ y. mark (y .live)) (target-placed .node) ∙ ap mark target-dead
 
   words-below-live : (x : ℕ) → Standing (picture s) x → markAt (picture s) x ≡ 1 → keyAt (picture s) (positionAt (picture (swept s))) < keyAt (picture s) x
   words-below-live x stands live =
       let (p, here) = cell-standing s x stands in
       let above =
-      placed-entry here (λ y. y .live ≡ true → target s .key < y .key) (λ l. absurd (true≢false (sym l))) live-above
-      (live-marked (p .entry .live) (sym (place-mark v here) ∙ live)) in
+      placed-node here (λ y. y .live ≡ true → target s .key < y .key) (λ l. absurd (true≢false (sym l))) live-above
+      (live-marked (p .node .live) (sym (place-mark v here) ∙ live)) in
       omega (arith, above, target-key, place-key v here)
 
   words-greatest : (x : ℕ) → Standing (picture s) x → ((y : ℕ) → Standing (picture s) y → markAt (picture s) y ≡ 1 → keyAt (picture s) x < keyAt (picture s) y) →
@@ -276,17 +278,17 @@ module _ {s : State} (v : Sound s) where
   words-greatest x stands below =
       let (p, here) = cell-standing s x stands in
       let up-to =
-      placed-entry here (λ y. BelowLive y → y .key ≤ target s .key) (λ f. omega arith) dead-up-to
+      placed-node here (λ y. BelowLive y → y .key ≤ target s .key) (λ f. omega arith) dead-up-to
       (λ z h live.
-      let less = below (z .cell) (place-standing v (h .placed)) (place-mark v (h .placed) ∙ ap (λ y. mark (y .live)) (h .entry) ∙ ap mark live) in
-      omega (arith, less, place-key v here, place-key v (h .placed), ap (λ y. y .key) (h .entry))) in
+      let less = below (z .cell) (place-standing v (h .placed)) (place-mark v (h .placed) ∙ ap (λ y. mark (y .live)) (h .node) ∙ ap mark live) in
+      omega (arith, less, place-key v here, place-key v (h .placed), ap (λ y. y .key) (h .node))) in
       omega (arith, up-to, target-key, place-key v here)
 
   words-freed : (x : ℕ) → Standing (picture s) x → 0 < keyAt (picture s) x → keyAt (picture s) x < keyAt (picture s) (positionAt (picture (swept s))) → markAt (picture (swept s)) x ≡ 0
   words-freed x stands low high =
       let (p, here) = cell-standing s x stands in
       let free =
-      placed-entry here (λ y. 0 < y .key → y .key < target s .key → Free (picture (swept s)) (y .cell)) (λ a c. absurd (omega arith)) freed-all
+      placed-node here (λ y. 0 < y .key → y .key < target s .key → Free (picture (swept s)) (y .cell)) (λ a c. absurd (omega arith)) freed-all
       (omega (arith, low, place-key v here)) (omega (arith, high, target-key, place-key v here)) in
       ap (markAt (picture (swept s))) (sym (placed-cell here)) ∙ free .mark
 
@@ -295,13 +297,13 @@ module _ {s : State} (v : Sound s) where
   words-kept x stands rest =
       let (p, here) = cell-standing s x stands in
       let stays =
-      placed-entry here (λ y. (y .cell ≡ 0) ⊎ (target s .key ≤ y .key) → Stays (picture (swept s)) y) (λ r. head-stays) kept-all-stay (is p here rest) in
+      placed-node here (λ y. (y .cell ≡ 0) ⊎ (target s .key ≤ y .key) → Stays (picture (swept s)) y) (λ r. head-stays) kept-all-stay (is p here rest) in
       let cell = sym (placed-cell here) in (
         ap (keyAt (picture (swept s))) cell ∙ stays .key ∙ sym (place-key v here),
         (ap (valueAt (picture (swept s))) cell ∙ stays .value ∙ sym (place-value v here), ap (markAt (picture (swept s))) cell ∙ stays .same ∙ sym (place-mark v here)),
       )
     where
-      is : (p : Place) → Placed s x p → (x ≡ 0) ⊎ (keyAt (picture s) (positionAt (picture (swept s))) ≤ keyAt (picture s) x) → (p .entry .cell ≡ 0) ⊎ (target s .key ≤ p .entry .key)
+      is : (p : Place) → Placed s x p → (x ≡ 0) ⊎ (keyAt (picture s) (positionAt (picture (swept s))) ≤ keyAt (picture s) x) → (p .node .cell ≡ 0) ⊎ (target s .key ≤ p .node .key)
       is p here (inl e) = inl (placed-cell here ∙ e)
       is p here (inr h) = inr (omega (arith, h, target-key, place-key v here))
 

@@ -11,14 +11,15 @@ use lib.ListN.{length, getD, replicate, length-replicate, getD-replicate}
 use lib.Seq.{sets, getD-set-other}
 use borrow.Author.Tests.{eq-eqb, ne-eqb}
 use Rattle.settings.specs.Numbers.{headerWords, cellWords}
-use Rattle.meaning.specs.Picture.{firstNumber, nextFree, freeWords}
-use Rattle.meaning.specs.Words.{place}
-use Rattle.meaning.specs.Paths.{onward}
-use Rattle.meaning.specs.Stores.{store, linkField}
-use Rattle.meaning.specs.SweepStores.{takeLinks, relinkHead, freeCell, freeAll, dropFront}
-use Rattle.meaning.proofs.Order.{All, all-map}
-use Rattle.meaning.proofs.Cells.{Distinct}
-use Rattle.meaning.proofs.Stores.{Exact, wordIn, exact-set, exact-sets, header-set-same, header-set-place, store-same, store-other, store-below, cell-sets-inside, cell-sets-before, cell-sets-other, cell-sets-below, path-sets-header, path-sets-path, path-sets-place}
+use Rattle.lists.specs.Lists.{firstNumber}
+use Rattle.lists.proofs.Occurrences.{Distinct}
+use Rattle.lists.proofs.All.{All, all-map}
+use Rattle.meaning.specs.Picture.{nextFree, freeWords}
+use Rattle.meaning.specs.Words.{wordIndex, firstFreeAt, linkField}
+use Rattle.meaning.specs.Layer.Paths.{onward}
+use Rattle.meaning.specs.Layer.Stores.{store}
+use Rattle.meaning.specs.Layer.SweepStores.{takeLinks, relinkHead, freeCell, freeAll, dropFront}
+use Rattle.meaning.proofs.Stores.{Exact, wordIn, exact-set, exact-sets, header-set-same, header-set-word, store-same, store-other, store-below, cell-sets-inside, cell-sets-before, cell-sets-other, cell-sets-below, path-sets-header, path-sets-path, path-sets-word}
 use Rattle.meaning.proofs.Path.{onward-length, onward-front, onward-back}
 
 -- Links taken from a path's cells
@@ -31,7 +32,7 @@ pub exact-taken : {D C : ℕ} {ws : List ℕ} → Exact D C ws → (x : ℕ) (pa
 unfolding takeLinks
 exact-taken exact x path d zero = exact
 exact-taken {D} {C} {ws} exact x path d (suc k) =
-    exact-taken (exact-set exact (place D x (linkField D d)) (wordIn D ws (getD path d 0) (linkField D d))) x path (suc d) k
+    exact-taken (exact-set exact (wordIndex D x (linkField D d)) (wordIn D ws (getD path d 0) (linkField D d))) x path (suc d) k
 
 pub takeLinks-below : (D : ℕ) (ws : List ℕ) (x : ℕ) (path : List ℕ) (d k i : ℕ) → i < headerWords + D → getD (takeLinks D ws x path d k) i 0 ≡ getD ws i 0
 unfolding takeLinks
@@ -54,7 +55,7 @@ pub takeLinks-taken : {D C : ℕ} {ws : List ℕ} → Exact D C ws → (x : ℕ)
 unfolding takeLinks
 takeLinks-taken exact x path d zero here fit i h l = absurd (omega arith)
 takeLinks-taken {D} {C} {ws} exact x path d (suc k) here fit i h l =
-    at (ℕ-discrete d i) (takeLinks-taken (exact-set exact (place D x (linkField D d)) value) x path (suc d) k here (omega arith) i)
+    at (ℕ-discrete d i) (takeLinks-taken (exact-set exact (wordIndex D x (linkField D d)) value) x path (suc d) k here (omega arith) i)
   where
     value : ℕ
     value = wordIn D ws (getD path d 0) (linkField D d)
@@ -76,7 +77,7 @@ takeLinks-taken {D} {C} {ws} exact x path d (suc k) here fit i h l =
 
 pub exact-relinked : {D C : ℕ} {ws : List ℕ} → Exact D C ws → (x z : ℕ) → Exact D C (relinkHead D ws x z)
 unfolding relinkHead
-exact-relinked {D} exact x z = exact-sets exact (place D 0 (linkField D z)) (x ∷ replicate (D - suc z) 0)
+exact-relinked {D} exact x z = exact-sets exact (wordIndex D 0 (linkField D z)) (x ∷ replicate (D - suc z) 0)
 
 pub relinkHead-below : (D : ℕ) (ws : List ℕ) (x z i : ℕ) → i < headerWords + D → getD (relinkHead D ws x z) i 0 ≡ getD ws i 0
 unfolding relinkHead
@@ -114,34 +115,34 @@ freeWords-length D next = omega (arith, length-replicate {A = ℕ} (5 + 2 * D) 0
 
 pub exact-freed : {D C : ℕ} {ws : List ℕ} → Exact D C ws → (x : ℕ) → Exact D C (freeCell D ws x)
 unfolding freeCell
-exact-freed {D} {C} {ws} exact x = exact-set (exact-sets exact (place D x 0) (freeWords D (getD ws 4 0))) 4 x
+exact-freed {D} {C} {ws} exact x = exact-set (exact-sets exact (wordIndex D x 0) (freeWords D (firstFreeAt ws))) 4 x
 
 -- the header's words but that of the first free cell, and the path
 pub freeCell-below : (D : ℕ) (ws : List ℕ) (x i : ℕ) → i < headerWords + D → (i ≡ 4 → ⊥) → getD (freeCell D ws x) i 0 ≡ getD ws i 0
 unfolding freeCell
 freeCell-below D ws x i h ne =
-    getD-set-other (sets ws (place D x 0) (freeWords D (getD ws 4 0))) 4 i x 0 ne ∙ cell-sets-below D ws x 0 (freeWords D (getD ws 4 0)) i h
+    getD-set-other (sets ws (wordIndex D x 0) (freeWords D (firstFreeAt ws))) 4 i x 0 ne ∙ cell-sets-below D ws x 0 (freeWords D (firstFreeAt ws)) i h
 
 pub freeCell-first : {D C : ℕ} {ws : List ℕ} → Exact D C ws → (x : ℕ) → getD (freeCell D ws x) 4 0 ≡ x
 unfolding freeCell
-freeCell-first {D} {C} {ws} exact x = header-set-same (exact-sets exact (place D x 0) (freeWords D (getD ws 4 0))) 4 x (omega arith)
+freeCell-first {D} {C} {ws} exact x = header-set-same (exact-sets exact (wordIndex D x 0) (freeWords D (firstFreeAt ws))) 4 x (omega arith)
 
 -- "A free cell's first word holds the next free cell, its other words are 0."
-pub freeCell-own : {D C : ℕ} {ws : List ℕ} → Exact D C ws → (x : ℕ) → x < C → (j : ℕ) → j < cellWords D → wordIn D (freeCell D ws x) x j ≡ getD (freeWords D (getD ws 4 0)) j 0
+pub freeCell-own : {D C : ℕ} {ws : List ℕ} → Exact D C ws → (x : ℕ) → x < C → (j : ℕ) → j < cellWords D → wordIn D (freeCell D ws x) x j ≡ getD (freeWords D (firstFreeAt ws)) j 0
 unfolding freeCell
 freeCell-own {D} {C} {ws} exact x h j k =
-    let words = freeWords D (getD ws 4 0) in
-    let size = freeWords-length D (getD ws 4 0) in
-    header-set-place D (sets ws (place D x 0) words) 4 x x j (omega arith)
-    ∙ ap (λ i. wordIn D (sets ws (place D x 0) words) x i) (omega arith)
+    let words = freeWords D (firstFreeAt ws) in
+    let size = freeWords-length D (firstFreeAt ws) in
+    header-set-word D (sets ws (wordIndex D x 0) words) 4 x x j (omega arith)
+    ∙ ap (λ i. wordIn D (sets ws (wordIndex D x 0) words) x i) (omega arith)
     ∙ cell-sets-inside exact x 0 words h (omega arith) j (omega arith)
 
 pub freeCell-cell : (D : ℕ) (ws : List ℕ) (x y j : ℕ) → j < cellWords D → (y ≡ x → ⊥) → wordIn D (freeCell D ws x) y j ≡ wordIn D ws y j
 unfolding freeCell
 freeCell-cell D ws x y j h ne =
-    let words = freeWords D (getD ws 4 0) in
-    let size = freeWords-length D (getD ws 4 0) in
-    header-set-place D (sets ws (place D x 0) words) 4 x y j (omega arith) ∙ cell-sets-other D ws x 0 words (omega arith) y j h ne
+    let words = freeWords D (firstFreeAt ws) in
+    let size = freeWords-length D (firstFreeAt ws) in
+    header-set-word D (sets ws (wordIndex D x 0) words) 4 x y j (omega arith) ∙ cell-sets-other D ws x 0 words (omega arith) y j h ne
 
 -- Cells that become free, one after the other
 
@@ -161,7 +162,7 @@ freeAll-cell D ws [] y j h a = refl
 freeAll-cell D ws (x ∷ xs) y j h a = freeAll-cell D (freeCell D ws x) xs y j h (a .1) ∙ freeCell-cell D ws x y j h (a .0)
 
 -- "each put at the front of the free chain": the last is the first free cell
-pub freeAll-first : {D C : ℕ} {ws : List ℕ} → Exact D C ws → (xs free : List ℕ) → getD ws 4 0 ≡ firstNumber free → getD (freeAll D ws xs) 4 0 ≡ firstNumber (reverseAux xs free)
+pub freeAll-first : {D C : ℕ} {ws : List ℕ} → Exact D C ws → (xs free : List ℕ) → firstFreeAt ws ≡ firstNumber free → getD (freeAll D ws xs) 4 0 ≡ firstNumber (reverseAux xs free)
 unfolding freeAll
 freeAll-first exact [] free e = e
 freeAll-first exact (x ∷ xs) free e = freeAll-first (exact-freed exact x) xs (x ∷ free) (freeCell-first exact x)
@@ -180,7 +181,7 @@ nextFree-behind c [] free a = refl
 nextFree-behind c (x ∷ xs) free a = nextFree-behind c xs (x ∷ free) (a .1) ∙ nextFree-past c x free (a .0)
 
 -- each holds the next one of the chain, and its other words are 0
-pub freeAll-own : {D C : ℕ} {ws : List ℕ} → Exact D C ws → (xs free : List ℕ) → Distinct xs → All (λ x. x < C) xs → getD ws 4 0 ≡ firstNumber free →
+pub freeAll-own : {D C : ℕ} {ws : List ℕ} → Exact D C ws → (xs free : List ℕ) → Distinct xs → All (λ x. x < C) xs → firstFreeAt ws ≡ firstNumber free →
     All (λ x. (j : ℕ) → j < cellWords D → wordIn D (freeAll D ws xs) x j ≡ getD (freeWords D (nextFree x (reverseAux xs free))) j 0) xs
 unfolding freeAll
 freeAll-own exact [] free apart below e = tt
@@ -237,7 +238,7 @@ module _ {D C : ℕ} {ws : List ℕ} (exact : Exact D C ws) {x number z : ℕ} {
       ∙ relinkHead-below D taken x z i (omega arith)
       ∙ takeLinks-below D ws x path z (number - z) i (omega arith)
 
-  pub dropFront-first : (free : List ℕ) → getD ws 4 0 ≡ firstNumber free → getD (dropFront D ws x number path z between) 4 0 ≡ firstNumber (reverseAux between free)
+  pub dropFront-first : (free : List ℕ) → firstFreeAt ws ≡ firstNumber free → getD (dropFront D ws x number path z between) 4 0 ≡ firstNumber (reverseAux between free)
   unfolding dropFront
   dropFront-first free e =
       path-sets-header (freeAll D relinkedWords between) (onward D (replicate D 0) z x) 4 (omega arith)
@@ -261,7 +262,7 @@ module _ {D C : ℕ} {ws : List ℕ} (exact : Exact D C ws) {x number z : ℕ} {
   -- a cell's words after all, if it is not freed
   dropped-word : (y j : ℕ) → j < cellWords D → All (λ c. y ≡ c → ⊥) between → wordIn D (dropFront D ws x number path z between) y j ≡ wordIn D relinkedWords y j
   unfolding dropFront
-  dropped-word y j h a = path-sets-place D (freeAll D relinkedWords between) (onward D (replicate D 0) z x) head-path y j ∙ freeAll-cell D relinkedWords between y j h a
+  dropped-word y j h a = path-sets-word D (freeAll D relinkedWords between) (onward D (replicate D 0) z x) head-path y j ∙ freeAll-cell D relinkedWords between y j h a
 
   -- every cell but the head, the new position and those freed
   pub dropFront-other : (y j : ℕ) → j < cellWords D → (y ≡ 0 → ⊥) → (y ≡ x → ⊥) → All (λ c. y ≡ c → ⊥) between → wordIn D (dropFront D ws x number path z between) y j ≡ wordIn D ws y j
@@ -316,10 +317,10 @@ module _ {D C : ℕ} {ws : List ℕ} (exact : Exact D C ws) {x number z : ℕ} {
       head-word (linkField D d) (omega arith) ∙ relinkHead-above exact-links (omega arith) x z (drop .inside) d h k
 
   -- each freed cell
-  pub dropFront-freed : (free : List ℕ) → getD ws 4 0 ≡ firstNumber free →
+  pub dropFront-freed : (free : List ℕ) → firstFreeAt ws ≡ firstNumber free →
       All (λ y. (j : ℕ) → j < cellWords D → wordIn D (dropFront D ws x number path z between) y j ≡ getD (freeWords D (nextFree y (reverseAux between free))) j 0) between
   unfolding dropFront
   dropFront-freed free e =
-      all-map (λ y own j h. path-sets-place D (freeAll D relinkedWords between) (onward D (replicate D 0) z x) head-path y j ∙ own j h) between
+      all-map (λ y own j h. path-sets-word D (freeAll D relinkedWords between) (onward D (replicate D 0) z x) head-path y j ∙ own j h) between
       (freeAll-own exact-head between free (drop .distinct) (all-map (λ y r. r .1) between (drop .range))
       (relinkHead-below D taken x z 4 (omega arith) ∙ takeLinks-below D ws x path z (number - z) 4 (omega arith) ∙ e))

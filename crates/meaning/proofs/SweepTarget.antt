@@ -7,24 +7,24 @@ use Prim.Native.Nat.{ℕ, zero, suc, _+_, _-_, _<_}
 use native.Mathlib.Decide.{ℕ-discrete}
 use native.Mathlib.Omega.{arith}
 use lib.Dec.{eqb}
-use lib.ListN.{length, getD, replicate, length-append}
+use lib.ListN.{length, replicate, length-append}
 use lib.Seq.{append-snoc}
 use borrow.Author.Tests.{eq-eqb, ne-eqb}
+use Rattle.lists.proofs.All.{All, all-at}
 use Rattle.meaning.specs.Keys.{shared}
-use Rattle.meaning.specs.Row.{Entry, headEntry}
+use Rattle.meaning.specs.Row.{Node, headNode}
 use Rattle.meaning.specs.State.{State}
 use Rattle.meaning.specs.Picture.{mark, picture}
-use Rattle.meaning.specs.Words.{keyAt, markAt}
+use Rattle.meaning.specs.Words.{keyAt, markAt, dimensionsAt}
 use Rattle.meaning.specs.Operations.{paid, withRow, deadFront, fromLive, lastOf, freedBy, swept}
-use Rattle.meaning.specs.Paths.{pathFor, onward, nextFrom}
-use Rattle.meaning.specs.SweepStores.{finishAll, dropFront, Target, headTarget, targetFrom, cellsBefore, sweepWords}
-use Rattle.meaning.proofs.Order.{All}
+use Rattle.meaning.specs.Layer.Paths.{pathFor, onward, nextFrom}
+use Rattle.meaning.specs.Layer.SweepStores.{finishAll, dropFront, Target, headTarget, targetFrom, cellsBefore, sweepWords}
 use Rattle.meaning.proofs.State.{Sound}
 use Rattle.meaning.proofs.Cells.{free-length}
 use Rattle.meaning.proofs.Picture.{picture-dimensions, picture-cells, picture-base}
-use Rattle.meaning.proofs.Places.{all-at, lastFrom, dimensionFrom}
+use Rattle.meaning.proofs.Places.{lastFrom, dimensionFrom}
 use Rattle.meaning.proofs.WalkRead.{row-key-read}
-use Rattle.meaning.proofs.Keeps.{cell-alone, row-split, deadFront-dead, fromLive-live}
+use Rattle.meaning.proofs.KeepsState.{cell-alone, row-split, deadFront-dead, fromLive-live}
 use Rattle.meaning.proofs.KeepsSweep.{keptBy, swept-split}
 use Rattle.meaning.proofs.Parent.{Apart, Without, apart-before}
 use Rattle.meaning.proofs.Slot.{sound-apart}
@@ -36,7 +36,7 @@ use Rattle.meaning.proofs.SweepWords.{swept-front, dimension-snoc, swep
 
 -- One step
 
-module _ (ws : List ℕ) (D : ℕ) (is-D : getD ws 0 0 ≡ D) (fuel : ℕ) where
+module _ (ws : List ℕ) (D : ℕ) (is-D : dimensionsAt ws ≡ D) (fuel : ℕ) where
   pub target-end : (at : Target) (e : ℕ) → nextFrom ws (at .path) D ≡ record { cell = 0; number = e } → targetFrom (suc fuel) ws at ≡ at
   unfolding targetFrom
   target-end at e next = rw (is-D, next) refl
@@ -64,45 +64,45 @@ module _ (ws : List ℕ) (D : ℕ) (is-D : getD ws 0 0 ≡ D) (fuel : ℕ) where
 
 -- Over dead cells
 
-last-is : (row : List Entry) → lastOf row ≡ lastFrom headEntry row
+last-is : (row : List Node) → lastOf row ≡ lastFrom headNode row
 unfolding lastOf lastFrom
 last-is [] = refl
 last-is (x ∷ []) = refl
 last-is (x ∷ y ∷ row) = last-is (y ∷ row)
 
--- the last of some entries, or the head, as a target
-abbrev pub targetAt : State → List Entry → Target
+-- the last of some nodes, or the head, as a target
+abbrev pub targetAt : State → List Node → Target
 targetAt s front =
-    record { cell = lastFrom headEntry front .cell; number = dimensionFrom (s .settings .base) (s .settings .dimensions) headEntry 0 front; path = wayTo s front }
+    record { cell = lastFrom headNode front .cell; number = dimensionFrom (s .settings .base) (s .settings .dimensions) headNode 0 front; path = wayTo s front }
 
 module _ (s : State) (v : Sound s) where
-  target-on : (front : List Entry) (y : Entry) (later : List Entry) → s .row ≡ front ++ (y ∷ later) →
+  target-on : (front : List Node) (y : Node) (later : List Node) → s .row ≡ front ++ (y ∷ later) →
       record {
         cell = y .cell;
-        number = shared (s .settings .base) (s .settings .dimensions) (lastFrom headEntry front .key) (y .key);
-        path = onward (s .settings .dimensions) (wayTo s front) (shared (s .settings .base) (s .settings .dimensions) (lastFrom headEntry front .key) (y .key)) (y .cell);
+        number = shared (s .settings .base) (s .settings .dimensions) (lastFrom headNode front .key) (y .key);
+        path = onward (s .settings .dimensions) (wayTo s front) (shared (s .settings .base) (s .settings .dimensions) (lastFrom headNode front .key) (y .key)) (y .cell);
       }
       ≡ targetAt s (front ++ y ∷ [])
   target-on front y later split =
       let b = s .settings .base in
       let D = s .settings .dimensions in
       let here : PathOf s (wayTo s front) front (y ∷ later) = record { split = split; is = refl } in
-      let cell = ap (λ x. x .cell) (sym (last-snoc headEntry front y)) in
-      let number = sym (dimension-snoc b D headEntry 0 front y) in
+      let cell = ap (λ x. x .cell) (sym (last-snoc headNode front y)) in
+      let number = sym (dimension-snoc b D headNode 0 front y) in
       let path = way-on v here .is in
       λ i. record { cell = cell i; number = number i; path = path i }
 
-  dead-past : (fuel : ℕ) (front : List Entry) (y : Entry) (later : List Entry) → s .row ≡ front ++ (y ∷ later) → y .live ≡ false →
+  dead-past : (fuel : ℕ) (front : List Node) (y : Node) (later : List Node) → s .row ≡ front ++ (y ∷ later) → y .live ≡ false →
       targetFrom (suc fuel) (picture s) (targetAt s front) ≡ targetFrom fuel (picture s) (targetAt s (front ++ y ∷ []))
   dead-past fuel front y later split dead =
       let b = s .settings .base in
       let D = s .settings .dimensions in
       let here : PathOf s (wayTo s front) front (y ∷ later) = record { split = split; is = refl } in
-      target-dead (picture s) D (picture-dimensions s) fuel (targetAt s front) (y .cell) (shared b D (lastFrom headEntry front .key) (y .key)) (way-next v here)
+      target-dead (picture s) D (picture-dimensions s) fuel (targetAt s front) (y .cell) (shared b D (lastFrom headNode front .key) (y .key)) (way-next v here)
       (cell-alone s v front y later split .standing) (λ one. omega (arith, mark-read s v front y later split, ap mark dead))
       ∙ ap (targetFrom fuel (picture s)) (target-on front y later split)
 
-  pub target-passes : (fuel : ℕ) (front dead later : List Entry) → s .row ≡ front ++ (dead ++ later) → All (λ y. y .live ≡ false) dead →
+  pub target-passes : (fuel : ℕ) (front dead later : List Node) → s .row ≡ front ++ (dead ++ later) → All (λ y. y .live ≡ false) dead →
       targetFrom (length dead + fuel) (picture s) (targetAt s front) ≡ targetFrom fuel (picture s) (targetAt s (front ++ dead))
   target-passes fuel front [] later split a =
       let n : 0 + fuel ≡ fuel = omega arith in
@@ -115,14 +115,14 @@ module _ (s : State) (v : Sound s) where
       ∙ ap (λ r. targetFrom fuel (picture s) (targetAt s r)) (append-snoc front y dead)
 
   -- up to the first live cell, or the end
-  pub target-stops : (fuel : ℕ) (front later : List Entry) → s .row ≡ front ++ later → ((y : Entry) (rest : List Entry) → later ≡ y ∷ rest → y .live ≡ true) →
+  pub target-stops : (fuel : ℕ) (front later : List Node) → s .row ≡ front ++ later → ((y : Node) (rest : List Node) → later ≡ y ∷ rest → y .live ≡ true) →
       targetFrom (suc fuel) (picture s) (targetAt s front) ≡ targetAt s front
   target-stops fuel front [] split live =
       target-end (picture s) (s .settings .dimensions) (picture-dimensions s) fuel (targetAt s front) 0 (way-end v (record { split = split; is = refl }))
   target-stops fuel front (y ∷ later) split live =
       let here : PathOf s (wayTo s front) front (y ∷ later) = record { split = split; is = refl } in
       target-live (picture s) (s .settings .dimensions) (picture-dimensions s) fuel (targetAt s front) (y .cell)
-      (shared (s .settings .base) (s .settings .dimensions) (lastFrom headEntry front .key) (y .key)) (way-next v here)
+      (shared (s .settings .base) (s .settings .dimensions) (lastFrom headNode front .key) (y .key)) (way-next v here)
       (cell-alone s v front y later split .standing) (mark-read s v front y later split ∙ ap mark (live y later refl))
 
   head-is : headTarget (s .settings .dimensions) ≡ targetAt s []
@@ -148,17 +148,17 @@ module _ (s : State) (v : Sound s) where
 
   -- The cells before one
 
-  pub before-is : (fuel : ℕ) (front between : List Entry) (x : Entry) (later : List Entry) → s .row ≡ front ++ (between ++ x ∷ later) → Without (x .cell) between → length between < fuel →
+  pub before-is : (fuel : ℕ) (front between : List Node) (x : Node) (later : List Node) → s .row ≡ front ++ (between ++ x ∷ later) → Without (x .cell) between → length between < fuel →
       cellsBefore fuel (picture s) (x .cell) (wayTo s front) ≡ map (λ y. y .cell) between
   before-is zero front between x later split apart h = absurd (omega arith)
   before-is (suc fuel) front [] x later split apart h =
       before-here (picture s) (s .settings .dimensions) (picture-dimensions s) fuel (x .cell) (wayTo s front)
-      (shared (s .settings .base) (s .settings .dimensions) (lastFrom headEntry front .key) (x .key)) (way-next v (record { split = split; is = refl }))
+      (shared (s .settings .base) (s .settings .dimensions) (lastFrom headNode front .key) (x .key)) (way-next v (record { split = split; is = refl }))
   before-is (suc fuel) front (y ∷ between) x later split apart h =
       let b = s .settings .base in
       let D = s .settings .dimensions in
       let here : PathOf s (wayTo s front) front (y ∷ (between ++ x ∷ later)) = record { split = split; is = refl } in
-      before-past (picture s) D (picture-dimensions s) fuel (x .cell) (wayTo s front) (y .cell) (shared b D (lastFrom headEntry front .key) (y .key)) (way-next v here) (apart .0)
+      before-past (picture s) D (picture-dimensions s) fuel (x .cell) (wayTo s front) (y .cell) (shared b D (lastFrom headNode front .key) (y .key)) (way-next v here) (apart .0)
       ∙ ap {B = List ℕ} (λ path. y .cell ∷ cellsBefore fuel (picture s) (x .cell) path) (way-on v here .is)
       ∙ ap {B = List ℕ} (λ cells. y .cell ∷ cells) (before-is fuel (front ++ y ∷ []) between x later (split ∙ sym (append-snoc front y (between ++ x ∷ later))) (apart .1) (omega arith))
 
@@ -169,9 +169,9 @@ module _ (s : State) (v : Sound s) where
   freed-is fuel h ne =
       let x = lastOf (deadFront (s .row)) in
       let split = swept-front (s .row) ne in
-      let others = subst (λ r. Apart (headEntry ∷ r)) split (sound-apart s v) in
+      let others = subst (λ r. Apart (headNode ∷ r)) split (sound-apart s v) in
       ap (cellsBefore fuel (picture s) (x .cell)) (sym (path-head (s .settings .base) (s .settings .dimensions) (s .row)))
-      ∙ before-is fuel [] (freedBy (s .row)) x (fromLive (s .row)) split (apart-before (headEntry ∷ freedBy (s .row)) x (fromLive (s .row)) others .1) h
+      ∙ before-is fuel [] (freedBy (s .row)) x (fromLive (s .row)) split (apart-before (headNode ∷ freedBy (s .row)) x (fromLive (s .row)) others .1) h
 
 -- All that a sweep writes
 
@@ -192,7 +192,7 @@ sweep-read s = λ i.
     let paid = finishAll D (picture s) 1 (C - 1) in
     fromPaid D C (picture-base s i) paid (targetFrom C paid (headTarget D))
 
--- there is fuel for all entries
+-- there is fuel for all nodes
 pub front-below : (s : State) → Sound s → length (deadFront (s .row)) < s .settings .cells
 front-below s v =
     let least = v .ranges .cells-least in
@@ -223,7 +223,7 @@ unowing-sweep s v unowing = at (ℕ-discrete (x .cell) 0) ∙ ap (fromPaid D C b
     C : ℕ
     C = s .settings .cells
 
-    x : Entry
+    x : Node
     x = lastOf (deadFront (s .row))
 
     to : Target

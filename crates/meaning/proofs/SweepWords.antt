@@ -1,5 +1,5 @@
 -- What a sweep writes: the picture of the swept state is the words after all that is owed is finished and then the front is dropped. Paying
--- changes neither what is freed nor what is kept; and where the first entry is live, the position is the head and nothing is dropped.
+-- changes neither what is freed nor what is kept; and where the first node is live, the position is the head and nothing is dropped.
 use mathlib.Core.Path.{_≡_, refl, sym, ap, ap₂, _∙_, subst}
 use mathlib.Core.Bool.{Bool, true, false, cond}
 use mathlib.Core.List.{List, [], _∷_, _++_, map, reverseAux, map-append, dropLast}
@@ -7,17 +7,18 @@ use mathlib.Core.Logic.{_⊎_, inl, inr}
 use Prim.Native.Nat.{ℕ, _-_, _≤_, _<_}
 use native.Mathlib.Nat.{lt-of-not-le}
 use native.Mathlib.Omega.{arith}
+use Rattle.lists.proofs.All.{All, all-map, all-at}
 use Rattle.meaning.specs.Keys.{shared}
-use Rattle.meaning.specs.Row.{Entry, headEntry}
+use Rattle.meaning.specs.Row.{Node, headNode}
 use Rattle.meaning.specs.State.{State, positionKey}
 use Rattle.meaning.specs.Picture.{picture}
 use Rattle.meaning.specs.Operations.{paid, withRow, deadFront, fromLive, lastOf, lastAlone, freedBy, swept}
-use Rattle.meaning.specs.Paths.{pathFor}
-use Rattle.meaning.specs.SweepStores.{finishAll, dropFront}
-use Rattle.meaning.proofs.Order.{All, Asc, all-map, asc-above}
+use Rattle.meaning.specs.Layer.Paths.{pathFor}
+use Rattle.meaning.specs.Layer.SweepStores.{finishAll, dropFront}
+use Rattle.meaning.proofs.Order.{Asc, asc-above}
 use Rattle.meaning.proofs.State.{Sound}
-use Rattle.meaning.proofs.Places.{Found, all-at, lastFrom, dimensionFrom, cells-changed}
-use Rattle.meaning.proofs.Keeps.{position-cases, position-entry, last-split, lastAlone-is}
+use Rattle.meaning.proofs.Places.{Located, lastFrom, dimensionFrom, cells-changed}
+use Rattle.meaning.proofs.KeepsState.{position-cases, position-node, last-split, lastAlone-is}
 use Rattle.meaning.proofs.KeepsSweep.{keptBy, swept-split, kept-all, front-all, swept-sound, paid-all-keeping}
 use Rattle.meaning.proofs.Parent.{dimensionAfter}
 use Rattle.meaning.proofs.PathTake.{pathFor-changed}
@@ -27,33 +28,33 @@ use Rattle.meaning.proofs.SweepDrop.{fronted, dropped, dropping, droppe
 
 -- The new position
 
-last-alone : (row : List Entry) → (lastOf row .cell ≡ 0 → ⊥) → lastAlone row ≡ lastOf row ∷ []
+last-alone : (row : List Node) → (lastOf row .cell ≡ 0 → ⊥) → lastAlone row ≡ lastOf row ∷ []
 unfolding lastOf
 last-alone [] ne = absurd (ne refl)
 last-alone (x ∷ row) ne = lastAlone-is x row
 
 -- the row is what is freed, the new position, and what comes after it
-pub swept-front : (row : List Entry) → (lastOf (deadFront row) .cell ≡ 0 → ⊥) → row ≡ freedBy row ++ lastOf (deadFront row) ∷ fromLive row
+pub swept-front : (row : List Node) → (lastOf (deadFront row) .cell ≡ 0 → ⊥) → row ≡ freedBy row ++ lastOf (deadFront row) ∷ fromLive row
 swept-front row ne = swept-split row ∙ ap (λ last. freedBy row ++ (last ++ fromLive row)) (last-alone (deadFront row) ne)
 
-pub dead-front : (row : List Entry) → (lastOf (deadFront row) .cell ≡ 0 → ⊥) → deadFront row ≡ freedBy row ++ lastOf (deadFront row) ∷ []
+pub dead-front : (row : List Node) → (lastOf (deadFront row) .cell ≡ 0 → ⊥) → deadFront row ≡ freedBy row ++ lastOf (deadFront row) ∷ []
 unfolding freedBy
 dead-front row ne = sym (last-split (deadFront row)) ∙ ap (λ last. dropLast (deadFront row) ++ last) (last-alone (deadFront row) ne)
 
-pub dimension-snoc : (b D : ℕ) (a : Entry) (e : ℕ) (front : List Entry) (x : Entry) → dimensionFrom b D a e (front ++ x ∷ []) ≡ shared b D (lastFrom a front .key) (x .key)
+pub dimension-snoc : (b D : ℕ) (a : Node) (e : ℕ) (front : List Node) (x : Node) → dimensionFrom b D a e (front ++ x ∷ []) ≡ shared b D (lastFrom a front .key) (x .key)
 unfolding dimensionFrom lastFrom
 dimension-snoc b D a e [] x = refl
 dimension-snoc b D a e (y ∷ front) x = dimension-snoc b D y (shared b D (a .key) (y .key)) front x
 
 -- its dimension, which is the number of the link by which it is reached
 abbrev pub sweptNumber : State → ℕ
-sweptNumber s = dimensionFrom (s .settings .base) (s .settings .dimensions) headEntry 0 (deadFront (s .row))
+sweptNumber s = dimensionFrom (s .settings .base) (s .settings .dimensions) headNode 0 (deadFront (s .row))
 
-number-is : (s : State) → (lastOf (deadFront (s .row)) .cell ≡ 0 → ⊥) → sweptNumber s ≡ dimensionAfter (s .settings .base) (s .settings .dimensions) headEntry (freedBy (s .row)) (lastOf (deadFront (s .row)) .key)
+number-is : (s : State) → (lastOf (deadFront (s .row)) .cell ≡ 0 → ⊥) → sweptNumber s ≡ dimensionAfter (s .settings .base) (s .settings .dimensions) headNode (freedBy (s .row)) (lastOf (deadFront (s .row)) .key)
 number-is s ne =
     let b = s .settings .base in
     let D = s .settings .dimensions in
-    ap (dimensionFrom b D headEntry 0) (dead-front (s .row) ne) ∙ dimension-snoc b D headEntry 0 (freedBy (s .row)) (lastOf (deadFront (s .row)))
+    ap (dimensionFrom b D headNode 0) (dead-front (s .row) ne) ∙ dimension-snoc b D headNode 0 (freedBy (s .row)) (lastOf (deadFront (s .row)))
 
 -- how many coordinates it shares with the head
 abbrev pub sweptZeros : State → ℕ
@@ -101,18 +102,18 @@ module _ (s : State) (v : Sound s) (unowing : All (λ x. x .owes ≡ false) (s .
       ∙ ap₂ (λ row number. dropFront (s .settings .dimensions) (picture (withRow s row)) (x .cell) number (pathFor (s .settings .base) (s .settings .dimensions) row (x .key)) (sweptZeros s) cells)
       (sym (swept-front (s .row) ne)) (sym (number-is s ne))
 
--- Paid entries
+-- Paid nodes
 
-deadFront-paid : (row : List Entry) → deadFront (map paid row) ≡ map paid (deadFront row)
+deadFront-paid : (row : List Node) → deadFront (map paid row) ≡ map paid (deadFront row)
 unfolding deadFront
 deadFront-paid [] = refl
 deadFront-paid (x ∷ row) = at (x .live) (deadFront-paid row)
   where
     at : (t : Bool) → deadFront (map paid row) ≡ map paid (deadFront row) → cond t [] (paid x ∷ deadFront (map paid row)) ≡ map paid (cond t [] (x ∷ deadFront row))
     at true e = refl
-    at false e = ap {B = List Entry} (λ r. paid x ∷ r) e
+    at false e = ap {B = List Node} (λ r. paid x ∷ r) e
 
-fromLive-paid : (row : List Entry) → fromLive (map paid row) ≡ map paid (fromLive row)
+fromLive-paid : (row : List Node) → fromLive (map paid row) ≡ map paid (fromLive row)
 unfolding fromLive
 fromLive-paid [] = refl
 fromLive-paid (x ∷ row) = at (x .live) (fromLive-paid row)
@@ -121,36 +122,36 @@ fromLive-paid (x ∷ row) = at (x .live) (fromLive-paid row)
     at true e = refl
     at false e = e
 
-lastOf-paid : (row : List Entry) → lastOf (map paid row) ≡ paid (lastOf row)
+lastOf-paid : (row : List Node) → lastOf (map paid row) ≡ paid (lastOf row)
 unfolding lastOf
 lastOf-paid [] = refl
 lastOf-paid (x ∷ []) = refl
 lastOf-paid (x ∷ y ∷ row) = lastOf-paid (y ∷ row)
 
-lastAlone-paid : (row : List Entry) → lastAlone (map paid row) ≡ map paid (lastAlone row)
+lastAlone-paid : (row : List Node) → lastAlone (map paid row) ≡ map paid (lastAlone row)
 unfolding lastAlone
 lastAlone-paid [] = refl
 lastAlone-paid (x ∷ []) = refl
 lastAlone-paid (x ∷ y ∷ row) = lastAlone-paid (y ∷ row)
 
-dropLast-paid : (row : List Entry) → dropLast (map paid row) ≡ map paid (dropLast row)
+dropLast-paid : (row : List Node) → dropLast (map paid row) ≡ map paid (dropLast row)
 dropLast-paid [] = refl
 dropLast-paid (x ∷ []) = refl
-dropLast-paid (x ∷ y ∷ row) = ap {B = List Entry} (λ r. paid x ∷ r) (dropLast-paid (y ∷ row))
+dropLast-paid (x ∷ y ∷ row) = ap {B = List Node} (λ r. paid x ∷ r) (dropLast-paid (y ∷ row))
 
-freedBy-paid : (row : List Entry) → freedBy (map paid row) ≡ map paid (freedBy row)
+freedBy-paid : (row : List Node) → freedBy (map paid row) ≡ map paid (freedBy row)
 unfolding freedBy
 freedBy-paid row = ap dropLast (deadFront-paid row) ∙ dropLast-paid (deadFront row)
 
-position-paid : (row : List Entry) → lastOf (deadFront (map paid row)) ≡ paid (lastOf (deadFront row))
+position-paid : (row : List Node) → lastOf (deadFront (map paid row)) ≡ paid (lastOf (deadFront row))
 position-paid row = ap lastOf (deadFront-paid row) ∙ lastOf-paid (deadFront row)
 
-kept-paid : (row : List Entry) → keptBy (map paid row) ≡ map paid (keptBy row)
+kept-paid : (row : List Node) → keptBy (map paid row) ≡ map paid (keptBy row)
 kept-paid row =
     ap₂ (λ last later. last ++ later) (ap lastAlone (deadFront-paid row) ∙ lastAlone-paid (deadFront row)) (fromLive-paid row)
     ∙ sym (map-append paid (lastAlone (deadFront row)) (fromLive row))
 
-freed-cells-paid : (row : List Entry) → map (λ x. x .cell) (freedBy (map paid row)) ≡ map (λ x. x .cell) (freedBy row)
+freed-cells-paid : (row : List Node) → map (λ x. x .cell) (freedBy (map paid row)) ≡ map (λ x. x .cell) (freedBy row)
 freed-cells-paid row = ap (map (λ x. x .cell)) (freedBy-paid row) ∙ cells-changed paid paid-all-keeping (freedBy row)
 
 -- a sweep pays all: where all is paid before, it leaves the same
@@ -163,7 +164,7 @@ swept-paid s =
     λ i. record { settings = s .settings; row = row i; free = free i; position = position i }
 
 -- the new position's path and dimension follow from cells and keys
-dimension-paid : (b D : ℕ) (a : Entry) (e : ℕ) (row : List Entry) → dimensionFrom b D (paid a) e (map paid row) ≡ dimensionFrom b D a e row
+dimension-paid : (b D : ℕ) (a : Node) (e : ℕ) (row : List Node) → dimensionFrom b D (paid a) e (map paid row) ≡ dimensionFrom b D a e row
 unfolding dimensionFrom
 dimension-paid b D a e [] = refl
 dimension-paid b D a e (x ∷ row) = dimension-paid b D x (shared b D (a .key) (x .key)) row
@@ -174,8 +175,8 @@ sweptFrom-paid s ws =
     let D = s .settings .dimensions in
     let x = lastOf (deadFront (s .row)) in
     let row = map paid (s .row) in
-    let number = ap (dimensionFrom b D headEntry 0) (deadFront-paid (s .row)) ∙ dimension-paid b D headEntry 0 (deadFront (s .row)) in
-    ap (λ y. dropFront D ws (y .cell) (dimensionFrom b D headEntry 0 (deadFront row)) (pathFor b D row (y .key)) (shared b D 0 (y .key)) (map (λ z. z .cell) (freedBy row))) (position-paid (s .row))
+    let number = ap (dimensionFrom b D headNode 0) (deadFront-paid (s .row)) ∙ dimension-paid b D headNode 0 (deadFront (s .row)) in
+    ap (λ y. dropFront D ws (y .cell) (dimensionFrom b D headNode 0 (deadFront row)) (pathFor b D row (y .key)) (shared b D 0 (y .key)) (map (λ z. z .cell) (freedBy row))) (position-paid (s .row))
     ∙ ap₂ (λ n path. dropFront D ws (x .cell) n path (sweptZeros s) (map (λ z. z .cell) (freedBy row))) number (pathFor-changed paid paid-all-keeping b D (s .row) (x .key))
     ∙ ap (λ cells. dropFront D ws (x .cell) (sweptNumber s) (sweptPath s) (sweptZeros s) cells) (freed-cells-paid (s .row))
 
@@ -190,12 +191,12 @@ swept-words s v ne =
     ∙ sweptFrom-paid s (picture all)
     ∙ ap (sweptFrom s) (sym (finish-all s v))
 
--- Where it is the head: no entry is before the first live one
+-- Where it is the head: no node is before the first live one
 
 front-none : (s : State) → Sound s → lastOf (deadFront (s .row)) .cell ≡ 0 → deadFront (s .row) ≡ []
 front-none s v e = at (deadFront (s .row)) (front-all s v) e
   where
-    at : (front : List Entry) → All (λ x. (x .live ≡ false) × (0 < x .cell)) front → lastOf front .cell ≡ 0 → front ≡ []
+    at : (front : List Node) → All (λ x. (x .live ≡ false) × (0 < x .cell)) front → lastOf front .cell ≡ 0 → front ≡ []
     at [] a e = refl
     at (x ∷ front) a e =
         absurd (omega (
@@ -206,7 +207,7 @@ front-none s v e = at (deadFront (s .row)) (front-all s v) e
         ))
 
 -- then all keys are above the position's, so the position is the head
-keys-above : (key : ℕ) (row : List Entry) → Asc 0 row → All (λ x. x .key ≤ key → x .live ≡ false) row → deadFront row ≡ [] → All (λ x. key < x .key) row
+keys-above : (key : ℕ) (row : List Node) → Asc 0 row → All (λ x. x .key ≤ key → x .live ≡ false) row → deadFront row ≡ [] → All (λ x. key < x .key) row
 unfolding deadFront
 keys-above key [] asc dead e = tt
 keys-above key (x ∷ row) asc dead e = at (x .live) refl e
@@ -220,11 +221,11 @@ keys-above key (x ∷ row) asc dead e = at (x .live) refl e
 position-none : (s : State) → Sound s → deadFront (s .row) ≡ [] → s .position ≡ 0
 position-none s v e = at (position-cases s v)
   where
-    at : (s .position ≡ 0) ⊎ Found (s .position) (s .row) → s .position ≡ 0
+    at : (s .position ≡ 0) ⊎ Located (s .position) (s .row) → s .position ≡ 0
     at (inl head) = head
     at (inr found) =
         let above = keys-above (positionKey s) (s .row) (v .ascends) (v .dead) e in
-        absurd (omega (arith, all-at (λ x. positionKey s < x .key) (found .front) (found .entry) (found .later) (subst (All (λ x. positionKey s < x .key)) (found .split) above), position-entry s v found))
+        absurd (omega (arith, all-at (λ x. positionKey s < x .key) (found .front) (found .node) (found .later) (subst (All (λ x. positionKey s < x .key)) (found .split) above), position-node s v found))
 
 -- all is paid, and nothing else changes
 pub swept-stays : (s : State) → Sound s → lastOf (deadFront (s .row)) .cell ≡ 0 → swept s ≡ withRow s (map paid (s .row))

@@ -10,24 +10,27 @@ use native.Mathlib.Decide.{decLe, ℕ-discrete}
 use native.Mathlib.Nat.{mul-le-mul-right}
 use native.Mathlib.Omega.{arith}
 use lib.Dec.{eqb, ltb}
-use lib.ListN.{length, getD, length-map}
+use lib.ListN.{length, length-map}
 use borrow.Author.Tests.{lt-ltb, le-ltb, eq-eqb, ne-eqb}
+use Rattle.lists.specs.Lists.{occurrences}
+use Rattle.lists.proofs.Occurrences.{Distinct, distinct-left, all-occur}
+use Rattle.lists.proofs.All.{All, all-map, all-zip, all-of-map, all-mapped}
 use Rattle.meaning.specs.Keys.{coordinate, shared}
-use Rattle.meaning.specs.Row.{Entry, headEntry, firstSharing, Place, placesAfter, headPlace, places}
-use Rattle.meaning.specs.State.{State, occurrences}
+use Rattle.meaning.specs.Row.{Node, headNode, firstSharing, Place, placesAfter, headPlace, places}
+use Rattle.meaning.specs.State.{State}
 use Rattle.meaning.specs.Picture.{picture}
 use Rattle.meaning.specs.Operations.{looked}
 use Rattle.meaning.specs.Rule.{rule}
-use Rattle.meaning.specs.Words.{keyAt, coordinateAt}
-use Rattle.meaning.specs.Walk.{linkRead, along, stepAt, after, walkFrom, walk, endsAfter, ends}
+use Rattle.meaning.specs.Words.{keyAt, coordinateAt, dimensionsAt, baseAt}
+use Rattle.meaning.specs.Walk.{linkRead, stepAlong, stepAt, after, walkFrom, walk, endsAfter, ends}
 use Rattle.meaning.specs.declared.Step.{Step}
 use Rattle.meaning.specs.declared.Step.the-variants.{Go, Up, End}
-use Rattle.meaning.proofs.Order.{All, Asc, all-map}
+use Rattle.meaning.proofs.Order.{Asc}
 use Rattle.meaning.proofs.Keys.{shared-same, shared-sym, shared-less, ultra, coordinate-below, coordinate-same, coordinate-less}
 use Rattle.meaning.proofs.State.{Sound, base-positive, base-above}
-use Rattle.meaning.proofs.Cells.{Distinct, all-zip, all-of-map, distinct-left, cells-distinct, row-range}
+use Rattle.meaning.proofs.Cells.{cells-distinct, row-range}
 use Rattle.meaning.proofs.Picture.{picture-dimensions, picture-base}
-use Rattle.meaning.proofs.Places.{all-mapped, places-entries, all-occur}
+use Rattle.meaning.proofs.Places.{places-nodes}
 use Rattle.meaning.proofs.RowWalk.{rowWalk, row-walk-all, row-walk-distinct, Next, Stop, next, row-walk-is-rule, row-walk-bounded}
 use Rattle.meaning.proofs.WalkRead.{Read, settled-above, places-read, row-key-read}
 
@@ -66,13 +69,13 @@ walks-go ws k fuel x d y cells e w =
 
 -- One step, by the coordinate of the cell at hand.
 
-module _ (ws : List ℕ) (b D k : ℕ) (is-D : getD ws 0 0 ≡ D) (is-b : getD ws 3 0 ≡ b) where
+module _ (ws : List ℕ) (b D k : ℕ) (is-D : dimensionsAt ws ≡ D) (is-b : baseAt ws ≡ b) where
   step-is : (x d own : ℕ) → coordinateAt ws x d ≡ own →
-      stepAt ws k x d ≡ cond (ltb own (coordinate b D k d)) (along (linkRead ws x d)) (cond (eqb own (coordinate b D k d)) (cond (eqb (suc d) D) End Up) End)
+      stepAt ws k x d ≡ cond (ltb own (coordinate b D k d)) (stepAlong (linkRead ws x d)) (cond (eqb own (coordinate b D k d)) (cond (eqb (suc d) D) End Up) End)
   unfolding stepAt
   step-is x d own e = rw (e, is-D, is-b) refl
 
-  step-along : (x d own : ℕ) → coordinateAt ws x d ≡ own → own < coordinate b D k d → stepAt ws k x d ≡ along (linkRead ws x d)
+  step-along : (x d own : ℕ) → coordinateAt ws x d ≡ own → own < coordinate b D k d → stepAt ws k x d ≡ stepAlong (linkRead ws x d)
   step-along x d own e h = step-is x d own e ∙ rw (lt-ltb own (coordinate b D k d) h) refl
 
   step-up : (x d own : ℕ) → coordinateAt ws x d ≡ own → own ≡ coordinate b D k d → suc d < D → stepAt ws k x d ≡ Up
@@ -118,105 +121,105 @@ apart b D x k h l = go (ℕ-discrete k x)
     go (yes q) = absurd (let all : shared b D x k ≡ D = ap (λ z. shared b D x z) q ∙ shared-same b D x in omega arith)
     go (no n) = omega arith
 
-pub along-go : (y : ℕ) → 0 < y → along y ≡ Go y
+pub along-go : (y : ℕ) → 0 < y → stepAlong y ≡ Go y
 along-go y h = rw (ne-eqb y 0 (λ e. omega arith)) refl
 
 -- the place of a standing cell other than the head, as the words have it
 pub record StandingPlace (ws : List ℕ) (b D : ℕ) (p : Place) : Type 0 where
   pub read : Read ws b D p
-  pub other : 0 < p .entry .cell
-  pub fits : p .entry .key < b ^ D
+  pub other : 0 < p .node .cell
+  pub fits : p .node .key < b ^ D
 
 -- from a cell below k the walk goes where the walk over the row does
 abbrev Below : List ℕ → ℕ → ℕ → ℕ → ℕ → Type 0
 Below ws b D k fuel =
-    (p : Place) → Read ws b D p → All (StandingPlace ws b D) (placesAfter b D (p .entry) (p .dimension) (p .later)) → p .entry .key < k →
-    Asc (p .entry .key) (p .later) → (d : ℕ) → p .dimension ≤ d → d ≤ shared b D (p .entry .key) k → Room b D fuel (p .entry .key) d →
-    Walks ws k fuel (p .entry .cell) d (map (λ x. x .cell) (rowWalk b D k (p .entry .key) (p .later)))
+    (p : Place) → Read ws b D p → All (StandingPlace ws b D) (placesAfter b D (p .node) (p .dimension) (p .later)) → p .node .key < k →
+    Asc (p .node .key) (p .later) → (d : ℕ) → p .dimension ≤ d → d ≤ shared b D (p .node .key) k → Room b D fuel (p .node .key) d →
+    Walks ws k fuel (p .node .cell) d (map (λ x. x .cell) (rowWalk b D k (p .node .key) (p .later)))
 
-module _ (ws : List ℕ) (b D k : ℕ) (is-D : getD ws 0 0 ≡ D) (is-b : getD ws 3 0 ≡ b) (pos : 0 < b) (some : 0 < D) (kfits : k < b ^ D) where
+module _ (ws : List ℕ) (b D k : ℕ) (is-D : dimensionsAt ws ≡ D) (is-b : baseAt ws ≡ b) (pos : 0 < b) (some : 0 < D) (kfits : k < b ^ D) where
   -- the step at a place: up, as long as cell and k share the coordinate at hand; ..
-  pub place-up : (p : Place) → Read ws b D p → (d : ℕ) → d < shared b D (p .entry .key) k → suc d < D → stepAt ws k (p .entry .cell) d ≡ Up
+  pub place-up : (p : Place) → Read ws b D p → (d : ℕ) → d < shared b D (p .node .key) k → suc d < D → stepAt ws k (p .node .cell) d ≡ Up
   place-up p at d h l =
-      step-up ws b D k is-D is-b (p .entry .cell) d (coordinate b D (p .entry .key) d) (at .coordinate d (omega arith)) (coordinate-same b D (p .entry .key) k d h) l
+      step-up ws b D k is-D is-b (p .node .cell) d (coordinate b D (p .node .key) d) (at .coordinate d (omega arith)) (coordinate-same b D (p .node .key) k d h) l
 
   -- .. the end, after the last coordinate; ..
-  pub place-top : (p : Place) → Read ws b D p → (d : ℕ) → d < shared b D (p .entry .key) k → suc d ≡ D → stepAt ws k (p .entry .cell) d ≡ End
+  pub place-top : (p : Place) → Read ws b D p → (d : ℕ) → d < shared b D (p .node .key) k → suc d ≡ D → stepAt ws k (p .node .cell) d ≡ End
   place-top p at d h e =
-      step-top ws b D k is-D is-b (p .entry .cell) d (coordinate b D (p .entry .key) d) (at .coordinate d (omega arith)) (coordinate-same b D (p .entry .key) k d h) e
+      step-top ws b D k is-D is-b (p .node .cell) d (coordinate b D (p .node .key) d) (at .coordinate d (omega arith)) (coordinate-same b D (p .node .key) k d h) e
 
   -- .. where they first differ, the end if the cell is above k, ..
-  pub place-over : (p : Place) → Read ws b D p → k ≤ p .entry .key → p .entry .key < b ^ D → (d : ℕ) → d < D → d ≡ shared b D (p .entry .key) k →
-      stepAt ws k (p .entry .cell) d ≡ End
+  pub place-over : (p : Place) → Read ws b D p → k ≤ p .node .key → p .node .key < b ^ D → (d : ℕ) → d < D → d ≡ shared b D (p .node .key) k →
+      stepAt ws k (p .node .cell) d ≡ End
   place-over p at h fits d l e =
-      let same : shared b D k (p .entry .key) ≡ d = omega (arith, shared-sym b D k (p .entry .key)) in
-      let less = coordinate-less b D k (p .entry .key) pos kfits fits (apart b D (p .entry .key) k h (omega arith)) in
-      step-over ws b D k is-D is-b (p .entry .cell) d (coordinate b D (p .entry .key) d) (at .coordinate d l) (rw same at less)
+      let same : shared b D k (p .node .key) ≡ d = omega (arith, shared-sym b D k (p .node .key)) in
+      let less = coordinate-less b D k (p .node .key) pos kfits fits (apart b D (p .node .key) k h (omega arith)) in
+      step-over ws b D k is-D is-b (p .node .cell) d (coordinate b D (p .node .key) d) (at .coordinate d l) (rw same at less)
 
   -- .. and along the settled link if it is below k.
-  pub place-along : (p : Place) → Read ws b D p → p .entry .key < k → (d : ℕ) → p .dimension ≤ d → d ≡ shared b D (p .entry .key) k →
-      stepAt ws k (p .entry .cell) d ≡ along (firstSharing b D (p .entry .key) (shared b D (p .entry .key) k) (p .later))
+  pub place-along : (p : Place) → Read ws b D p → p .node .key < k → (d : ℕ) → p .dimension ≤ d → d ≡ shared b D (p .node .key) k →
+      stepAt ws k (p .node .cell) d ≡ stepAlong (firstSharing b D (p .node .key) (shared b D (p .node .key) k) (p .later))
   place-along p at h d up e =
-      let l : d < D = omega (arith, shared-less b D (p .entry .key) k some (omega arith)) in
-      step-along ws b D k is-D is-b (p .entry .cell) d (coordinate b D (p .entry .key) d) (at .coordinate d l)
-      (rw (sym e) at (coordinate-less b D (p .entry .key) k pos (omega arith) kfits h))
-      ∙ ap along (at .link d up l ∙ settled-above b D p d up ∙ ap (λ n. firstSharing b D (p .entry .key) n (p .later)) e)
+      let l : d < D = omega (arith, shared-less b D (p .node .key) k some (omega arith)) in
+      step-along ws b D k is-D is-b (p .node .cell) d (coordinate b D (p .node .key) d) (at .coordinate d l)
+      (rw (sym e) at (coordinate-less b D (p .node .key) k pos (omega arith) kfits h))
+      ∙ ap stepAlong (at .link d up l ∙ settled-above b D p d up ∙ ap (λ n. firstSharing b D (p .node .key) n (p .later)) e)
 
   -- from a cell at k or above it the walk goes nowhere
-  walks-above : (fuel : ℕ) (p : Place) → StandingPlace ws b D p → k ≤ p .entry .key → (d : ℕ) → d < D → d ≤ shared b D (p .entry .key) k →
-      Room b D fuel (p .entry .key) d → Walks ws k fuel (p .entry .cell) d []
-  walks-above zero p at h d l near room = absurd (room-none b D (p .entry .key) d pos l room)
+  walks-above : (fuel : ℕ) (p : Place) → StandingPlace ws b D p → k ≤ p .node .key → (d : ℕ) → d < D → d ≤ shared b D (p .node .key) k →
+      Room b D fuel (p .node .key) d → Walks ws k fuel (p .node .cell) d []
+  walks-above zero p at h d l near room = absurd (room-none b D (p .node .key) d pos l room)
   walks-above (suc fuel) p at h d l near room =
-      go (decLe (shared b D (p .entry .key) k) d) (ℕ-discrete (suc d) D) (walks-above fuel p at h (suc d))
+      go (decLe (shared b D (p .node .key) k) d) (ℕ-discrete (suc d) D) (walks-above fuel p at h (suc d))
     where
-      go : Dec (shared b D (p .entry .key) k ≤ d) → Dec (suc d ≡ D) →
-          (suc d < D → suc d ≤ shared b D (p .entry .key) k → Room b D fuel (p .entry .key) (suc d) → Walks ws k fuel (p .entry .cell) (suc d) []) →
-          Walks ws k (suc fuel) (p .entry .cell) d []
-      go (no m) (yes e) rest = walks-end ws k fuel (p .entry .cell) d (place-top p (at .read) d (omega arith) e)
+      go : Dec (shared b D (p .node .key) k ≤ d) → Dec (suc d ≡ D) →
+          (suc d < D → suc d ≤ shared b D (p .node .key) k → Room b D fuel (p .node .key) (suc d) → Walks ws k fuel (p .node .cell) (suc d) []) →
+          Walks ws k (suc fuel) (p .node .cell) d []
+      go (no m) (yes e) rest = walks-end ws k fuel (p .node .cell) d (place-top p (at .read) d (omega arith) e)
       go (no m) (no n) rest =
-          walks-up ws k fuel (p .entry .cell) d [] (place-up p (at .read) d (omega arith) (omega arith))
-          (rest (omega arith) (omega arith) (room-up b D fuel (p .entry .key) d pos room))
-      go (yes m) top rest = walks-end ws k fuel (p .entry .cell) d (place-over p (at .read) h (at .fits) d l (omega arith))
+          walks-up ws k fuel (p .node .cell) d [] (place-up p (at .read) d (omega arith) (omega arith))
+          (rest (omega arith) (omega arith) (room-up b D fuel (p .node .key) d pos room))
+      go (yes m) top rest = walks-end ws k fuel (p .node .cell) d (place-over p (at .read) h (at .fits) d l (omega arith))
 
   -- the walk after a move to a cell y
-  walks-on : (fuel : ℕ) → Below ws b D k fuel → (p : Place) (d : ℕ) → p .entry .key < k → d ≡ shared b D (p .entry .key) k → Room b D (suc fuel) (p .entry .key) d →
-      (to : Next b D k (p .entry .key) (p .later) (StandingPlace ws b D)) →
-      Walks ws k fuel (to .to .entry .cell) d (map (λ x. x .cell) (cond (ltb (to .to .entry .key) k) (rowWalk b D k (to .to .entry .key) (to .to .later)) []))
+  walks-on : (fuel : ℕ) → Below ws b D k fuel → (p : Place) (d : ℕ) → p .node .key < k → d ≡ shared b D (p .node .key) k → Room b D (suc fuel) (p .node .key) d →
+      (to : Next b D k (p .node .key) (p .later) (StandingPlace ws b D)) →
+      Walks ws k fuel (to .to .node .cell) d (map (λ x. x .cell) (cond (ltb (to .to .node .key) k) (rowWalk b D k (to .to .node .key) (to .to .later)) []))
   walks-on fuel onward p d h e room to =
-      go (decLe k (to .to .entry .key)) (move-shares b D k (p .entry .key) (to .to .entry .key) d pos h (to .above) e (to .shares))
-      (move-room b D k fuel (p .entry .key) (to .to .entry .key) d pos (to .above) (to .holds .fits) e (to .shares) room)
+      go (decLe k (to .to .node .key)) (move-shares b D k (p .node .key) (to .to .node .key) d pos h (to .above) e (to .shares))
+      (move-room b D k fuel (p .node .key) (to .to .node .key) d pos (to .above) (to .holds .fits) e (to .shares) room)
     where
-      go : Dec (k ≤ to .to .entry .key) → d ≤ shared b D (to .to .entry .key) k → Room b D fuel (to .to .entry .key) d →
-          Walks ws k fuel (to .to .entry .cell) d (map (λ x. x .cell) (cond (ltb (to .to .entry .key) k) (rowWalk b D k (to .to .entry .key) (to .to .later)) []))
+      go : Dec (k ≤ to .to .node .key) → d ≤ shared b D (to .to .node .key) k → Room b D fuel (to .to .node .key) d →
+          Walks ws k fuel (to .to .node .cell) d (map (λ x. x .cell) (cond (ltb (to .to .node .key) k) (rowWalk b D k (to .to .node .key) (to .to .later)) []))
       go (yes m) near left =
-          let less = shared-less b D (p .entry .key) k some (omega arith) in
-          rw (le-ltb (to .to .entry .key) k m) (walks-above fuel (to .to) (to .holds) m d (omega arith) near left)
+          let less = shared-less b D (p .node .key) k some (omega arith) in
+          rw (le-ltb (to .to .node .key) k m) (walks-above fuel (to .to) (to .holds) m d (omega arith) near left)
       go (no m) near left =
           let dim = to .dimension in
-          rw (lt-ltb (to .to .entry .key) k (omega arith))
+          rw (lt-ltb (to .to .node .key) k (omega arith))
           (onward (to .to) (to .holds .read) (to .after) (omega arith) (to .ascends) d (omega arith) near left)
 
   walks-below : (fuel : ℕ) → Below ws b D k fuel
   walks-below zero p at later h asc d up near room =
-      absurd (let less = shared-less b D (p .entry .key) k some (omega arith) in room-none b D (p .entry .key) d pos (omega arith) room)
+      absurd (let less = shared-less b D (p .node .key) k some (omega arith) in room-none b D (p .node .key) d pos (omega arith) room)
   walks-below (suc fuel) p at later h asc d up near room =
-      go (decLe (shared b D (p .entry .key) k) d) (shared-less b D (p .entry .key) k some (λ e. omega arith))
+      go (decLe (shared b D (p .node .key) k) d) (shared-less b D (p .node .key) k some (λ e. omega arith))
       (next b D k pos some (StandingPlace ws b D) p h asc later) (walks-below fuel)
     where
-      go : Dec (shared b D (p .entry .key) k ≤ d) → shared b D (p .entry .key) k < D →
-          Stop b D k (p .entry .key) (p .later) ⊎ Next b D k (p .entry .key) (p .later) (StandingPlace ws b D) → Below ws b D k fuel →
-          Walks ws k (suc fuel) (p .entry .cell) d (map (λ x. x .cell) (rowWalk b D k (p .entry .key) (p .later)))
+      go : Dec (shared b D (p .node .key) k ≤ d) → shared b D (p .node .key) k < D →
+          Stop b D k (p .node .key) (p .later) ⊎ Next b D k (p .node .key) (p .later) (StandingPlace ws b D) → Below ws b D k fuel →
+          Walks ws k (suc fuel) (p .node .cell) d (map (λ x. x .cell) (rowWalk b D k (p .node .key) (p .later)))
       go (no m) less to onward =
-          walks-up ws k fuel (p .entry .cell) d (map (λ x. x .cell) (rowWalk b D k (p .entry .key) (p .later))) (place-up p at d (omega arith) (omega arith))
-          (onward p at later h asc (suc d) (omega arith) (omega arith) (room-up b D fuel (p .entry .key) d pos room))
+          walks-up ws k fuel (p .node .cell) d (map (λ x. x .cell) (rowWalk b D k (p .node .key) (p .later))) (place-up p at d (omega arith) (omega arith))
+          (onward p at later h asc (suc d) (omega arith) (omega arith) (room-up b D fuel (p .node .key) d pos room))
       go (yes m) less (inl stop) onward =
           rw (stop .gone)
-          (walks-end ws k fuel (p .entry .cell) d (place-along p at h d up (omega arith) ∙ ap along (stop .leads)))
+          (walks-end ws k fuel (p .node .cell) d (place-along p at h d up (omega arith) ∙ ap stepAlong (stop .leads)))
       go (yes m) less (inr to) onward =
           rw (to .gone)
-          (walks-go ws k fuel (p .entry .cell) d (to .to .entry .cell)
-          (map (λ x. x .cell) (cond (ltb (to .to .entry .key) k) (rowWalk b D k (to .to .entry .key) (to .to .later)) []))
-          (place-along p at h d up (omega arith) ∙ ap along (to .leads) ∙ along-go (to .to .entry .cell) (to .holds .other))
+          (walks-go ws k fuel (p .node .cell) d (to .to .node .cell)
+          (map (λ x. x .cell) (cond (ltb (to .to .node .key) k) (rowWalk b D k (to .to .node .key) (to .to .later)) []))
+          (place-along p at h d up (omega arith) ∙ ap stepAlong (to .leads) ∙ along-go (to .to .node .cell) (to .holds .other))
           (walks-on fuel onward p d h (omega arith) room to))
 
 -- On a list.
@@ -229,16 +232,16 @@ unfolding places
 head-read s v = places-read s v .0
 
 pub others-standing : (s : State) → Sound s →
-    All (StandingPlace (picture s) (s .settings .base) (s .settings .dimensions)) (placesAfter (s .settings .base) (s .settings .dimensions) headEntry 0 (s .row))
+    All (StandingPlace (picture s) (s .settings .base) (s .settings .dimensions)) (placesAfter (s .settings .base) (s .settings .dimensions) headNode 0 (s .row))
 unfolding places
 others-standing s v =
     let b = s .settings .base in
     let D = s .settings .dimensions in
-    all-zip (λ p r o. record { read = r; other = o .0; fits = o .1 }) (placesAfter b D headEntry 0 (s .row)) (places-read s v .1)
-    (places-entries (λ x. (0 < x .cell) × (x .key < b ^ D)) b D headEntry 0 (s .row)
+    all-zip (λ p r o. record { read = r; other = o .0; fits = o .1 }) (placesAfter b D headNode 0 (s .row)) (places-read s v .1)
+    (places-nodes (λ x. (0 < x .cell) × (x .key < b ^ D)) b D headNode 0 (s .row)
     (all-zip (λ x c f. (c .0, f)) (s .row) (row-range s v) (keys-fit s v)))
 
-keys-of-cells : (ws : List ℕ) (row : List Entry) → All (λ x. keyAt ws (x .cell) ≡ x .key) row → map (keyAt ws) (map (λ x. x .cell) row) ≡ map (λ x. x .key) row
+keys-of-cells : (ws : List ℕ) (row : List Node) → All (λ x. keyAt ws (x .cell) ≡ x .key) row → map (keyAt ws) (map (λ x. x .cell) row) ≡ map (λ x. x .key) row
 keys-of-cells ws [] a = refl
 keys-of-cells ws (x ∷ row) a = ap₂ _∷_ (a .0) (keys-of-cells ws row (a .1))
 

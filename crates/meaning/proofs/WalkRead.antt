@@ -13,20 +13,22 @@ use lib.ListN.{length, getD, List·getD-append}
 use lib.Seq.{getD-append-add}
 use borrow.Author.Tests.{lt-ltb, le-leb, eq-eqb, leb-true, ltb-true}
 use Rattle.settings.specs.Numbers.{fieldsBeforeCoordinates, cellWords}
+use Rattle.lists.specs.Lists.{numbersFrom}
+use Rattle.lists.proofs.Numbers.{made-at}
+use Rattle.lists.proofs.All.{All, all-map, all-zip}
+use Rattle.lists.proofs.Tests.{both, and-both}
 use Rattle.meaning.specs.Keys.{coordinates, coordinate, shared}
-use Rattle.meaning.specs.Row.{Entry, headEntry, firstOf, firstSharing, Place, headPlace, placesAfter, places, settledLink, owed, low, high, between, link, placeOf}
+use Rattle.meaning.specs.Row.{Node, headNode, firstOf, firstSharing, Place, headPlace, placesAfter, places, settledLink, owed, low, high, between, link, placeOf}
 use Rattle.meaning.specs.State.{State}
-use Rattle.meaning.specs.Picture.{numbersFrom, standingWords, wordsOf, picture, mark}
+use Rattle.meaning.specs.Picture.{standingWords, wordsOf, picture, mark}
 use Rattle.meaning.specs.Words.{wordAt, keyAt, owedAt, lowAt, highAt, coordinateAt, linkAt, valueAt, markAt}
 use Rattle.meaning.specs.Walk.{linkRead}
 use Rattle.meaning.proofs.AgainstSlips.{owed-link-is-read-there}
-use Rattle.meaning.proofs.Order.{All, all-map, both, and-both}
 use Rattle.meaning.proofs.Keys.{coordinates-length}
 use Rattle.meaning.proofs.State.{Debt, Sound}
-use Rattle.meaning.proofs.Blocks.{made-at}
-use Rattle.meaning.proofs.Cells.{all-zip, row-range}
+use Rattle.meaning.proofs.Cells.{row-range}
 use Rattle.meaning.proofs.Picture.{picture-word, place-found, picture-dimensions}
-use Rattle.meaning.proofs.Places.{places-entries, row-of-places}
+use Rattle.meaning.proofs.Places.{places-nodes, row-of-places}
 
 -- Words by place.
 
@@ -49,31 +51,31 @@ module _ (six : List ℕ) (are : length six ≡ fieldsBeforeCoordinates) (b D ke
       ∙ ap to (zero-add d)
 
 abbrev sixWords : ℕ → ℕ → Place → List ℕ
-sixWords b D p = p .entry .key ∷ p .entry .value ∷ mark (p .entry .live) ∷ owed p ∷ low p ∷ high b D p ∷ []
+sixWords b D p = p .node .key ∷ p .node .value ∷ mark (p .node .live) ∷ owed p ∷ low p ∷ high b D p ∷ []
 
-pub standing-coordinate : (b D : ℕ) (p : Place) (d : ℕ) → d < D → getD (standingWords b D p) (fieldsBeforeCoordinates + d) 0 ≡ coordinate b D (p .entry .key) d
+pub standing-coordinate : (b D : ℕ) (p : Place) (d : ℕ) → d < D → getD (standingWords b D p) (fieldsBeforeCoordinates + d) 0 ≡ coordinate b D (p .node .key) d
 unfolding standingWords
-standing-coordinate b D p d h = words-coordinate (sixWords b D p) refl b D (p .entry .key) (link b D p) d h
+standing-coordinate b D p d h = words-coordinate (sixWords b D p) refl b D (p .node .key) (link b D p) d h
 
 pub standing-link : (b D : ℕ) (p : Place) (d : ℕ) → d < D → getD (standingWords b D p) (fieldsBeforeCoordinates + D + d) 0 ≡ link b D p d
 unfolding standingWords
-standing-link b D p d h = words-link (sixWords b D p) refl b D (p .entry .key) (link b D p) d h
+standing-link b D p d h = words-link (sixWords b D p) refl b D (p .node .key) (link b D p) d h
 
 -- The words of a standing cell are those of its place.
 pub record Held (ws : List ℕ) (b D : ℕ) (p : Place) : Type 0 where
-  pub key : keyAt ws (p .entry .cell) ≡ p .entry .key
-  pub value : valueAt ws (p .entry .cell) ≡ p .entry .value
-  pub mark : markAt ws (p .entry .cell) ≡ mark (p .entry .live)
-  pub owed : owedAt ws (p .entry .cell) ≡ owed p
-  pub low : lowAt ws (p .entry .cell) ≡ low p
-  pub high : highAt ws (p .entry .cell) ≡ high b D p
-  pub coordinate : (d : ℕ) → d < D → coordinateAt ws (p .entry .cell) d ≡ coordinate b D (p .entry .key) d
-  pub link : (d : ℕ) → d < D → linkAt ws (p .entry .cell) d ≡ link b D p d
+  pub key : keyAt ws (p .node .cell) ≡ p .node .key
+  pub value : valueAt ws (p .node .cell) ≡ p .node .value
+  pub mark : markAt ws (p .node .cell) ≡ mark (p .node .live)
+  pub owed : owedAt ws (p .node .cell) ≡ owed p
+  pub low : lowAt ws (p .node .cell) ≡ low p
+  pub high : highAt ws (p .node .cell) ≡ high b D p
+  pub coordinate : (d : ℕ) → d < D → coordinateAt ws (p .node .cell) d ≡ coordinate b D (p .node .key) d
+  pub link : (d : ℕ) → d < D → linkAt ws (p .node .cell) d ≡ link b D p d
 
--- what holds of the head and of each entry of the row holds of the entry of each place
-pub all-places : (P : Entry → Type 0) (b D : ℕ) (row : List Entry) → P headEntry → All P row → All (λ p. P (p .entry)) (places b D row)
+-- what holds of the head and of each node of the row holds of the node of each place
+pub all-places : (P : Node → Type 0) (b D : ℕ) (row : List Node) → P headNode → All P row → All (λ p. P (p .node)) (places b D row)
 unfolding places
-all-places P b D row h r = (h, places-entries P b D headEntry 0 row r)
+all-places P b D row h r = (h, places-nodes P b D headNode 0 row r)
 
 module _ (s : State) where
   -- word j of the cell of a place
@@ -83,13 +85,13 @@ module _ (s : State) where
   standing-word x p h found j l =
       picture-word s x j h l ∙ ap (λ o. getD (wordsOf (s .settings .base) (s .settings .dimensions) (s .free) x o) j 0) found
 
-  held : (p : Place) → p .entry .cell < s .settings .cells →
-      placeOf (p .entry .cell) (places (s .settings .base) (s .settings .dimensions) (s .row)) ≡ some p → Held (picture s) (s .settings .base) (s .settings .dimensions) p
+  held : (p : Place) → p .node .cell < s .settings .cells →
+      placeOf (p .node .cell) (places (s .settings .base) (s .settings .dimensions) (s .row)) ≡ some p → Held (picture s) (s .settings .base) (s .settings .dimensions) p
   unfolding standingWords
   held p h found =
       let b = s .settings .base in
       let D = s .settings .dimensions in
-      let word = standing-word (p .entry .cell) p h found in
+      let word = standing-word (p .node .cell) p h found in
       record {
         key = word 0 (omega arith);
         value = word 1 (omega arith);
@@ -99,7 +101,7 @@ module _ (s : State) where
         high = word 5 (omega arith);
         coordinate = λ d l. word (fieldsBeforeCoordinates + d) (omega arith) ∙ standing-coordinate b D p d l;
         link = λ d l.
-            ap (λ n. wordAt (picture s) (p .entry .cell) (fieldsBeforeCoordinates + n + d)) (picture-dimensions s)
+            ap (λ n. wordAt (picture s) (p .node .cell) (fieldsBeforeCoordinates + n + d)) (picture-dimensions s)
             ∙ word (fieldsBeforeCoordinates + D + d) (omega arith) ∙ standing-link b D p d l;
       }
 
@@ -138,11 +140,11 @@ linkDue p d = p .before .owes && between (p .beforeDimension) (p .dimension) d
 
 -- .. which then is this; ..
 abbrev pub dueLink : ℕ → ℕ → Place → ℕ → ℕ
-dueLink b D p d = firstSharing b D (p .before .key) d (p .entry ∷ p .later)
+dueLink b D p d = firstSharing b D (p .before .key) d (p .node ∷ p .later)
 
 -- .. or one that the cell itself owes
 abbrev pub linkOwing : ℕ → ℕ → Place → ℕ → Bool
-linkOwing b D p d = p .entry .owes && between (low p) (high b D p) d
+linkOwing b D p d = p .node .owes && between (low p) (high b D p) d
 
 -- the link, where it is known whether it is the one or the other
 pub link-tested : (b D : ℕ) (p : Place) (d : ℕ) {t u : Bool} → linkDue p d ≡ t → linkOwing b D p d ≡ u → link b D p d ≡ cond t (dueLink b D p d) (cond u 0 (settledLink b D p d))
@@ -162,7 +164,7 @@ link-due : (b D : ℕ) (p : Place) (d : ℕ) → p .before .owes ≡ true → p 
 link-due b D p d e h l = link-tested b D p d (and-both (p .before .owes) (between (p .beforeDimension) (p .dimension) d) e (between-is (p .beforeDimension) (p .dimension) d h l)) refl
 
 -- from the dimension up, the settled link is not cut off
-pub settled-above : (b D : ℕ) (p : Place) (d : ℕ) → p .dimension ≤ d → settledLink b D p d ≡ firstSharing b D (p .entry .key) d (p .later)
+pub settled-above : (b D : ℕ) (p : Place) (d : ℕ) → p .dimension ≤ d → settledLink b D p d ≡ firstSharing b D (p .node .key) d (p .later)
 settled-above b D p d h = rw (le-leb (p .dimension) d h) refl
 
 -- Links as they are read.
@@ -195,61 +197,61 @@ module _ (ws : List ℕ) (x d : ℕ) where
   read-through o h l = owed-link-is-read-there ws x d (λ e. omega arith) h l
 
 -- a cell that owes nothing
-link-read-free : (ws : List ℕ) (b D : ℕ) (p : Place) → Held ws b D p → p .entry .owes ≡ false → (d : ℕ) → p .dimension ≤ d → d < D →
-    linkRead ws (p .entry .cell) d ≡ settledLink b D p d
+link-read-free : (ws : List ℕ) (b D : ℕ) (p : Place) → Held ws b D p → p .node .owes ≡ false → (d : ℕ) → p .dimension ≤ d → d < D →
+    linkRead ws (p .node .cell) d ≡ settledLink b D p d
 link-read-free ws b D p held e d h l =
-    read-unowing ws (p .entry .cell) d (held .owed ∙ ap (λ t. cond t (firstOf (p .later) .cell) 0) e)
+    read-unowing ws (p .node .cell) d (held .owed ∙ ap (λ t. cond t (firstOf (p .later) .cell) 0) e)
     ∙ held .link d l
     ∙ link-settled b D p d h (ap (λ t. t && between (low p) (high b D p) d) e)
 
 -- a cell that owes, with the next standing cell c
-link-read-owing : (ws : List ℕ) (b D : ℕ) (p : Place) (c : Entry) (later : List Entry) → p .later ≡ c ∷ later → Held ws b D p →
-    Held ws b D (record { entry = c; dimension = shared b D (p .entry .key) (c .key); before = p .entry; beforeDimension = p .dimension; later = later }) →
-    p .entry .owes ≡ true → 0 < c .cell → (d : ℕ) → p .dimension ≤ d → d < D → linkRead ws (p .entry .cell) d ≡ settledLink b D p d
+link-read-owing : (ws : List ℕ) (b D : ℕ) (p : Place) (c : Node) (later : List Node) → p .later ≡ c ∷ later → Held ws b D p →
+    Held ws b D (record { node = c; dimension = shared b D (p .node .key) (c .key); before = p .node; beforeDimension = p .dimension; later = later }) →
+    p .node .owes ≡ true → 0 < c .cell → (d : ℕ) → p .dimension ≤ d → d < D → linkRead ws (p .node .cell) d ≡ settledLink b D p d
 link-read-owing ws b D p c later is held next o pos d h l =
-    go (decLe (shared b D (p .entry .key) (c .key)) d)
+    go (decLe (shared b D (p .node .key) (c .key)) d)
     (held .owed ∙ ap (λ t. cond t (firstOf (p .later) .cell) 0) o ∙ ap (λ r. firstOf r .cell) is)
     (held .low ∙ ap (λ t. cond t (p .dimension) 0) o)
-    (ap (λ t. cond t (shared b D (p .entry .key) (firstOf (p .later) .key)) 0) o ∙ ap (λ r. shared b D (p .entry .key) (firstOf r .key)) is)
+    (ap (λ t. cond t (shared b D (p .node .key) (firstOf (p .later) .key)) 0) o ∙ ap (λ r. shared b D (p .node .key) (firstOf r .key)) is)
   where
-    go : Dec (shared b D (p .entry .key) (c .key) ≤ d) → owedAt ws (p .entry .cell) ≡ c .cell → lowAt ws (p .entry .cell) ≡ p .dimension →
-        high b D p ≡ shared b D (p .entry .key) (c .key) → linkRead ws (p .entry .cell) d ≡ settledLink b D p d
+    go : Dec (shared b D (p .node .key) (c .key) ≤ d) → owedAt ws (p .node .cell) ≡ c .cell → lowAt ws (p .node .cell) ≡ p .dimension →
+        high b D p ≡ shared b D (p .node .key) (c .key) → linkRead ws (p .node .cell) d ≡ settledLink b D p d
     go (yes m) is-owed is-low is-high =
         let is-read = held .high in
-        read-above ws (p .entry .cell) d (omega arith)
+        read-above ws (p .node .cell) d (omega arith)
         ∙ held .link d l
-        ∙ link-settled b D p d h (ap (λ t. p .entry .owes && t) (between-not (low p) (high b D p) d (omega arith)) ∙ and-false (p .entry .owes))
+        ∙ link-settled b D p d h (ap (λ t. p .node .owes && t) (between-not (low p) (high b D p) d (omega arith)) ∙ and-false (p .node .owes))
     go (no m) is-owed is-low is-high =
         let is-read = held .high in
-        read-through ws (p .entry .cell) d (omega arith) (omega arith) (omega arith)
+        read-through ws (p .node .cell) d (omega arith) (omega arith) (omega arith)
         ∙ ap (λ y. linkAt ws y d) is-owed
         ∙ next .link d l
-        ∙ link-due b D (record { entry = c; dimension = shared b D (p .entry .key) (c .key); before = p .entry; beforeDimension = p .dimension; later = later })
+        ∙ link-due b D (record { node = c; dimension = shared b D (p .node .key) (c .key); before = p .node; beforeDimension = p .dimension; later = later })
         d o h (omega arith)
-        ∙ ap (λ r. firstSharing b D (p .entry .key) d r) (sym is)
+        ∙ ap (λ r. firstSharing b D (p .node .key) d r) (sym is)
         ∙ sym (settled-above b D p d h)
 
 -- "Where the cell owes and the link's number is at least low and below high, the link is read from the owed cell": it is the settled one.
-link-read-at : (ws : List ℕ) (b D : ℕ) (p : Place) → Held ws b D p → All (Held ws b D) (placesAfter b D (p .entry) (p .dimension) (p .later)) →
-    (p .entry .owes ≡ true → Debt b D p) → All (λ x. 0 < x .cell) (p .later) → (d : ℕ) → p .dimension ≤ d → d < D →
-    linkRead ws (p .entry .cell) d ≡ settledLink b D p d
+link-read-at : (ws : List ℕ) (b D : ℕ) (p : Place) → Held ws b D p → All (Held ws b D) (placesAfter b D (p .node) (p .dimension) (p .later)) →
+    (p .node .owes ≡ true → Debt b D p) → All (λ x. 0 < x .cell) (p .later) → (d : ℕ) → p .dimension ≤ d → d < D →
+    linkRead ws (p .node .cell) d ≡ settledLink b D p d
 unfolding placesAfter
-link-read-at ws b D p held after debt pos d h l = go (p .entry .owes) refl (p .later) refl after pos
+link-read-at ws b D p held after debt pos d h l = go (p .node .owes) refl (p .later) refl after pos
   where
-    go : (t : Bool) → p .entry .owes ≡ t → (later : List Entry) → p .later ≡ later → All (Held ws b D) (placesAfter b D (p .entry) (p .dimension) later) →
-        All (λ x. 0 < x .cell) later → linkRead ws (p .entry .cell) d ≡ settledLink b D p d
+    go : (t : Bool) → p .node .owes ≡ t → (later : List Node) → p .later ≡ later → All (Held ws b D) (placesAfter b D (p .node) (p .dimension) later) →
+        All (λ x. 0 < x .cell) later → linkRead ws (p .node .cell) d ≡ settledLink b D p d
     go false o later is next pos = link-read-free ws b D p held o d h l
     go true o [] is next pos = absurd (let m = debt o .later in let n = ap length is in omega arith)
     go true o (c ∷ later) is next pos = link-read-owing ws b D p c later is held (next .0) o (pos .0) d h l
 
 -- what the walk reads of a standing cell
 pub record Read (ws : List ℕ) (b D : ℕ) (p : Place) : Type 0 where
-  pub coordinate : (d : ℕ) → d < D → coordinateAt ws (p .entry .cell) d ≡ coordinate b D (p .entry .key) d
-  pub link : (d : ℕ) → p .dimension ≤ d → d < D → linkRead ws (p .entry .cell) d ≡ settledLink b D p d
+  pub coordinate : (d : ℕ) → d < D → coordinateAt ws (p .node .cell) d ≡ coordinate b D (p .node .key) d
+  pub link : (d : ℕ) → p .dimension ≤ d → d < D → linkRead ws (p .node .cell) d ≡ settledLink b D p d
 
 module _ (ws : List ℕ) (b D : ℕ) where
-  reads-after : (a : Entry) (e : ℕ) (row : List Entry) → All (Held ws b D) (placesAfter b D a e row) →
-      All (λ n. n .entry .owes ≡ true → Debt b D n) (placesAfter b D a e row) → All (λ x. 0 < x .cell) row → All (Read ws b D) (placesAfter b D a e row)
+  reads-after : (a : Node) (e : ℕ) (row : List Node) → All (Held ws b D) (placesAfter b D a e row) →
+      All (λ n. n .node .owes ≡ true → Debt b D n) (placesAfter b D a e row) → All (λ x. 0 < x .cell) row → All (Read ws b D) (placesAfter b D a e row)
   unfolding placesAfter
   reads-after a e [] held debts pos = tt
   reads-after a e (x ∷ row) held debts pos = (
@@ -257,38 +259,38 @@ module _ (ws : List ℕ) (b D : ℕ) where
     reads-after x (shared b D (a .key) (x .key)) row (held .1) (debts .1) (pos .1),
   )
 
-  reads : (row : List Entry) → All (Held ws b D) (places b D row) → All (λ n. n .entry .owes ≡ true → Debt b D n) (places b D row) →
+  reads : (row : List Node) → All (Held ws b D) (places b D row) → All (λ n. n .node .owes ≡ true → Debt b D n) (places b D row) →
       All (λ x. 0 < x .cell) row → All (Read ws b D) (places b D row)
   unfolding places
   reads row held debts pos = (
     record { coordinate = held .0 .coordinate; link = link-read-at ws b D (headPlace row) (held .0) (held .1) (debts .0) pos },
-    reads-after headEntry 0 row (held .1) (debts .1) pos,
+    reads-after headNode 0 row (held .1) (debts .1) pos,
   )
 
 module _ (s : State) (v : Sound s) where
   pub places-read : All (Read (picture s) (s .settings .base) (s .settings .dimensions)) (places (s .settings .base) (s .settings .dimensions) (s .row))
   places-read = reads (picture s) (s .settings .base) (s .settings .dimensions) (s .row) (places-held s v) (v .debts) (all-map (λ x h. h .0) (s .row) (row-range s v))
 
-  pub key-read : All (λ p. keyAt (picture s) (p .entry .cell) ≡ p .entry .key) (places (s .settings .base) (s .settings .dimensions) (s .row))
+  pub key-read : All (λ p. keyAt (picture s) (p .node .cell) ≡ p .node .key) (places (s .settings .base) (s .settings .dimensions) (s .row))
   key-read = all-map (λ p h. h .key) (places (s .settings .base) (s .settings .dimensions) (s .row)) (places-held s v)
 
   pub coordinate-read : (d : ℕ) → d < s .settings .dimensions →
-      All (λ p. coordinateAt (picture s) (p .entry .cell) d ≡ coordinate (s .settings .base) (s .settings .dimensions) (p .entry .key) d)
+      All (λ p. coordinateAt (picture s) (p .node .cell) d ≡ coordinate (s .settings .base) (s .settings .dimensions) (p .node .key) d)
       (places (s .settings .base) (s .settings .dimensions) (s .row))
   coordinate-read d l = all-map (λ p h. h .coordinate d l) (places (s .settings .base) (s .settings .dimensions) (s .row)) places-read
 
   -- from a cell's dimension up (below it, a cell to which the one before owes still holds that one's links)
   pub link-read : (d : ℕ) → d < s .settings .dimensions →
-      All (λ p. p .dimension ≤ d → linkRead (picture s) (p .entry .cell) d ≡ settledLink (s .settings .base) (s .settings .dimensions) p d)
+      All (λ p. p .dimension ≤ d → linkRead (picture s) (p .node .cell) d ≡ settledLink (s .settings .base) (s .settings .dimensions) p d)
       (places (s .settings .base) (s .settings .dimensions) (s .row))
   link-read d l = all-map (λ p r h. r .link d h l) (places (s .settings .base) (s .settings .dimensions) (s .row)) places-read
 
   pub row-key-read : All (λ x. keyAt (picture s) (x .cell) ≡ x .key) (s .row)
   unfolding places
-  row-key-read = row-of-places (λ x. keyAt (picture s) (x .cell) ≡ x .key) (s .settings .base) (s .settings .dimensions) headEntry 0 (s .row) (key-read .1)
+  row-key-read = row-of-places (λ x. keyAt (picture s) (x .cell) ≡ x .key) (s .settings .base) (s .settings .dimensions) headNode 0 (s .row) (key-read .1)
 
   pub row-mark-read : All (λ x. markAt (picture s) (x .cell) ≡ mark (x .live)) (s .row)
   unfolding places
   row-mark-read =
-      row-of-places (λ x. markAt (picture s) (x .cell) ≡ mark (x .live)) (s .settings .base) (s .settings .dimensions) headEntry 0 (s .row)
-      (all-map (λ p h. h .mark) (placesAfter (s .settings .base) (s .settings .dimensions) headEntry 0 (s .row)) (places-held s v .1))
+      row-of-places (λ x. markAt (picture s) (x .cell) ≡ mark (x .live)) (s .settings .base) (s .settings .dimensions) headNode 0 (s .row)
+      (all-map (λ p h. h .mark) (placesAfter (s .settings .base) (s .settings .dimensions) headNode 0 (s .row)) (places-held s v .1))

@@ -6,10 +6,9 @@ use mathlib.Core.List.{List}
 use Prim.Native.Nat.{ℕ, zero, suc, _≤_, _<_}
 use native.Mathlib.Omega.{arith}
 use lib.Dec.{eqb, ltb}
-use lib.ListN.{getD}
 use borrow.Author.Tests.{eqb-false}
 use Rattle.meaning.specs.Keys.{coordinate}
-use Rattle.meaning.specs.Words.{coordinateAt}
+use Rattle.meaning.specs.Words.{coordinateAt, dimensionsAt, baseAt}
 use Rattle.meaning.specs.Walk.{linkRead, stepAt, endsAfter, ends}
 use Rattle.meaning.specs.declared.Step.{Step}
 use Rattle.meaning.specs.declared.Step.the-variants.{Go, Up, End}
@@ -82,13 +81,13 @@ nearer-up (suc fuel) ws k x d e t =
 
 pub step-leads : (ws : List ℕ) (k x d y : ℕ) → stepAt ws k x d ≡ Go y → y ≡ linkRead ws x d
 unfolding stepAt
-step-leads ws k x d y e = at (ltb own sought) (eqb own sought) (eqb (suc d) (getD ws 0 0)) (eqb (linkRead ws x d) 0) e
+step-leads ws k x d y e = at (ltb own sought) (eqb own sought) (eqb (suc d) (dimensionsAt ws)) (eqb (linkRead ws x d) 0) e
   where
     own : ℕ
     own = coordinateAt ws x d
 
     sought : ℕ
-    sought = coordinate (getD ws 3 0) (getD ws 0 0) k d
+    sought = coordinate (baseAt ws) (dimensionsAt ws) k d
 
     at : (below same top none : Bool) → cond below (cond none End (Go (linkRead ws x d))) (cond same (cond top End Up) End) ≡ Go y → y ≡ linkRead ws x d
     at true same top true f = absurd (let z : _≡_ {A = ℕ} 0 1 = cc in omega arith)
@@ -97,20 +96,20 @@ step-leads ws k x d y e = at (ltb own sought) (eqb own sought) (eqb (suc d) (get
     at false true false none f = absurd (let z : _≡_ {A = ℕ} 0 1 = cc in omega arith)
     at false false top none f = absurd (let z : _≡_ {A = ℕ} 0 1 = cc in omega arith)
 
-pub step-rises : (ws : List ℕ) (k x d : ℕ) → stepAt ws k x d ≡ Up → suc d ≡ getD ws 0 0 → ⊥
+pub step-rises : (ws : List ℕ) (k x d : ℕ) → stepAt ws k x d ≡ Up → suc d ≡ dimensionsAt ws → ⊥
 unfolding stepAt
-step-rises ws k x d e = at (ltb own sought) (eqb own sought) (eqb (suc d) (getD ws 0 0)) refl (eqb (linkRead ws x d) 0) e
+step-rises ws k x d e = at (ltb own sought) (eqb own sought) (eqb (suc d) (dimensionsAt ws)) refl (eqb (linkRead ws x d) 0) e
   where
     own : ℕ
     own = coordinateAt ws x d
 
     sought : ℕ
-    sought = coordinate (getD ws 3 0) (getD ws 0 0) k d
+    sought = coordinate (baseAt ws) (dimensionsAt ws) k d
 
-    at : (below same top : Bool) → eqb (suc d) (getD ws 0 0) ≡ top → (none : Bool) →
-        cond below (cond none End (Go (linkRead ws x d))) (cond same (cond top End Up) End) ≡ Up → suc d ≡ getD ws 0 0 → ⊥
+    at : (below same top : Bool) → eqb (suc d) (dimensionsAt ws) ≡ top → (none : Bool) →
+        cond below (cond none End (Go (linkRead ws x d))) (cond same (cond top End Up) End) ≡ Up → suc d ≡ dimensionsAt ws → ⊥
     at true same top t true f q = let z : _≡_ {A = ℕ} 0 1 = cc in omega arith
     at true same top t false f q = let z : _≡_ {A = ℕ} 0 1 = cc in omega arith
     at false true true t none f q = let z : _≡_ {A = ℕ} 0 1 = cc in omega arith
-    at false true false t none f q = eqb-false (suc d) (getD ws 0 0) t q
+    at false true false t none f q = eqb-false (suc d) (dimensionsAt ws) t q
     at false false top t none f q = let z : _≡_ {A = ℕ} 0 1 = cc in omega arith

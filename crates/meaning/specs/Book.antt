@@ -3,17 +3,19 @@ use mathlib.Core.Bool.{Bool, false, cond, _&&_, _||_}
 use mathlib.Core.List.{List, [], _∷_, map}
 use Prim.Native.Nat.{ℕ, suc}
 use lib.Dec.{eqb, leb, ltb}
-use lib.ListN.{length, getD, drop}
+use lib.ListN.{length, drop}
 use Rattle.settings.specs.Numbers.{inRange, lengthOf}
-use Rattle.meaning.specs.Row.{Entry, those}
+use Rattle.lists.specs.Lists.{those}
+use Rattle.meaning.specs.Row.{Node}
 use Rattle.meaning.specs.Reading.{read}
 use Rattle.meaning.specs.Calls.{Call, set-up, insert-key, find-key, finish-key, take-least, sweep-dead}
+use Rattle.meaning.specs.Words.{largestAt, cellsAt}
 
 pub record Pair : Type 0 where
   pub key : ℕ
   pub value : ℕ
 
-abbrev pub pair : Entry → Pair
+abbrev pub pair : Node → Pair
 pair x = record { key = x .key; value = x .value }
 
 -- the live key-value pairs of a buffer, and its standing keys, ascending
@@ -31,7 +33,7 @@ pub record Book : Type 0 where
   pub standing : List ℕ
 
 abbrev pub bookOf : List ℕ → Book
-bookOf ws = record { largest = getD ws 1 0; cells = getD ws 2 0; pairs = livePairs ws; standing = standingKeys ws }
+bookOf ws = record { largest = largestAt ws; cells = cellsAt ws; pairs = livePairs ws; standing = standingKeys ws }
 
 unfoldable pub hasKey : ℕ → List ℕ → Bool
 hasKey key [] = false

@@ -6,10 +6,11 @@ use Prim.Native.Nat.{ℕ, suc}
 use lib.Dec.{eqb}
 use lib.ListN.{replicate}
 use Rattle.settings.specs.Numbers.{lengthOf}
+use Rattle.lists.specs.Lists.{same}
 use Rattle.meaning.specs.declared.Answer.{Answer}
-use Rattle.meaning.specs.Row.{Entry, entryAt}
+use Rattle.meaning.specs.Row.{Node, nodeAt}
 use Rattle.meaning.specs.State.{positionKey}
-use Rattle.meaning.specs.Reading.{read, same}
+use Rattle.meaning.specs.Reading.{read}
 use Rattle.meaning.specs.Refusals.{answer}
 use Rattle.meaning.specs.Words.{owedAt, lowAt, highAt}
 use Rattle.meaning.specs.Calls.{Call, set-up, insert-key, find-key, take-least, sweep-dead, outcome}
@@ -26,12 +27,12 @@ pub data Remark : Type 0 where
   uses-cell : (key cell : ℕ) → Remark
 
 -- the number of the cell with a key; 0 if it does not stand
-abbrev pub cellNumber : Option Entry → ℕ
+abbrev pub cellNumber : Option Node → ℕ
 cellNumber none = 0
 cellNumber (some x) = x .cell
 
 abbrev pub cellWith : List ℕ → ℕ → ℕ
-cellWith ws key = cellNumber (entryAt key (read ws .row))
+cellWith ws key = cellNumber (nodeAt key (read ws .row))
 
 abbrev pub holds : Remark → List ℕ → Bool
 holds none-made ws = true

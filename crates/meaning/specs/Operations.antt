@@ -8,14 +8,15 @@ use lib.Dec.{eqb, leb, ltb}
 use lib.ListN.{length, drop}
 use Rattle.settings.specs.Numbers.{inRange, lengthOf}
 use Rattle.settings.specs.Checked.{settingsOf}
+use Rattle.lists.specs.Lists.{those, numbersFrom, firstNumber}
 use Rattle.meaning.specs.Keys.{shared}
-use Rattle.meaning.specs.Row.{Entry, headEntry, Place, places, settledLink, low, high, placeOf, entryAt, put, those}
-use Rattle.meaning.specs.State.{State, keyOf, positionKey}
-use Rattle.meaning.specs.Picture.{numbersFrom, picture, firstNumber}
+use Rattle.meaning.specs.Row.{Node, headNode, Place, settledLink, low, high, placeOf, nodeAt, put}
+use Rattle.meaning.specs.State.{State, keyOf, positionKey, placesOf}
+use Rattle.meaning.specs.Picture.{picture}
 use Rattle.meaning.specs.Reading.{read, isList}
 use Rattle.meaning.specs.Refusals.{Outcome, accepted, outOfRange, wrongLength, notAList, badKey, keyLive, noFreeCell, nothingLive, keyNotLive, keyNotStanding, owedNotStanding, refused}
 use Rattle.meaning.specs.Rule.{rule}
-use Rattle.meaning.specs.Words.{markAt, owedAt}
+use Rattle.meaning.specs.Words.{markAt, owedAt, freeMark}
 
 -- "3: the buffer is not a list (all but set up)"
 unfoldable pub onList : List ℕ → (State → Outcome) → Outcome
@@ -27,11 +28,7 @@ onKey ws s key done = cond (leb 1 key && leb key (s .settings .largest)) done (r
 
 -- "9: a cell owed from is not standing": the cell that the owed word of cell x names has mark 0
 unfoldable pub owesFromFree : List ℕ → ℕ → Bool
-owesFromFree ws x = not (eqb (owedAt ws x) 0) && eqb (markAt ws (owedAt ws x)) 0
-
--- the standing cells with their places
-abbrev pub placesOf : State → List Entry → List Place
-placesOf s row = places (s .settings .base) (s .settings .dimensions) row
+owesFromFree ws x = not (eqb (owedAt ws x) 0) && eqb (markAt ws (owedAt ws x)) freeMark
 
 -- "Looked, for a key k, over the keys standing before the call"
 unfoldable pub looked : State → ℕ → ℕ
@@ -52,49 +49,49 @@ setUpOut D K C ws =
 
 -- Finishing.
 
--- the entry with its debt finished: "paid" in what follows
-abbrev pub paid : Entry → Entry
+-- the node with its debt finished: "paid" in what follows
+abbrev pub paid : Node → Node
 paid x = record { cell = x .cell; key = x .key; value = x .value; live = x .live; owes = false }
 
 -- "Finishing moves those links from c to n, puts 0 in c and clears the three words": what cell c owes is finished
-unfoldable pub finished : ℕ → List Entry → List Entry
+unfoldable pub finished : ℕ → List Node → List Node
 finished c row = map (λ x. cond (eqb (x .cell) c) (paid x) x) row
 
 -- the state with another row
-abbrev pub withRow : State → List Entry → State
+abbrev pub withRow : State → List Node → State
 withRow s row = record { settings = s .settings; row = row; free = s .free; position = s .position }
 
 -- "number of links moved (high minus low, or 0 if nothing was owed)"
-unfoldable pub due : State → Option Place → ℕ
-due s none = 0
-due s (some x) = high (s .settings .base) (s .settings .dimensions) x - low x
+unfoldable pub linksMoved : State → Option Place → ℕ
+linksMoved s none = 0
+linksMoved s (some x) = high (s .settings .base) (s .settings .dimensions) x - low x
 
-unfoldable pub finishAt : List ℕ → State → ℕ → Option Entry → Outcome
+unfoldable pub finishAt : List ℕ → State → ℕ → Option Node → Outcome
 finishAt ws s key none = refused (keyNotStanding key) ws
 finishAt ws s key (some x) =
     cond (owesFromFree ws (x .cell)) (refused owedNotStanding ws)
-    (accepted key 0 (due s (placeOf (x .cell) (placesOf s (s .row)))) (picture (withRow s (finished (x .cell) (s .row)))))
+    (accepted key 0 (linksMoved s (placeOf (x .cell) (placesOf s (s .row)))) (picture (withRow s (finished (x .cell) (s .row)))))
 
 -- "Finish: key, 0, number of links moved. The key may be dead."
 unfoldable pub finishOut : List ℕ → ℕ → Outcome
-finishOut ws key = onList ws (λ s. onKey ws s key (finishAt ws s key (entryAt key (s .row))))
+finishOut ws key = onList ws (λ s. onKey ws s key (finishAt ws s key (nodeAt key (s .row))))
 
 -- Find.
 
-unfoldable pub findAt : List ℕ → State → ℕ → Option Entry → Outcome
+unfoldable pub findAt : List ℕ → State → ℕ → Option Node → Outcome
 findAt ws s key none = refused (keyNotLive key (looked s key)) ws
 findAt ws s key (some x) = cond (x .live) (accepted key (x .value) (looked s key) ws) (refused (keyNotLive key (looked s key)) ws)
 
 -- "Find: key, value, looked; writes nothing."
 unfoldable pub findOut : List ℕ → ℕ → Outcome
-findOut ws key = onList ws (λ s. onKey ws s key (findAt ws s key (entryAt key (s .row))))
+findOut ws key = onList ws (λ s. onKey ws s key (findAt ws s key (nodeAt key (s .row))))
 
 -- Insert.
 
 -- the first of some places whose settled link d leads to cell c: the parent of c, if d is c's dimension
 unfoldable pub leadsTo : ℕ → ℕ → ℕ → ℕ → List Place → ℕ
 leadsTo b D d c [] = 0
-leadsTo b D d c (x ∷ standing) = cond (eqb (settledLink b D x d) c) (x .entry .cell) (leadsTo b D d c standing)
+leadsTo b D d c (x ∷ standing) = cond (eqb (settledLink b D x d) c) (x .node .cell) (leadsTo b D d c standing)
 
 -- the dimension of cell c
 unfoldable pub dimensionAt : Option Place → ℕ
@@ -107,24 +104,24 @@ settledLinkAt b D d none = 0
 settledLinkAt b D d (some x) = settledLink b D x d
 
 -- "the parent of that cell in the settled shape" of some standing cells
-unfoldable pub parentIn : State → ℕ → List Entry → ℕ
+unfoldable pub parentIn : State → ℕ → List Node → ℕ
 parentIn s c row =
     let standing = placesOf s row in
     leadsTo (s .settings .base) (s .settings .dimensions) (dimensionAt (placeOf c standing)) c standing
 
 -- "If the key is at or below the position's, the position becomes the parent of that cell in the settled shape": cell c with this
 -- key, in the row after the call
-unfoldable pub positionAfter : State → ℕ → ℕ → List Entry → ℕ
+unfoldable pub positionAfter : State → ℕ → ℕ → List Node → ℕ
 positionAfter s key c row = cond (leb key (positionKey s)) (parentIn s c row) (s .position)
 
--- an entry with a new value and mark 1
-abbrev pub revivedEntry : ℕ → Entry → Entry
-revivedEntry value x = record { cell = x .cell; key = x .key; value = value; live = true; owes = x .owes }
+-- a node with a new value and mark 1
+abbrev pub revivedNode : ℕ → Node → Node
+revivedNode value x = record { cell = x .cell; key = x .key; value = value; live = true; owes = x .owes }
 
 -- "A standing dead key gets the new value and mark 1, with no link changed and nothing finished."
-unfoldable pub revived : State → Entry → ℕ → State
+unfoldable pub revived : State → Node → ℕ → State
 revived s x value =
-    let row = map (λ y. cond (eqb (y .cell) (x .cell)) (revivedEntry value y) y) (s .row) in
+    let row = map (λ y. cond (eqb (y .cell) (x .cell)) (revivedNode value y) y) (s .row) in
     record { settings = s .settings; row = row; free = s .free; position = positionAfter s (x .key) (x .cell) row }
 
 -- A key that does not stand gets "a new cell n in the first free cell, as link p of its parent in the new settled shape. If a cell c
@@ -137,15 +134,15 @@ pub record Slot : Type 0 where
   pub c : ℕ
   pub q : ℕ
 
-abbrev pub newEntry : ℕ → ℕ → ℕ → Bool → Entry
-newEntry n key value owes = record { cell = n; key = key; value = value; live = true; owes = owes }
+abbrev pub newNode : ℕ → ℕ → ℕ → Bool → Node
+newNode n key value owes = record { cell = n; key = key; value = value; live = true; owes = owes }
 
 unfoldable pub slotFor : State → ℕ → Slot
 slotFor s key =
     let b = s .settings .base in
     let D = s .settings .dimensions in
     let n = firstNumber (s .free) in
-    let row = put (newEntry n key 0 false) (s .row) in
+    let row = put (newNode n key 0 false) (s .row) in
     let p = dimensionAt (placeOf n (placesOf s row)) in
     let parent = parentIn s n row in
     let c = settledLinkAt b D p (placeOf parent (placesOf s (s .row))) in
@@ -158,7 +155,7 @@ slotOwes t = not (eqb (t .c) 0) && ltb (t .p) (t .q)
 -- "Before it writes its links, an insert finishes what the parent owes, then what c owes, and nothing else."
 unfoldable pub added : State → ℕ → ℕ → Slot → State
 added s key value t =
-    let row = put (newEntry (t .n) key value (slotOwes t)) (finished (t .c) (finished (t .parent) (s .row))) in
+    let row = put (newNode (t .n) key value (slotOwes t)) (finished (t .c) (finished (t .parent) (s .row))) in
     record { settings = s .settings; row = row; free = drop 1 (s .free); position = positionAfter s key (t .n) row }
 
 unfoldable pub insertNew : List ℕ → State → ℕ → ℕ → Outcome
@@ -168,44 +165,44 @@ insertNew ws s key value =
     (cond (owesFromFree ws (t .parent) || owesFromFree ws (t .c)) (refused owedNotStanding ws)
     (accepted key 0 (looked s key) (picture (added s key value t))))
 
-unfoldable pub insertAt : List ℕ → State → ℕ → ℕ → Option Entry → Outcome
+unfoldable pub insertAt : List ℕ → State → ℕ → ℕ → Option Node → Outcome
 insertAt ws s key value none = insertNew ws s key value
 insertAt ws s key value (some x) =
     cond (x .live) (refused (keyLive key (looked s key)) ws) (accepted key 0 (looked s key) (picture (revived s x value)))
 
 -- "Insert: key asked, 0, looked."
 unfoldable pub insertOut : List ℕ → ℕ → ℕ → Outcome
-insertOut ws key value = onList ws (λ s. onKey ws s key (insertAt ws s key value (entryAt key (s .row))))
+insertOut ws key value = onList ws (λ s. onKey ws s key (insertAt ws s key value (nodeAt key (s .row))))
 
 -- Take.
 
--- the entries before the first live one, and those from it on
-unfoldable pub deadFront : List Entry → List Entry
+-- the nodes before the first live one, and those from it on
+unfoldable pub deadFront : List Node → List Node
 deadFront [] = []
 deadFront (x ∷ row) = cond (x .live) [] (x ∷ deadFront row)
 
-unfoldable pub fromLive : List Entry → List Entry
+unfoldable pub fromLive : List Node → List Node
 fromLive [] = []
 fromLive (x ∷ row) = cond (x .live) (x ∷ row) (fromLive row)
 
--- an entry that is taken: dead, its value 0
-abbrev pub deadEntry : Entry → Entry
-deadEntry x = record { cell = x .cell; key = x .key; value = 0; live = false; owes = x .owes }
+-- a node that is taken: dead, its value 0
+abbrev pub deadNode : Node → Node
+deadNode x = record { cell = x .cell; key = x .key; value = 0; live = false; owes = x .owes }
 
 -- "standing keys above the position"
-unfoldable pub keysAbove : ℕ → List Entry → ℕ
+unfoldable pub keysAbove : ℕ → List Node → ℕ
 keysAbove position row = length (those (λ x. ltb position (x .key)) row)
 
 -- "how many standing keys lie above the old position and up to the taken one"
-unfoldable pub keysPassed : ℕ → ℕ → List Entry → ℕ
+unfoldable pub keysPassed : ℕ → ℕ → List Node → ℕ
 keysPassed position key row = length (those (λ x. ltb position (x .key) && leb (x .key) key) row)
 
 -- "It becomes dead and the position. Links are untouched."
-unfoldable pub taken : State → Entry → State
+unfoldable pub taken : State → Node → State
 taken s x =
-    record { settings = s .settings; row = map (λ y. cond (eqb (y .cell) (x .cell)) (deadEntry y) y) (s .row); free = s .free; position = x .cell }
+    record { settings = s .settings; row = map (λ y. cond (eqb (y .cell) (x .cell)) (deadNode y) y) (s .row); free = s .free; position = x .cell }
 
-unfoldable pub takeFrom : List ℕ → State → List Entry → Outcome
+unfoldable pub takeFrom : List ℕ → State → List Node → Outcome
 takeFrom ws s [] = refused (nothingLive (keysAbove (positionKey s) (s .row))) ws
 takeFrom ws s (x ∷ later) = accepted (x .key) (x .value) (keysPassed (positionKey s) (x .key) (s .row)) (picture (taken s x))
 
@@ -215,21 +212,21 @@ takeOut ws = onList ws (λ s. takeFrom ws s (fromLive (s .row)))
 
 -- Sweep.
 
--- the last of some entries; the head if there is none
-unfoldable pub lastOf : List Entry → Entry
-lastOf [] = headEntry
+-- the last of some nodes; the head if there is none
+unfoldable pub lastOf : List Node → Node
+lastOf [] = headNode
 lastOf (x ∷ []) = x
 lastOf (x ∷ y ∷ row) = lastOf (y ∷ row)
 
--- the entries from the last one on, as a list: none if there is none
-unfoldable pub lastAlone : List Entry → List Entry
+-- the nodes from the last one on, as a list: none if there is none
+unfoldable pub lastAlone : List Node → List Node
 lastAlone [] = []
 lastAlone (x ∷ []) = x ∷ []
 lastAlone (x ∷ y ∷ row) = lastAlone (y ∷ row)
 
 -- "moves the position to the greatest dead cell below every live key (of all, if none is live; the head, if there is no other), frees
 -- every cell strictly between head and position in key order, each put at the front of the free chain"
-unfoldable pub freedBy : List Entry → List Entry
+unfoldable pub freedBy : List Node → List Node
 freedBy row = dropLast (deadFront row)
 
 -- "finishes all that is owed .. and leaves the settled shape of the rest"
@@ -243,7 +240,7 @@ swept s =
     }
 
 -- "9: insert, finish, sweep", of a sweep: every cell's debt
-unfoldable pub someOwesFromFree : List ℕ → List Entry → Bool
+unfoldable pub someOwesFromFree : List ℕ → List Node → Bool
 someOwesFromFree ws [] = false
 someOwesFromFree ws (x ∷ row) = owesFromFree ws (x .cell) || someOwesFromFree ws row
 

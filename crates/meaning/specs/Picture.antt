@@ -2,31 +2,24 @@
 use mathlib.Core.Bool.{Bool, cond}
 use mathlib.Core.List.{List, [], _∷_, _++_, map, flatMap}
 use mathlib.Core.Option.{Option, none, some}
-use Prim.Native.Nat.{ℕ, zero, suc, _+_, _*_}
+use Prim.Native.Nat.{ℕ, suc, _+_, _*_}
 use lib.Dec.{eqb, ltb}
 use lib.ListN.{replicate}
+use Rattle.lists.specs.Lists.{numbersFrom, firstNumber}
 use Rattle.meaning.specs.Keys.{coordinates, shared}
-use Rattle.meaning.specs.Row.{Entry, headEntry, Place, places, placeOf, owed, low, high, link}
+use Rattle.meaning.specs.Row.{Node, headNode, Place, places, placeOf, owed, low, high, link}
 use Rattle.meaning.specs.State.{State, positionKey}
-
--- n numbers from i on
-unfoldable pub numbersFrom : ℕ → ℕ → List ℕ
-numbersFrom i zero = []
-numbersFrom i (suc n) = i ∷ numbersFrom (suc i) n
-
-abbrev pub firstNumber : List ℕ → ℕ
-firstNumber [] = 0
-firstNumber (c ∷ cs) = c
+use Rattle.meaning.specs.Words.{liveMark, deadMark}
 
 -- "Mark: 0 free, 1 live, 2 dead."
 abbrev pub mark : Bool → ℕ
-mark live = cond live 1 2
+mark live = cond live liveMark deadMark
 
 -- "key, value, mark, owed cell, low, high, D coordinates, D links"
 unfoldable pub standingWords : ℕ → ℕ → Place → List ℕ
 standingWords b D x =
-    x .entry .key ∷ x .entry .value ∷ mark (x .entry .live) ∷ owed x ∷ low x ∷ high b D x
-    ∷ (coordinates b D (x .entry .key) ++ map (link b D x) (numbersFrom 0 D))
+    x .node .key ∷ x .node .value ∷ mark (x .node .live) ∷ owed x ∷ low x ∷ high b D x
+    ∷ (coordinates b D (x .node .key) ++ map (link b D x) (numbersFrom 0 D))
 
 -- the cell that follows c in the chain, or 0
 unfoldable pub nextFree : ℕ → List ℕ → ℕ
@@ -42,22 +35,22 @@ unfoldable pub wordsOf : ℕ → ℕ → List ℕ → ℕ → Option Place → L
 wordsOf b D free c none = freeWords D (nextFree c free)
 wordsOf b D free c (some x) = standingWords b D x
 
--- the first of some entries that shares at least n coordinates with a key; 0 if there is none
-unfoldable pub firstWith : ℕ → ℕ → ℕ → ℕ → List Entry → ℕ
+-- the first of some nodes that shares at least n coordinates with a key; 0 if there is none
+unfoldable pub firstWith : ℕ → ℕ → ℕ → ℕ → List Node → ℕ
 firstWith b D key n [] = 0
 firstWith b D key n (x ∷ later) = cond (ltb (shared b D (x .key) key) n) (firstWith b D key n later) (x .cell)
 
 -- "Path word d is the least-key standing cell sharing the first d+1 coordinates with the position."
 abbrev pub pathWord : State → ℕ → ℕ
-pathWord s d = firstWith (s .settings .base) (s .settings .dimensions) (positionKey s) (suc d) (headEntry ∷ s .row)
+pathWord s d = firstWith (s .settings .base) (s .settings .dimensions) (positionKey s) (suc d) (headNode ∷ s .row)
 
 -- "Then D words of path."
 unfoldable pub path : State → List ℕ
 path s = map (pathWord s) (numbersFrom 0 (s .settings .dimensions))
 
 -- "Then C cells of 6+2D words"
-unfoldable pub cells : State → List ℕ
-cells s =
+unfoldable pub cellPictures : State → List ℕ
+cellPictures s =
     let b = s .settings .base in
     let D = s .settings .dimensions in
     let standing = places b D (s .row) in
@@ -67,4 +60,4 @@ cells s =
 unfoldable pub picture : State → List ℕ
 picture s =
     s .settings .dimensions ∷ s .settings .largest ∷ s .settings .cells ∷ s .settings .base ∷ firstNumber (s .free)
-    ∷ (path s ++ cells s)
+    ∷ (path s ++ cellPictures s)

@@ -8,21 +8,20 @@ use mathlib.Core.Option.{none, some}
 use Prim.Native.Nat.{ℕ, zero, suc, _+_, _*_, _-_, _≤_, _<_}
 use lib.Dec.{eqb}
 use lib.ListN.{length, drop}
+use Rattle.lists.specs.Lists.{occurrences, firstNumber, agreed, precedes}
 use Rattle.meaning.specs.declared.Answer.{Answer}
 use Rattle.meaning.specs.Keys.{coordinates, shared}
-use Rattle.meaning.specs.State.{occurrences}
-use Rattle.meaning.specs.Row.{Entry, entryAt}
-use Rattle.meaning.specs.Picture.{firstNumber}
+use Rattle.meaning.specs.Row.{Node, nodeAt}
 use Rattle.meaning.specs.Reading.{read, isList}
 use Rattle.meaning.specs.Refusals.{Outcome, Meets}
 use Rattle.meaning.specs.Rule.{rule}
-use Rattle.meaning.specs.Words.{keyAt, markAt, owedAt, lowAt, highAt}
+use Rattle.meaning.specs.Words.{keyAt, markAt, owedAt, lowAt, highAt, dimensionsAt, largestAt, cellsAt, baseAt, liveMark}
 use Rattle.meaning.specs.Walk.{walk, walkFrom, ends}
 use Rattle.meaning.specs.Operations.{takeOut, freedBy, slotFor}
-use Rattle.meaning.specs.SweepStores.{sweepWords}
-use Rattle.meaning.specs.Leaves.{OwesNothing, OwesSame, Finished, Inserted, Taken, Revived, Swept}
+use Rattle.meaning.specs.Layer.SweepStores.{sweepWords}
+use Rattle.meaning.specs.Writes.{OwesNothing, OwesSame, Finished, Inserted, Taken, Revived, Swept}
 use Rattle.meaning.specs.Calls.{Call, set-up, insert-key, find-key, finish-key, take-least, sweep-dead, outcome, afterCalls}
-use Rattle.meaning.specs.Sentences.{agreed, precedes, dimensionsAt, largestAt, countAt, baseAt, Standing, AList}
+use Rattle.meaning.specs.Sentences.{Standing, AList}
 use Rattle.meaning.specs.Book.{Pair, livePairs, standingKeys, bookOf, bookedAll}
 
 -- a buffer after an accepted set up and any calls since
@@ -38,8 +37,8 @@ pub record FromFresh (ws : List ℕ) : Type 0 where
 -- key is live, on the words
 pub record Live (ws : List ℕ) (key : ℕ) : Type 0 where
   pub cell : ℕ
-  pub within : cell < countAt ws
-  pub mark : markAt ws cell ≡ 1
+  pub within : cell < cellsAt ws
+  pub mark : markAt ws cell ≡ liveMark
   pub same : keyAt ws cell ≡ key
 
 -- 1. Lists stay lists: after any sequence of calls from a fresh list, set up and refused calls among them, the buffer is a list.
@@ -118,7 +117,7 @@ PresentMeansThatKey =
     → ((outcome (insert-key key value) ws .answered .refusal ≡ 5) ↔ Live ws key)
     × ((outcome (find-key key) ws .answered .refusal ≡ 0) ↔ Live ws key)
 
--- 7. Each entry once, in its turn: taking until 7 hands out exactly the live pairs, ascending.
+-- 7. Each node once, in its turn: taking until 7 hands out exactly the live pairs, ascending.
 unfoldable pub takes : ℕ → List ℕ → List Pair
 takes zero ws = []
 takes (suc n) ws =
@@ -153,13 +152,13 @@ TakeWrites =
 -- position's.
 abbrev pub ReviveWrites : Type 0
 ReviveWrites =
-    (ws : List ℕ) → isList ws ≡ true → (key value : ℕ) → (entryAt key (read ws .row) ≡ none → ⊥)
+    (ws : List ℕ) → isList ws ≡ true → (key value : ℕ) → (nodeAt key (read ws .row) ≡ none → ⊥)
     → outcome (insert-key key value) ws .answered .refusal ≡ 0 → Revived ws (outcome (insert-key key value) ws .words) key value
 
 -- An insert of a key that does not stand: the parent, p, c, q and the links moved; every other word of a cell as before.
 abbrev pub InsertWrites : Type 0
 InsertWrites =
-    (ws : List ℕ) → isList ws ≡ true → (key value : ℕ) → entryAt key (read ws .row) ≡ none
+    (ws : List ℕ) → isList ws ≡ true → (key value : ℕ) → nodeAt key (read ws .row) ≡ none
     → outcome (insert-key key value) ws .answered .refusal ≡ 0 → Inserted ws (outcome (insert-key key value) ws .words) key value (slotFor (read ws) key)
 
 -- A finish of a key that stands: its cell's debt is finished and no other.
@@ -188,7 +187,7 @@ SweepWrites =
 -- 10. A cell freed by a sweep serves again: each cell but the head stands or is free, exactly one of the two, in every list;
 abbrev pub EachCellOnce : Type 0
 EachCellOnce =
-    (ws : List ℕ) → isList ws ≡ true → (x : ℕ) → 0 < x → x < countAt ws
+    (ws : List ℕ) → isList ws ≡ true → (x : ℕ) → 0 < x → x < cellsAt ws
     → occurrences x (map (λ e. e .cell) (read ws .row)) + occurrences x (read ws .free) ≡ 1
 
 -- .. after a sweep the freed cells are at the front of the chain, greatest key first;
@@ -199,14 +198,14 @@ SweptCellsFirst =
 
 -- .. and an insert of a key that does not stand uses the first cell of the chain.
 pub record UsesFirst (ws after : List ℕ) (key : ℕ) : Type 0 where
-  pub entry : Entry
-  pub stands : entryAt key (read after .row) ≡ some entry
-  pub cell : entry .cell ≡ firstNumber (read ws .free)
+  pub node : Node
+  pub stands : nodeAt key (read after .row) ≡ some node
+  pub cell : node .cell ≡ firstNumber (read ws .free)
   pub free : read after .free ≡ drop 1 (read ws .free)
 
 abbrev pub InsertUsesFirst : Type 0
 InsertUsesFirst =
-    (ws : List ℕ) → isList ws ≡ true → (key value : ℕ) → entryAt key (read ws .row) ≡ none
+    (ws : List ℕ) → isList ws ≡ true → (key value : ℕ) → nodeAt key (read ws .row) ≡ none
     → outcome (insert-key key value) ws .answered .refusal ≡ 0 → UsesFirst ws (outcome (insert-key key value) ws .words) key
 
 -- 11. Key order is the lexicographic order of the coordinates; a key's coordinates determine it.

@@ -3,8 +3,8 @@ use mathlib.Core.Bool.{cond, _&&_, not}
 use mathlib.Core.List.{List, [], _∷_, _++_}
 use Prim.Native.Nat.{ℕ}
 use lib.Dec.{eqb, leb, ltb}
+use Rattle.lists.specs.Lists.{every}
 use Rattle.meaning.specs.Keys.{coordinate, shared}
-use Rattle.meaning.specs.Row.{every}
 
 -- "the number of standing cells other than the head, of dimension e, that share their first e coordinates with k and are at most k
 -- at coordinate e": their keys. The keys ascend, and `before` is the one before them (the head's, 0, before the first).
@@ -23,7 +23,7 @@ leastAbove k (x ∷ keys) = cond (ltb k x) (x ∷ []) (leastAbove k keys)
 -- not yet counted"
 unfoldable pub plusOne : ℕ → ℕ → ℕ → List ℕ → List ℕ → List ℕ
 plusOne b D k keys [] = []
-plusOne b D k keys (y ∷ none) =
+plusOne b D k keys (y ∷ others) =
     cond (every (λ z. leb (shared b D z k) (shared b D y k)) (0 ∷ keys) && every (λ x. not (eqb x y)) (counted b D k 0 keys)) (y ∷ []) []
 
 -- the keys that looked counts, of the standing keys in ascending order

@@ -1,42 +1,16 @@
 -- Document 01's own sentences, each as a condition on the words of a buffer. The theorems tie the other definitions to them: a buffer
 -- is a list, by specs/Reading.antt, if and only if every one of these holds.
 use mathlib.Core.Path.{_≡_}
-use mathlib.Core.Bool.{Bool, false, cond, _&&_, _||_}
+use mathlib.Core.Bool.{_&&_, _||_}
 use mathlib.Core.List.{List, [], _∷_}
 use mathlib.Core.Logic.{_⊎_}
 use Prim.Native.Nat.{ℕ, suc, _+_, _-_, _≤_, _<_}
-use lib.Dec.{eqb, ltb}
-use lib.ListN.{length, getD}
-use Rattle.settings.specs.Numbers.{leastDimensions, mostDimensions, leastLargest, mostLargest, leastCells, mostCells, headerWords, cellWords, lengthOf}
+use lib.ListN.{length}
+use Rattle.settings.specs.Numbers.{leastDimensions, mostDimensions, leastLargest, mostLargest, leastCells, mostCells, cellWords, lengthOf}
 use Rattle.settings.specs.Base.{IsBase}
+use Rattle.lists.specs.Lists.{occurrences, agreed}
 use Rattle.meaning.specs.Keys.{coordinates, coordinate}
-use Rattle.meaning.specs.State.{occurrences}
-use Rattle.meaning.specs.Words.{wordAt, keyAt, valueAt, markAt, owedAt, lowAt, highAt, coordinateAt, linkAt}
-
--- how many leading members of two lists are equal
-unfoldable pub agreed : List ℕ → List ℕ → ℕ
-agreed [] ys = 0
-agreed (x ∷ xs) [] = 0
-agreed (x ∷ xs) (y ∷ ys) = cond (eqb x y) (suc (agreed xs ys)) 0
-
--- lexicographic order of two lists of one length
-unfoldable pub precedes : List ℕ → List ℕ → Bool
-precedes [] ys = false
-precedes (x ∷ xs) [] = false
-precedes (x ∷ xs) (y ∷ ys) = ltb x y || (eqb x y && precedes xs ys)
-
--- D, K, C and b as the words have them
-abbrev pub dimensionsAt : List ℕ → ℕ
-dimensionsAt ws = getD ws 0 0
-
-abbrev pub largestAt : List ℕ → ℕ
-largestAt ws = getD ws 1 0
-
-abbrev pub countAt : List ℕ → ℕ
-countAt ws = getD ws 2 0
-
-abbrev pub baseAt : List ℕ → ℕ
-baseAt ws = getD ws 3 0
+use Rattle.meaning.specs.Words.{wordAt, keyAt, valueAt, markAt, owedAt, lowAt, highAt, coordinateAt, linkAt, dimensionsAt, largestAt, cellsAt, baseAt, positionAt, firstFreeAt, freeMark, liveMark, deadMark, pathAt}
 
 -- coordinate d of a cell, and the leading coordinates that two cells share
 abbrev pub digitAt : List ℕ → ℕ → ℕ → ℕ
@@ -48,13 +22,13 @@ sharedAt ws x y =
 
 -- "Mark: 0 free, 1 live, 2 dead."
 pub record Free (ws : List ℕ) (x : ℕ) : Type 0 where
-  pub cell : x < countAt ws
-  pub mark : markAt ws x ≡ 0
+  pub cell : x < cellsAt ws
+  pub mark : markAt ws x ≡ freeMark
 
 -- "A cell is standing if live or dead."
 pub record Standing (ws : List ℕ) (x : ℕ) : Type 0 where
-  pub cell : x < countAt ws
-  pub mark : (markAt ws x ≡ 1) ⊎ (markAt ws x ≡ 2)
+  pub cell : x < cellsAt ws
+  pub mark : (markAt ws x ≡ liveMark) ⊎ (markAt ws x ≡ deadMark)
 
 -- the standing cell of next smaller key than x
 pub record NextSmaller (ws : List ℕ) (x a : ℕ) : Type 0 where
@@ -90,12 +64,12 @@ pub data Settled (ws : List ℕ) (x d : ℕ) : ℕ → Type 0 where
 -- "the chain from word 4": cells cs one after the other from c on, each named by the first word of the one before; "and ends in 0"
 pub data Chained (ws : List ℕ) : ℕ → List ℕ → Type 0 where
   ended : Chained ws 0 []
-  onward : {c : ℕ} {cs : List ℕ} → 0 < c → Chained ws (wordAt ws c 0) cs → Chained ws c (c ∷ cs)
+  chained-on : {c : ℕ} {cs : List ℕ} → 0 < c → Chained ws (wordAt ws c 0) cs → Chained ws c (c ∷ cs)
 
 -- "The chain from word 4 meets every free cell once, no other cell, and ends in 0."
 pub record FreeChain (ws : List ℕ) : Type 0 where
   pub chain : List ℕ
-  pub chained : Chained ws (getD ws 4 0) chain
+  pub chained : Chained ws (firstFreeAt ws) chain
   pub once : (x : ℕ) → Free ws x → occurrences x chain ≡ 1
   pub no-other : (x : ℕ) → 0 < occurrences x chain → Free ws x
 
@@ -119,10 +93,6 @@ pub record MayOwe (ws : List ℕ) (n : ℕ) : Type 0 where
   pub own-links : (d : ℕ) → lowAt ws n ≤ d → d < highAt ws n → linkAt ws n d ≡ 0
   pub owed-links : (d : ℕ) → lowAt ws n ≤ d → d < highAt ws n → Settled ws n d (linkAt ws (owedAt ws n) d)
 
--- "The position is the last cell of the path."
-abbrev pub positionAt : List ℕ → ℕ
-positionAt ws = getD ws (headerWords + dimensionsAt ws - 1) 0
-
 -- a standing cell sharing the first n coordinates with x
 pub record Sharing (ws : List ℕ) (x n y : ℕ) : Type 0 where
   pub standing : Standing ws y
@@ -130,27 +100,27 @@ pub record Sharing (ws : List ℕ) (x n y : ℕ) : Type 0 where
 
 -- "Path word d is the least-key standing cell sharing the first d+1 coordinates with the position."
 pub record OnPath (ws : List ℕ) (d : ℕ) : Type 0 where
-  pub sharing : Sharing ws (positionAt ws) (suc d) (getD ws (headerWords + d) 0)
-  pub least : (y : ℕ) → Sharing ws (positionAt ws) (suc d) y → keyAt ws (getD ws (headerWords + d) 0) ≤ keyAt ws y
+  pub sharing : Sharing ws (positionAt ws) (suc d) (pathAt ws d)
+  pub least : (y : ℕ) → Sharing ws (positionAt ws) (suc d) y → keyAt ws (pathAt ws d) ≤ keyAt ws y
 
 -- All that "Numbers", "The words" and "How cells hang together" say of a buffer between calls, a field a sentence.
 pub record AList (ws : List ℕ) : Type 0 where
   -- "Dimensions D: 2 to 16. Largest key K: 1 to 4,294,967,295. Cells C: 3 to 4,096, the head included."
   pub dimensions : (leastDimensions ≤ dimensionsAt ws) × (dimensionsAt ws ≤ mostDimensions)
   pub largest : (leastLargest ≤ largestAt ws) × (largestAt ws ≤ mostLargest)
-  pub count : (leastCells ≤ countAt ws) × (countAt ws ≤ mostCells)
+  pub count : (leastCells ≤ cellsAt ws) × (cellsAt ws ≤ mostCells)
   -- "Keys: 1 to K; key 0 is the head's."
   pub keys : (x : ℕ) → Standing ws x → 0 < x → (0 < keyAt ws x) × (keyAt ws x ≤ largestAt ws)
   -- "Base b: the least whole number with b to the power D above K."
   pub base : IsBase (dimensionsAt ws) (largestAt ws) (baseAt ws)
   -- "Length is exactly 5 + D + C(6+2D)."
-  pub long : length ws ≡ lengthOf (dimensionsAt ws) (countAt ws)
+  pub long : length ws ≡ lengthOf (dimensionsAt ws) (cellsAt ws)
   -- "Mark: 0 free, 1 live, 2 dead."
-  pub marks : (x : ℕ) → x < countAt ws → markAt ws x ≤ 2
+  pub marks : (x : ℕ) → x < cellsAt ws → markAt ws x ≤ deadMark
   -- "Cell 0 is the head: key 0, value 0, dead."
-  pub head : (keyAt ws 0 ≡ 0) × ((valueAt ws 0 ≡ 0) × (markAt ws 0 ≡ 2))
+  pub head : (keyAt ws 0 ≡ 0) × ((valueAt ws 0 ≡ 0) × (markAt ws 0 ≡ deadMark))
   -- "A dead cell's value is 0."
-  pub dead-value : (x : ℕ) → x < countAt ws → markAt ws x ≡ 2 → valueAt ws x ≡ 0
+  pub dead-value : (x : ℕ) → x < cellsAt ws → markAt ws x ≡ deadMark → valueAt ws x ≡ 0
   -- "A free cell's first word holds the next free cell, its other words are 0."
   pub free-words : (x j : ℕ) → Free ws x → 0 < j → j < cellWords (dimensionsAt ws) → wordAt ws x j ≡ 0
   -- "The chain from word 4 meets every free cell once, no other cell, and ends in 0."
@@ -169,4 +139,4 @@ pub record AList (ws : List ℕ) : Type 0 where
   pub position : Standing ws (positionAt ws)
   pub path : (d : ℕ) → d < dimensionsAt ws → OnPath ws d
   -- "All standing cells with keys up to the position's are dead."
-  pub passed-dead : (x : ℕ) → Standing ws x → keyAt ws x ≤ keyAt ws (positionAt ws) → markAt ws x ≡ 2
+  pub passed-dead : (x : ℕ) → Standing ws x → keyAt ws x ≤ keyAt ws (positionAt ws) → markAt ws x ≡ deadMark

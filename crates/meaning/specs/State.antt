@@ -1,40 +1,40 @@
 -- What a list holds, apart from what follows from it, and when that is in order.
 use mathlib.Core.Bool.{Bool, true, cond, _&&_, _||_, not}
 use mathlib.Core.List.{List, [], _∷_, _++_, map}
-use Prim.Native.Nat.{ℕ, suc, _-_}
+use Prim.Native.Nat.{ℕ, _-_}
 use lib.Dec.{eqb, leb, ltb}
 use lib.ListN.{length}
 use Rattle.settings.specs.Numbers.{inRange, baseOf}
 use Rattle.settings.specs.declared.Settings.{Settings}
+use Rattle.lists.specs.Lists.{every, occurrences}
 use Rattle.meaning.specs.Keys.{shared}
-use Rattle.meaning.specs.Row.{Entry, headEntry, firstOf, Place, places, every}
+use Rattle.meaning.specs.Row.{Node, headNode, firstOf, Place, places}
 
 -- The settings; the standing cells other than the head, ascending by key; the free cells in the order of their chain; the cell that
 -- is the position. Links, dimensions, debts' words, coordinates and path follow from these.
 pub record State : Type 0 where
   pub settings : Settings
-  pub row : List Entry
+  pub row : List Node
   pub free : List ℕ
   pub position : ℕ
 
+-- the standing cells of a row with their places
+abbrev pub placesOf : State → List Node → List Place
+placesOf s row = places (s .settings .base) (s .settings .dimensions) row
+
 -- the key of the standing cell with number c
-unfoldable pub keyOf : ℕ → List Entry → ℕ
+unfoldable pub keyOf : ℕ → List Node → ℕ
 keyOf c [] = 0
 keyOf c (x ∷ row) = cond (eqb (x .cell) c) (x .key) (keyOf c row)
 
 -- the position's key
 abbrev pub positionKey : State → ℕ
-positionKey s = keyOf (s .position) (headEntry ∷ s .row)
+positionKey s = keyOf (s .position) (headNode ∷ s .row)
 
 -- keys above a key, each above the one before: "no two standing cells have the same key"
-unfoldable pub ascending : ℕ → List Entry → Bool
+unfoldable pub ascending : ℕ → List Node → Bool
 ascending key [] = true
 ascending key (x ∷ row) = ltb key (x .key) && ascending (x .key) row
-
--- how often a number occurs
-unfoldable pub occurrences : ℕ → List ℕ → ℕ
-occurrences c [] = 0
-occurrences c (x ∷ xs) = cond (eqb x c) (suc (occurrences c xs)) (occurrences c xs)
 
 -- "Dimensions D: 2 to 16. Largest key K: 1 to 4,294,967,295. Cells C: 3 to 4,096 .. Base b: the least whole number with b to the
 -- power D above K."
@@ -63,13 +63,13 @@ valuesHold s = every (λ x. x .live || eqb (x .value) 0) (s .row)
 -- "its owed cell c is the standing cell of next larger key, c owes nothing, .. and low < high."
 unfoldable pub debtHolds : ℕ → ℕ → Place → Bool
 debtHolds b D n =
-    not (n .entry .owes)
+    not (n .node .owes)
     || (ltb 0 (length (n .later))
     && not (firstOf (n .later) .owes)
-    && ltb (n .dimension) (shared b D (n .entry .key) (firstOf (n .later) .key)))
+    && ltb (n .dimension) (shared b D (n .node .key) (firstOf (n .later) .key)))
 
 abbrev pub debtsHold : State → Bool
-debtsHold s = every (debtHolds (s .settings .base) (s .settings .dimensions)) (places (s .settings .base) (s .settings .dimensions) (s .row))
+debtsHold s = every (debtHolds (s .settings .base) (s .settings .dimensions)) (placesOf s (s .row))
 
 -- The position is the head or another standing cell. "All standing cells with keys up to the position's are dead."
 abbrev pub positionHolds : State → Bool

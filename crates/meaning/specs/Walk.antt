@@ -3,11 +3,9 @@ use mathlib.Core.Bool.{Bool, true, false, cond, _&&_, not}
 use mathlib.Core.List.{List, [], _∷_}
 use Prim.Native.Nat.{ℕ, zero, suc, _*_}
 use lib.Dec.{eqb, ltb}
-use lib.ListN.{getD}
 use Rattle.meaning.specs.Keys.{coordinate}
 use Rattle.meaning.specs.Row.{between}
-use Rattle.meaning.specs.Words.{owedAt, lowAt, highAt, coordinateAt, linkAt}
-use Rattle.meaning.specs.declared.Rest.{Rest}
+use Rattle.meaning.specs.Words.{owedAt, lowAt, highAt, coordinateAt, linkAt, dimensionsAt, baseAt}
 use Rattle.meaning.specs.declared.Step.{Step}
 use Rattle.meaning.specs.declared.Step.the-variants.{Go, Up, End}
 
@@ -16,8 +14,8 @@ unfoldable pub linkRead : List ℕ → ℕ → ℕ → ℕ
 linkRead ws x d = linkAt ws (cond (not (eqb (owedAt ws x) 0) && between (lowAt ws x) (highAt ws x) d) (owedAt ws x) x) d
 
 -- where a link leads: "and ends if there is none"
-abbrev pub along : ℕ → Step
-along y = cond (eqb y 0) End (Go y)
+abbrev pub stepAlong : ℕ → Step
+stepAlong y = cond (eqb y 0) End (Go y)
 
 -- One step for k from cell x and coordinate d. "If the cell at hand is below k at that coordinate, the walk goes along the cell's
 -- link of that number, and ends if there is none. If it is equal, the coordinate goes up by one, and the walk ends at D. If it is
@@ -25,14 +23,14 @@ along y = cond (eqb y 0) End (Go y)
 unfoldable pub stepAt : List ℕ → ℕ → ℕ → ℕ → Step
 stepAt ws k x d =
     let own = coordinateAt ws x d in
-    let sought = coordinate (getD ws 3 0) (getD ws 0 0) k d in
-    cond (ltb own sought) (along (linkRead ws x d)) (cond (eqb own sought) (cond (eqb (suc d) (getD ws 0 0)) End Up) End)
+    let sought = coordinate (baseAt ws) (dimensionsAt ws) k d in
+    cond (ltb own sought) (stepAlong (linkRead ws x d)) (cond (eqb own sought) (cond (eqb (suc d) (dimensionsAt ws)) End Up) End)
 
--- what is gone to after a step from cell x and coordinate d, if the rest of the walk is `onward`
+-- what is gone to after a step from cell x and coordinate d, if the rest of the walk is `further`
 abbrev pub after : (ℕ → ℕ → List ℕ) → ℕ → ℕ → Step → List ℕ
-after onward x d (Go y) = y ∷ onward y d
-after onward x d Up = onward x (suc d)
-after onward x d End = []
+after further x d (Go y) = y ∷ further y d
+after further x d Up = further x (suc d)
+after further x d End = []
 
 -- the cells gone to for k from cell x and coordinate d, in at most `fuel` steps
 unfoldable pub walkFrom : ℕ → List ℕ → ℕ → ℕ → ℕ → List ℕ
@@ -41,9 +39,9 @@ walkFrom (suc fuel) ws k x d = after (walkFrom fuel ws k) x d (stepAt ws k x d)
 
 -- the walk from cell x and coordinate d says its end within `fuel` steps
 abbrev pub endsAfter : (ℕ → ℕ → Bool) → ℕ → ℕ → Step → Bool
-endsAfter onward x d (Go y) = onward y d
-endsAfter onward x d Up = onward x (suc d)
-endsAfter onward x d End = true
+endsAfter further x d (Go y) = further y d
+endsAfter further x d Up = further x (suc d)
+endsAfter further x d End = true
 
 unfoldable pub ends : ℕ → List ℕ → ℕ → ℕ → ℕ → Bool
 ends zero ws k x d = false
@@ -52,20 +50,4 @@ ends (suc fuel) ws k x d = endsAfter (ends fuel ws k) x d (stepAt ws k x d)
 -- "The walk for k starts at the head with coordinate 0." Each step but the last raises the coordinate, or at the same coordinate the
 -- cell's digit there, so D times b steps are enough on a list.
 unfoldable pub walk : List ℕ → ℕ → List ℕ
-walk ws k = walkFrom (getD ws 0 0 * getD ws 3 0) ws k 0 0
-
--- Where the walk rests after a step from cell x and coordinate d and n cells gone to, the last by link `number` of cell `from`, if
--- `onward` says so of the rest of the walk.
-abbrev pub restAfter : (ℕ → ℕ → ℕ → ℕ → ℕ → Rest) → ℕ → ℕ → ℕ → ℕ → ℕ → Step → Rest
-restAfter onward from number x d n (Go y) = onward x d y d (suc n)
-restAfter onward from number x d n Up = onward from number x (suc d) n
-restAfter onward from number x d n End = record { from = from; number = number; at = x; coordinate = d; looked = n }
-
--- the same, at the latest after `fuel` steps
-unfoldable pub restFrom : ℕ → List ℕ → ℕ → ℕ → ℕ → ℕ → ℕ → ℕ → Rest
-restFrom zero ws k from number x d n = record { from = from; number = number; at = x; coordinate = d; looked = n }
-restFrom (suc fuel) ws k from number x d n = restAfter (restFrom fuel ws k) from number x d n (stepAt ws k x d)
-
--- where the walk for k comes to rest
-unfoldable pub rest : List ℕ → ℕ → Rest
-rest ws k = restFrom (getD ws 0 0 * getD ws 3 0) ws k 0 0 0 0 0
+walk ws k = walkFrom (dimensionsAt ws * baseAt ws) ws k 0 0

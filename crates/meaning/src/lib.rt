@@ -12,6 +12,29 @@ pub struct Answer {
     pub count: u32,
 }
 
+// The numbers of the refusals: "Turned away". A definition of the same name says each one's answers (specs/Refusals.antt).
+pub const OUT_OF_RANGE: u32 = 1;
+
+pub const WRONG_LENGTH: u32 = 2;
+
+pub const NOT_A_LIST: u32 = 3;
+
+pub const BAD_KEY: u32 = 4;
+
+pub const KEY_LIVE: u32 = 5;
+
+pub const NO_FREE_CELL: u32 = 6;
+
+pub const NOTHING_LIVE: u32 = 7;
+
+pub const KEY_NOT_LIVE: u32 = 8;
+
+pub const KEY_NOT_STANDING: u32 = 8;
+
+pub const OWED_NOT_STANDING: u32 = 9;
+
+pub const LINE_NOT_READABLE: u32 = 10;
+
 // One step of the walk, from a cell and a coordinate: along the cell's link to a cell, up by one coordinate, or the walk's end.
 pub enum Step {
     Go(u32),

@@ -1,2 +1,2 @@
 -- Laws for the proofs of new_cell.
-pub mod Laws
+pub mod NewWords

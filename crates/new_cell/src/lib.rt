@@ -6,8 +6,8 @@ ghost use lib.ListN.{length};
 ghost use lib.Seq.{sets};
 ghost use Rattle.settings.specs.Numbers.{fieldsBeforeCoordinates};
 ghost use Rattle.meaning.specs.Keys.{coordinates};
-ghost use Rattle.meaning.specs.Words.{place};
-ghost use Rattle.meaning.specs.Stores.{linkField, newWords, newLinks};
+ghost use Rattle.meaning.specs.Words.{wordIndex, linkField};
+ghost use Rattle.meaning.specs.Layer.Stores.{newWords, newLinks};
 ghost use Rattle.words.specs.Shaped.{Shaped};
 ghost use Rattle.new_cell.specs.NewCell.{slotOf, Fits, fieldWords};
 use search::Found;
@@ -18,7 +18,7 @@ fn write_links(part: &mut [u32], q: u32, c: u32)
     requires { ⌜ ((c ≡ 0 → ⊥) → q < length (now part)) ⌝ }
     ensures { λ r. ⌜ now (part .exit) ≡ newLinks (length (now (part .entry))) q c ⌝ }
 {
-    words::fill(part, 0);
+    lists::fill(part, 0);
     if c == 0 {
         return;
     }
@@ -28,7 +28,7 @@ fn write_links(part: &mut [u32], q: u32, c: u32)
 // Owed, low and high of cell n.
 fn write_debt(list: &mut [u32], s: Settings, n: u32, owed: u32, low: u32, high: u32)
     requires { ⌜ Shaped (now list) s × (n < s .cells) ⌝ }
-    ensures { λ r. ⌜ (now (list .exit) ≡ sets (now (list .entry)) (place (s .dimensions) n 3) (owed ∷ low ∷ high ∷ [])) × Shaped (now (list .exit)) s ⌝ }
+    ensures { λ r. ⌜ (now (list .exit) ≡ sets (now (list .entry)) (wordIndex (s .dimensions) n 3) (owed ∷ low ∷ high ∷ [])) × Shaped (now (list .exit)) s ⌝ }
 {
     words::store(list, s, n, words::OWED, owed);
     words::store(list, s, n, words::LOW, low);
@@ -38,11 +38,11 @@ fn write_debt(list: &mut [u32], s: Settings, n: u32, owed: u32, low: u32, high: 
 // The words of new cell n before its coordinates: live, its debt if p is below q.
 fn write_fields(list: &mut [u32], s: Settings, n: u32, f: Found, key: u32, value: u32)
     requires { ⌜ Shaped (now list) s × (n < s .cells) ⌝ }
-    ensures { λ r. ⌜ (now (list .exit) ≡ sets (now (list .entry)) (place (s .dimensions) n 0) (fieldWords key value f)) × Shaped (now (list .exit)) s ⌝ }
+    ensures { λ r. ⌜ (now (list .exit) ≡ sets (now (list .entry)) (wordIndex (s .dimensions) n 0) (fieldWords key value f)) × Shaped (now (list .exit)) s ⌝ }
 {
     words::store(list, s, n, words::KEY, key);
     words::store(list, s, n, words::VALUE, value);
-    words::store(list, s, n, words::MARK, 1);
+    words::store(list, s, n, words::MARK, words::LIVE);
     if f.p < f.q {
         write_debt(list, s, n, f.c, f.p, f.q);
         return;
@@ -53,9 +53,9 @@ fn write_fields(list: &mut [u32], s: Settings, n: u32, f: Found, key: u32, value
 // The coordinates of cell n become the key's.
 fn put_coordinates(list: &mut [u32], s: Settings, n: u32, key: u32)
     requires { ⌜ Shaped (now list) s × ((n < s .cells) × (0 < s .base)) ⌝ }
-    ensures { λ r. ⌜ (now (list .exit) ≡ sets (now (list .entry)) (place (s .dimensions) n fieldsBeforeCoordinates) (coordinates (s .base) (s .dimensions) key)) × Shaped (now (list .exit)) s ⌝ }
+    ensures { λ r. ⌜ (now (list .exit) ≡ sets (now (list .entry)) (wordIndex (s .dimensions) n fieldsBeforeCoordinates) (coordinates (s .base) (s .dimensions) key)) × Shaped (now (list .exit)) s ⌝ }
 {
-    let start = words::place(s, n, words::COORDINATES);
+    let start = words::word_index(s, n, words::COORDINATES);
     let end = start + s.dimensions as usize;
     words::write_coordinates(&mut list[start..end], key, s.base);
 }
@@ -63,9 +63,9 @@ fn put_coordinates(list: &mut [u32], s: Settings, n: u32, key: u32)
 // The links of cell n become those of a new cell.
 fn put_links(list: &mut [u32], s: Settings, n: u32, q: u32, c: u32)
     requires { ⌜ Shaped (now list) s × ((n < s .cells) × ((c ≡ 0 → ⊥) → q < s .dimensions)) ⌝ }
-    ensures { λ r. ⌜ (now (list .exit) ≡ sets (now (list .entry)) (place (s .dimensions) n (linkField (s .dimensions) 0)) (newLinks (s .dimensions) q c)) × Shaped (now (list .exit)) s ⌝ }
+    ensures { λ r. ⌜ (now (list .exit) ≡ sets (now (list .entry)) (wordIndex (s .dimensions) n (linkField (s .dimensions) 0)) (newLinks (s .dimensions) q c)) × Shaped (now (list .exit)) s ⌝ }
 {
-    let start = words::place(s, n, words::COORDINATES + s.dimensions);
+    let start = words::word_index(s, n, words::COORDINATES + s.dimensions);
     let end = start + s.dimensions as usize;
     write_links(&mut list[start..end], q, c);
 }
@@ -73,7 +73,7 @@ fn put_links(list: &mut [u32], s: Settings, n: u32, q: u32, c: u32)
 // Cell n gets the words of a new cell in the slot that was found.
 pub fn write_cell(list: &mut [u32], s: Settings, n: u32, f: Found, key: u32, value: u32)
     requires { ⌜ Shaped (now list) s × ((0 < s .base) × Fits s n f) ⌝ }
-    ensures { λ r. ⌜ (now (list .exit) ≡ sets (now (list .entry)) (place (s .dimensions) n 0) (newWords (s .base) (s .dimensions) key value (slotOf n f))) × Shaped (now (list .exit)) s ⌝ }
+    ensures { λ r. ⌜ (now (list .exit) ≡ sets (now (list .entry)) (wordIndex (s .dimensions) n 0) (newWords (s .base) (s .dimensions) key value (slotOf n f))) × Shaped (now (list .exit)) s ⌝ }
 {
     write_fields(list, s, n, f, key, value);
     put_coordinates(list, s, n, key);

@@ -1,2 +1,2 @@
 -- What the functions of the order program rest on.
-pub mod Laws
+pub mod Input

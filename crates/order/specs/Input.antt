@@ -17,7 +17,7 @@ wordsAfter (h ∷ hs) ws = wordsAfter hs (lineOutcome h ws .words)
 
 -- Bytes of the input were taken, from a line begun and the words before: every line that they hand on was asked of the list, in order,
 -- and what follows the last of these lines is the line begun.
-pub record Taken (bytes : List ℕ) (begun : Handed) (ws buffer : List ℕ) (feed : Feed) (after : List ℕ) : Type 0 where
+pub record BytesTaken (bytes : List ℕ) (begun : Handed) (ws buffer : List ℕ) (feed : Feed) (after : List ℕ) : Type 0 where
   pub ready : Ready buffer feed
   pub kept : begunIn buffer feed ≡ begunAfterPart begun bytes
   pub words : after ≡ wordsAfter (handedByPart begun bytes) ws
@@ -25,5 +25,5 @@ pub record Taken (bytes : List ℕ) (begun : Handed) (ws buffer : List ℕ) (fee
 -- A part of the input was taken, up to some byte of it: the last one, if every answer was written.
 pub record PartTaken (part : List ℕ) (begun : Handed) (ws buffer : List ℕ) (r : State) (after : List ℕ) : Type 0 where
   pub count : ℕ
-  pub taken : Taken (take count part) begun ws buffer (r .feed) after
+  pub taken : BytesTaken (take count part) begun ws buffer (r .feed) after
   pub whole : r .written ≡ true → count ≡ length part

@@ -21,7 +21,7 @@ ghost use Rattle.text.specs.Lines.{mostBytes};
 ghost use Rattle.text.specs.Feeding.{handedAtEnd, begunIn, toldIn, Ready, LineIn};
 ghost use Rattle.meaning.specs.Picture.{picture};
 ghost use Rattle.meaning.specs.Operations.{fresh};
-ghost use Rattle.order.specs.Input.{wordsAfter, Taken, PartTaken};
+ghost use Rattle.order.specs.Input.{wordsAfter, BytesTaken, PartTaken};
 use text::feed::Feed;
 use text::feed::Told;
 
@@ -62,7 +62,7 @@ fn take_line(words: &mut [u32], line: &[u8], ended: Told) -> bool
 // One byte of the input: the feed keeps it, or the line that it ends is answered.
 fn take_byte(words: &mut [u32], line: &mut [u8], feed: Feed, byte: u8) -> State
     requires { ⌜ Ready (now line) feed ⌝ }
-    ensures { λ r. ⌜ Taken (byte ∷ []) (begunIn (now (line .entry)) feed) (now (words .entry)) (now (line .exit)) (r .feed) (now (words .exit)) ⌝ }
+    ensures { λ r. ⌜ BytesTaken (byte ∷ []) (begunIn (now (line .entry)) feed) (now (words .entry)) (now (line .exit)) (r .feed) (now (words .exit)) ⌝ }
 {
     let fed = text::feed::feed_byte(line, feed, byte);
     let next = fed.feed;

@@ -4,7 +4,7 @@ use Prim.Native.Nat.{ℕ}
 use Rattle.text.specs.Lines.{Handed, line, tooLong}
 use Rattle.meaning.specs.Refusals.{Outcome, lineNotReadable, refused}
 use Rattle.meaning.specs.Calls.{Call, insert-key, find-key, finish-key, take-least, sweep-dead, outcome}
-use Rattle.lines.specs.Grammar.{keyOf, parsedOf}
+use Rattle.lines.specs.Grammar.{entryKey, parsedOf}
 use Rattle.lines.specs.declared.Kind.{Kind}
 use Rattle.lines.specs.declared.Kind.the-variants.{Insert, Find, Finish, Take, Sweep}
 use Rattle.lines.specs.declared.Parsed.{Parsed}
@@ -12,9 +12,9 @@ use Rattle.lines.specs.declared.Parsed.the-variants.{Readable, Unreadable}
 
 -- the call that a kind of line asks for
 abbrev pub callOf : Kind → Call
-callOf (Insert e value) = insert-key (keyOf e) value
-callOf (Find e) = find-key (keyOf e)
-callOf (Finish e) = finish-key (keyOf e)
+callOf (Insert e value) = insert-key (entryKey e) value
+callOf (Find e) = find-key (entryKey e)
+callOf (Finish e) = finish-key (entryKey e)
 callOf Take = take-least
 callOf Sweep = sweep-dead
 

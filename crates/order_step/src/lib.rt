@@ -11,7 +11,7 @@ use meaning::Answer;
 pub fn long_line(list: &[u32]) -> Answer
     ensures { λ r. ⌜ Meets (lineOutcome tooLong (now (list .entry))) r (now (list .entry)) ⌝ }
 {
-    meaning::refused(10)
+    meaning::refused(meaning::LINE_NOT_READABLE)
 }
 
 // A line of at most 64 bytes, or any other that is handed over whole.
@@ -19,13 +19,13 @@ pub fn step(list: &mut [u32], bytes: &[u8]) -> Answer
     ensures { λ r. ⌜ Meets (lineOutcome (line (now (bytes .entry))) (now (list .entry))) r (now (list .exit)) ⌝ }
 {
     let Parsed::Readable(l) = lines::parse(bytes) else {
-        return meaning::refused(10);
+        return meaning::refused(meaning::LINE_NOT_READABLE);
     };
     let kind = l.kind;
     match kind {
-        Kind::Insert(e, value) => return mdlist::mdlist_insert(list, lines::key(e), value),
-        Kind::Find(e) => return mdlist::mdlist_find(list, lines::key(e)),
-        Kind::Finish(e) => return mdlist::mdlist_finish(list, lines::key(e)),
+        Kind::Insert(e, value) => return mdlist::mdlist_insert(list, lines::entry_key(e), value),
+        Kind::Find(e) => return mdlist::mdlist_find(list, lines::entry_key(e)),
+        Kind::Finish(e) => return mdlist::mdlist_finish(list, lines::entry_key(e)),
         Kind::Take => return mdlist::mdlist_take(list),
         Kind::Sweep => return mdlist::mdlist_sweep(list),
     }

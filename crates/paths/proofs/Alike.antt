@@ -12,15 +12,15 @@ use Rattle.settings.specs.Numbers.{headerWords, fieldsBeforeCoordinates, cellWo
 use Rattle.settings.specs.declared.Settings.{Settings}
 use Rattle.meaning.specs.Row.{between}
 use Rattle.meaning.specs.Reading.{settingsAt}
-use Rattle.meaning.specs.Words.{wordAt, owedAt, lowAt, highAt, linkAt}
+use Rattle.meaning.specs.Words.{wordAt, owedAt, lowAt, highAt, linkAt, dimensionsAt}
 use Rattle.meaning.specs.Walk.{linkRead, stepAt, endsAfter, ends}
-use Rattle.meaning.specs.Paths.{onward, NextCell, nextFrom, pathAfter, pathAlong}
-use Rattle.meaning.specs.Stores.{store, writePath}
+use Rattle.meaning.specs.Layer.Paths.{onward, NextCell, nextFrom, pathAfter, pathAlong}
+use Rattle.meaning.specs.Layer.Stores.{store, writePath}
 use Rattle.meaning.specs.declared.Step.{Step}
 use Rattle.meaning.specs.declared.Step.the-variants.{Go, Up, End}
-use Rattle.meaning.proofs.Stores.{store-other, store-below, path-sets-header, path-sets-place}
+use Rattle.meaning.proofs.Stores.{store-other, store-below, path-sets-header, path-sets-word}
 use Rattle.words.specs.Shaped.{Shaped}
-use Rattle.words.proofs.Laws.{shaped-dimensions, store-shaped}
+use Rattle.words.proofs.Shaped.{shaped-dimensions, store-shaped}
 use Rattle.paths.specs.Paths.{Walkable}
 
 -- Links read alike
@@ -59,7 +59,7 @@ module _ {ws : List ℕ} {s : Settings} (h : Shaped ws s) (x v : ℕ) where
   value-link y d l =
       let D = s .dimensions in
       ap (λ n. wordAt (store D ws x 1 v) y (fieldsBeforeCoordinates + n + d)) (store-below D ws x 1 v 0 (omega arith))
-      ∙ value-word y (fieldsBeforeCoordinates + getD ws 0 0 + d) (omega (arith, shaped-dimensions h)) (λ e. omega arith)
+      ∙ value-word y (fieldsBeforeCoordinates + dimensionsAt ws + d) (omega (arith, shaped-dimensions h)) (λ e. omega arith)
 
   -- links are read as before, ..
   pub value-linkRead : (y d : ℕ) → d < s .dimensions → linkRead (store (s .dimensions) ws x 1 v) y d ≡ linkRead ws y d
@@ -88,18 +88,18 @@ pub record Alike (ws vs : List ℕ) : Type 0 where
   pub header : (i : ℕ) → i < headerWords → getD ws i 0 ≡ getD vs i 0
   pub cells : (x j : ℕ) → wordAt ws x j ≡ wordAt vs x j
 
-pub path-alike : (ws path : List ℕ) → length path ≡ getD ws 0 0 → Alike ws (writePath ws path)
+pub path-alike : (ws path : List ℕ) → length path ≡ dimensionsAt ws → Alike ws (writePath ws path)
 path-alike ws path long =
     record {
       long = sym (length-sets ws headerWords path);
       header = λ i h. sym (path-sets-header ws path i h);
-      cells = λ x j. rw (path-sets-header ws path 0 (omega arith)) (sym (path-sets-place (getD ws 0 0) ws path long x j));
+      cells = λ x j. rw (path-sets-header ws path 0 (omega arith)) (sym (path-sets-word (dimensionsAt ws) ws path long x j));
     }
 
 module _ {ws vs : List ℕ} (a : Alike ws vs) where
   alike-link : (x d : ℕ) → linkAt ws x d ≡ linkAt vs x d
   alike-link x d =
-      ap (λ n. wordAt ws x (fieldsBeforeCoordinates + n + d)) (a .header 0 (omega arith)) ∙ a .cells x (fieldsBeforeCoordinates + getD vs 0 0 + d)
+      ap (λ n. wordAt ws x (fieldsBeforeCoordinates + n + d)) (a .header 0 (omega arith)) ∙ a .cells x (fieldsBeforeCoordinates + dimensionsAt vs + d)
 
   alike-linkRead : (x d : ℕ) → linkRead ws x d ≡ linkRead vs x d
   alike-linkRead x d = linkRead-alike ws vs x d (a .cells x 3) (a .cells x 4) (a .cells x 5) (λ y. alike-link y d)
@@ -126,8 +126,8 @@ module _ {ws vs : List ℕ} (a : Alike ws vs) where
       ap₂ (λ n t. pathAfter (pathAlong fuel ws k) n path x d t) (a .header 0 (omega arith)) (alike-step k x d) ∙ go (stepAt vs k x d) (alike-along fuel k)
     where
       go : (t : Step) → ((p : List ℕ) (y e : ℕ) → pathAlong fuel ws k p y e ≡ pathAlong fuel vs k p y e) →
-          pathAfter (pathAlong fuel ws k) (getD vs 0 0) path x d t ≡ pathAfter (pathAlong fuel vs k) (getD vs 0 0) path x d t
-      go (Go y) further = further (onward (getD vs 0 0) path d y) y d
+          pathAfter (pathAlong fuel ws k) (dimensionsAt vs) path x d t ≡ pathAfter (pathAlong fuel vs k) (dimensionsAt vs) path x d t
+      go (Go y) further = further (onward (dimensionsAt vs) path d y) y d
       go Up further = further path x (suc d)
       go End further = refl
 

@@ -1,5 +1,5 @@
 -- What goes from cell to cell on the words of a list, and what such words give.
-pub mod Laws
+pub mod Paths
 pub mod Steps
 pub mod Alike
 pub mod Listed

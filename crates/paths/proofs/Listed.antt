@@ -8,22 +8,25 @@ use Prim.Native.Nat.{ℕ, _≤_, _<_}
 use native.Mathlib.Omega.{arith}
 use lib.ListN.{getD, replicate}
 use Rattle.settings.specs.declared.Settings.{Settings}
-use Rattle.meaning.specs.Row.{headEntry, Place}
-use Rattle.meaning.specs.State.{State, keyOf, occurrences}
+use Rattle.lists.specs.Lists.{occurrences}
+use Rattle.lists.proofs.All.{all-map}
+use Rattle.meaning.specs.Row.{headNode, Place}
+use Rattle.meaning.specs.State.{State, keyOf}
 use Rattle.meaning.specs.Picture.{path, picture}
-use Rattle.meaning.specs.Reading.{read, Listed}
-use Rattle.meaning.specs.Words.{keyAt}
+use Rattle.meaning.specs.Reading.{read}
+use Rattle.meaning.specs.Words.{keyAt, dimensionsAt}
 use Rattle.meaning.specs.Walk.{ends}
-use Rattle.meaning.specs.Paths.{pathFor, pathAlong}
-use Rattle.meaning.specs.Stores.{writePath}
-use Rattle.meaning.proofs.Order.{all-map, asc-above}
+use Rattle.meaning.specs.Layer.Paths.{pathFor, pathAlong}
+use Rattle.meaning.specs.Layer.Stores.{writePath}
+use Rattle.meaning.specs.Layer.Listed.{Listed}
+use Rattle.meaning.proofs.Order.{asc-above}
 use Rattle.meaning.proofs.State.{Sound, valid-sound, sound-valid, base-positive}
 use Rattle.meaning.proofs.Picture.{path-length, picture-dimensions}
 use Rattle.meaning.proofs.Walk.{walk-ends}
 use Rattle.meaning.proofs.Stores.{path-sets-header}
 use Rattle.meaning.proofs.Changed.{path-rewritten}
-use Rattle.meaning.proofs.SentencesCells.{Placed, placed-entry, placed-cell, placed-keyOf, placed-below, place-key, occurs-placed}
-use Rattle.meaning.proofs.PathWithin.{owed-within, linkRead-within}
+use Rattle.meaning.proofs.Placed.{Placed, placed-node, placed-cell, placed-keyOf, placed-below, place-key, occurs-placed}
+use Rattle.meaning.proofs.CellsWithin.{owed-within, linkRead-within}
 use Rattle.meaning.proofs.Path.{path-is, path-head}
 use Rattle.meaning.proofs.PathWalk.{path-of-cell}
 use Rattle.words.proofs.Listed.{picture-shaped, on-listed}
@@ -55,7 +58,7 @@ module _ {ws : List ℕ} {s : Settings} {x : ℕ} {t : State} (h : StandsIn ws s
 
   stands-alike : Alike ws (picture t)
   stands-alike =
-      let first : getD ws 0 0 ≡ t .settings .dimensions =
+      let first : dimensionsAt ws ≡ t .settings .dimensions =
       sym (path-sets-header ws (path t) 0 (omega arith)) ∙ ap (λ l. getD l 0 0) (sym (h .words)) ∙ picture-dimensions t
       in
       subst (Alike ws) (sym (h .words)) (path-alike ws (path t) (path-length t ∙ sym first))
@@ -73,13 +76,13 @@ module _ {ws : List ℕ} {s : Settings} {x : ℕ} {t : State} (h : StandsIn ws s
   stands-below = subst (λ u. x < u .cells) (h .settings) (placed-below stands-sound (stands-placed .1))
 
   -- the head's path
-  stands-head : x ≡ 0 → replicate (s .dimensions) 0 ≡ pathFor (s .base) (s .dimensions) (t .row) (keyOf x (headEntry ∷ t .row))
+  stands-head : x ≡ 0 → replicate (s .dimensions) 0 ≡ pathFor (s .base) (s .dimensions) (t .row) (keyOf x (headNode ∷ t .row))
   unfolding keyOf
   stands-head e =
-      sym (path-head (s .base) (s .dimensions) (t .row)) ∙ ap (λ c. pathFor (s .base) (s .dimensions) (t .row) (keyOf c (headEntry ∷ t .row))) (sym e)
+      sym (path-head (s .base) (s .dimensions) (t .row)) ∙ ap (λ c. pathFor (s .base) (s .dimensions) (t .row) (keyOf c (headNode ∷ t .row))) (sym e)
 
   module _ (other : x ≡ 0 → ⊥) {k : ℕ} (key : k ≡ keyAt ws x) where
-    key-is : k ≡ stands-placed .0 .entry .key
+    key-is : k ≡ stands-placed .0 .node .key
     key-is = key ∙ stands-alike .cells x 0 ∙ place-key stands-sound (stands-placed .1)
 
     -- the walk for the cell's key ends, ..
@@ -88,18 +91,18 @@ module _ {ws : List ℕ} {s : Settings} {x : ℕ} {t : State} (h : StandsIn ws s
         let v = stands-sound in
         let here = stands-placed .1 in
         let own = placed-cell here in
-        let above = placed-entry here (λ y. 0 < y .cell → 0 < y .key) (λ l. l) (all-map (λ y l c. l) (t .row) (asc-above 0 (t .row) (v .ascends))) (omega arith) in
-        let most = placed-entry here (λ y. y .key ≤ t .settings .largest) (omega arith) (v .keys) in
+        let above = placed-node here (λ y. 0 < y .cell → 0 < y .key) (λ l. l) (all-map (λ y l c. l) (t .row) (asc-above 0 (t .row) (v .ascends))) (omega arith) in
+        let most = placed-node here (λ y. y .key ≤ t .settings .largest) (omega arith) (v .keys) in
         alike-ends stands-alike (enough s) k 0 0
         ∙ subst (λ u. ends (enough u) (picture t) k 0 0 ≡ true) (h .settings) (walk-ends t v k (omega (arith, key-is)) (omega (arith, key-is)))
 
     -- .. and builds its path
     stands-path :
-        pathAlong (enough s) ws k (replicate (s .dimensions) 0) 0 0 ≡ pathFor (s .base) (s .dimensions) (t .row) (keyOf x (headEntry ∷ t .row))
+        pathAlong (enough s) ws k (replicate (s .dimensions) 0) 0 0 ≡ pathFor (s .base) (s .dimensions) (t .row) (keyOf x (headNode ∷ t .row))
     stands-path =
         let here = stands-placed .1 in
         let walked = path-of-cell stands-sound here (omega arith) in
-        let same : keyOf x (headEntry ∷ t .row) ≡ k = placed-keyOf here ∙ sym key-is in
+        let same : keyOf x (headNode ∷ t .row) ≡ k = placed-keyOf here ∙ sym key-is in
         alike-along stands-alike (enough s) k (replicate (s .dimensions) 0) 0 0
         ∙ subst (λ u. pathAlong (enough u) (picture t) k (replicate (u .dimensions) 0) 0 0 ≡ pathFor (u .base) (u .dimensions) (t .row) k) (h .settings)
         (rw key-is walked)
@@ -121,7 +124,7 @@ pub path-drawn :
     {ws : List ℕ} {s : Settings} {x : ℕ} {t : State} {r : Path} → StandsIn ws s x t → x ≡ t .position → CellPath ws s x r →
     writePath ws (pathOf r) ≡ picture t
 path-drawn {ws} {s} {x} {t} h e p =
-    let own : pathFor (s .base) (s .dimensions) (t .row) (keyOf x (headEntry ∷ t .row)) ≡ path t =
+    let own : pathFor (s .base) (s .dimensions) (t .row) (keyOf x (headNode ∷ t .row)) ≡ path t =
     rw (← h .settings, e) (sym (path-is t))
     in
     ap (writePath ws) (p .is t h ∙ own) ∙ sym (h .words)

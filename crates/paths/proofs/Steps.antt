@@ -5,15 +5,16 @@ use mathlib.Core.List.{List}
 use Prim.Native.Nat.{ℕ, _+_, _*_, _<_}
 use native.Mathlib.Numerals.{add-one}
 use native.Mathlib.Omega.{arith}
-use lib.ListN.{getD, replicate}
+use lib.ListN.{replicate}
 use Rattle.settings.specs.declared.Settings.{Settings}
 use Rattle.meaning.specs.Walk.{stepAt, ends}
-use Rattle.meaning.specs.Paths.{onward, pathAlong}
+use Rattle.meaning.specs.Layer.Paths.{onward, pathAlong}
 use Rattle.meaning.specs.declared.Step.{Step}
 use Rattle.meaning.specs.declared.Step.the-variants.{Go, Up, End}
+use Rattle.meaning.specs.Words.{dimensionsAt}
 use Rattle.meaning.proofs.WalkSteps.{stepsLeft, nearer-go, nearer-up, step-leads, step-rises}
 use Rattle.meaning.proofs.PathWalk.{built-go, built-up, built-end}
-use Rattle.words.proofs.Laws.{shaped-dimensions}
+use Rattle.words.proofs.Shaped.{shaped-dimensions}
 use Rattle.paths.specs.declared.Path.{Path}
 use Rattle.paths.specs.Paths.{pathOf, Formed, Walkable}
 
@@ -41,7 +42,7 @@ module _ {ws : List ℕ} {s : Settings} (h : Walkable ws s) {k : ℕ} {p : Path}
       }
 
   module _ {x d : ℕ} (w : Walking ws s k p x d) {r : Step} (is : r ≡ stepAt ws k x d) where
-    is-D : getD ws 0 0 ≡ s .dimensions
+    is-D : dimensionsAt ws ≡ s .dimensions
     is-D = shaped-dimensions (h .shaped)
 
     pub walking-go : {y : ℕ} {q : Path} → r ≡ Go y → pathOf q ≡ onward (p .used) (pathOf p) d y → Formed (p .used) q → Walking ws s k q y d

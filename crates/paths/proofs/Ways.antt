@@ -5,30 +5,30 @@ use mathlib.Core.List.{List, [], _∷_, _++_}
 use Prim.Native.Nat.{ℕ}
 use native.Mathlib.Omega.{arith}
 use Rattle.meaning.specs.Keys.{shared}
-use Rattle.meaning.specs.Row.{Entry, headEntry}
+use Rattle.meaning.specs.Row.{Node, headNode}
 use Rattle.meaning.specs.State.{State}
 use Rattle.meaning.specs.Picture.{picture}
-use Rattle.meaning.specs.Paths.{onward, nextFrom}
+use Rattle.meaning.specs.Layer.Paths.{onward, nextFrom}
 use Rattle.meaning.proofs.State.{Sound}
-use Rattle.meaning.proofs.Keeps.{cell-alone}
+use Rattle.meaning.proofs.KeepsState.{cell-alone}
 use Rattle.meaning.proofs.Places.{lastFrom}
 use Rattle.meaning.proofs.PathNext.{PathOf, way-next, way-end, way-on}
 use Rattle.paths.specs.declared.Path.{Path}
 use Rattle.paths.specs.declared.Reached.{Reached}
 use Rattle.paths.specs.Paths.{pathOf, NextIs}
 
--- a move to entry y, from the last of the entries in front of it
-pub record MovesTo (t : State) (front : List Entry) (y : Entry) (later : List Entry) (r : Reached) : Type 0 where
+-- a move to node y, from the last of the nodes in front of it
+pub record MovesTo (t : State) (front : List Node) (y : Node) (later : List Node) (r : Reached) : Type 0 where
   pub cell : r .cell ≡ y .cell
-  pub number : r .number ≡ shared (t .settings .base) (t .settings .dimensions) (lastFrom headEntry front .key) (y .key)
+  pub number : r .number ≡ shared (t .settings .base) (t .settings .dimensions) (lastFrom headNode front .key) (y .key)
   pub on-way : PathOf t (pathOf (r .path)) (front ++ (y ∷ [])) later
 
 module _ {t : State} (v : Sound t) {ws : List ℕ} {p : Path} {r : Reached} (n : NextIs ws (t .settings) p r)
-    (same : nextFrom ws (pathOf p) (t .settings .dimensions) ≡ nextFrom (picture t) (pathOf p) (t .settings .dimensions)) {front : List Entry} where
+    (same : nextFrom ws (pathOf p) (t .settings .dimensions) ≡ nextFrom (picture t) (pathOf p) (t .settings .dimensions)) {front : List Node} where
   pub moves-nowhere : PathOf t (pathOf p) front [] → r .cell ≡ 0
   moves-nowhere w = ap (λ c. c .cell) (sym (n .is) ∙ same ∙ way-end v w)
 
-  pub moves-to : {y : Entry} {later : List Entry} → PathOf t (pathOf p) front (y ∷ later) → MovesTo t front y later r
+  pub moves-to : {y : Node} {later : List Node} → PathOf t (pathOf p) front (y ∷ later) → MovesTo t front y later r
   moves-to {y} {later} w =
       let next = sym (n .is) ∙ same ∙ way-next v w in
       let cell = ap (λ c. c .cell) next in

@@ -6,13 +6,14 @@ use Prim.Native.Nat.{ℕ, _≤_, _<_}
 use lib.ListN.{length, getD, take}
 use Rattle.settings.specs.Numbers.{mostDimensions}
 use Rattle.settings.specs.declared.Settings.{Settings}
-use Rattle.meaning.specs.Row.{headEntry}
-use Rattle.meaning.specs.State.{State, keyOf, occurrences, valid}
+use Rattle.lists.specs.Lists.{occurrences}
+use Rattle.meaning.specs.Row.{headNode}
+use Rattle.meaning.specs.State.{State, keyOf, valid}
 use Rattle.meaning.specs.Picture.{path, picture}
 use Rattle.meaning.specs.Words.{owedAt}
 use Rattle.meaning.specs.Walk.{linkRead}
-use Rattle.meaning.specs.Paths.{pathFor, onward, nextFrom}
-use Rattle.meaning.specs.Stores.{writePath}
+use Rattle.meaning.specs.Layer.Paths.{pathFor, onward, nextFrom}
+use Rattle.meaning.specs.Layer.Stores.{writePath}
 use Rattle.words.specs.Shaped.{Shaped}
 use Rattle.paths.specs.declared.Path.{Path}
 use Rattle.paths.specs.declared.Reached.{Reached}
@@ -54,11 +55,11 @@ pub record StandsIn (ws : List ℕ) (s : Settings) (x : ℕ) (t : State) : Type 
   pub stands : 0 < occurrences x (0 ∷ map (λ y. y .cell) (t .row))
 
 -- so it is for some state
-pub record Standing (ws : List ℕ) (s : Settings) (x : ℕ) : Type 0 where
+pub record StandsInSome (ws : List ℕ) (s : Settings) (x : ℕ) : Type 0 where
   pub state : State
   pub in-it : StandsIn ws s x state
 
 -- What `path_of` answers: the path of standing cell x, in each such state.
 pub record CellPath (ws : List ℕ) (s : Settings) (x : ℕ) (r : Path) : Type 0 where
-  pub is : (t : State) → StandsIn ws s x t → pathOf r ≡ pathFor (s .base) (s .dimensions) (t .row) (keyOf x (headEntry ∷ t .row))
+  pub is : (t : State) → StandsIn ws s x t → pathOf r ≡ pathFor (s .base) (s .dimensions) (t .row) (keyOf x (headNode ∷ t .row))
   pub formed : Formed (s .dimensions) r

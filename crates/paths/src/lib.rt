@@ -8,11 +8,11 @@ ghost use Rattle.settings.specs.Numbers.{headerWords, mostDimensions};
 ghost use Rattle.meaning.specs.Keys.{coordinates};
 ghost use Rattle.meaning.specs.Words.{owedAt};
 ghost use Rattle.meaning.specs.Walk.{linkRead, ends};
-ghost use Rattle.meaning.specs.Paths.{pathAlong};
-ghost use Rattle.meaning.specs.Paths as definitions;
-ghost use Rattle.meaning.specs.Stores.{writePath};
+ghost use Rattle.meaning.specs.Layer.Paths.{pathAlong};
+ghost use Rattle.meaning.specs.Layer.Paths as definitions;
+ghost use Rattle.meaning.specs.Layer.Stores.{writePath};
 ghost use Rattle.words.specs.Shaped.{Shaped};
-ghost use Rattle.paths.specs.Paths.{pathOf, Formed, PathIn, Walkable, NextIs, Standing, CellPath};
+ghost use Rattle.paths.specs.Paths.{pathOf, Formed, PathIn, Walkable, NextIs, StandsInSome, CellPath};
 use meaning::Step;
 use settings::Settings;
 
@@ -107,7 +107,7 @@ fn path_along(list: &[u32], s: Settings, sought: &[u32], k: u32) -> Path
 
 // The path of standing cell x.
 pub fn path_of(list: &[u32], s: Settings, x: u32) -> Path
-    requires { ⌜ Standing (now list) s x ⌝ }
+    requires { ⌜ StandsInSome (now list) s x ⌝ }
     ensures { λ r. ⌜ CellPath (now (list .entry)) s x r ⌝ }
 {
     if x == 0 {

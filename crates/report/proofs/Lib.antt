@@ -2,4 +2,4 @@
 pub mod Puts
 pub mod Digits
 pub mod Sums
-pub mod Laws
+pub mod Report

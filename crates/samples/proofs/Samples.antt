@@ -5,7 +5,7 @@ use mathlib.Core.List.{[], _∷_}
 use Rattle.meaning.specs.Picture.{picture}
 use Rattle.meaning.specs.Reading.{isList}
 use Rattle.meaning.specs.Operations.{fresh}
-use Rattle.meaning.specs.Words.{place}
+use Rattle.meaning.specs.Words.{wordIndex}
 use Rattle.meaning.proofs.Computing.{computing}
 use Rattle.samples.specs.Samples.{joined, larger, smaller, figures, raised, lowered, refusedFrom}
 
@@ -30,27 +30,27 @@ larger-header = refl
 
 -- each of the 12 words of the head; of cell 3, which is dead and owes, and cell 4, from which it owes and which is live (its value may
 -- be any); of the dead cell 9; of the free cells 2, 1 and 39, first, second and last in their chain
-pub larger-head : refusedFrom raised larger (place 3 0 0) 12 ≡ 12
+pub larger-head : refusedFrom raised larger (wordIndex 3 0 0) 12 ≡ 12
 unfolding refusedFrom larger joined computing
 larger-head = refl
 
-pub larger-owing : refusedFrom raised larger (place 3 3 0) 12 ≡ 12
+pub larger-owing : refusedFrom raised larger (wordIndex 3 3 0) 12 ≡ 12
 unfolding refusedFrom larger joined computing
 larger-owing = refl
 
-pub larger-owed-from : refusedFrom raised larger (place 3 4 0) 12 ≡ 11
+pub larger-owed-from : refusedFrom raised larger (wordIndex 3 4 0) 12 ≡ 11
 unfolding refusedFrom larger joined computing
 larger-owed-from = refl
 
-pub larger-dead : refusedFrom raised larger (place 3 9 0) 12 ≡ 12
+pub larger-dead : refusedFrom raised larger (wordIndex 3 9 0) 12 ≡ 12
 unfolding refusedFrom larger joined computing
 larger-dead = refl
 
-pub larger-free : refusedFrom raised larger (place 3 1 0) 24 ≡ 24
+pub larger-free : refusedFrom raised larger (wordIndex 3 1 0) 24 ≡ 24
 unfolding refusedFrom larger joined computing
 larger-free = refl
 
-pub larger-last-free : refusedFrom raised larger (place 3 39 0) 12 ≡ 12
+pub larger-last-free : refusedFrom raised larger (wordIndex 3 39 0) 12 ≡ 12
 unfolding refusedFrom larger joined computing
 larger-last-free = refl
 

@@ -5,7 +5,7 @@ use Prim.Native.Nat.{ℕ, zero, suc, _+_}
 use lib.Dec.{eqb}
 use lib.ListN.{length, getD, set, replicate}
 use Rattle.settings.specs.Numbers.{lengthOf}
-use Rattle.meaning.specs.Row.{those}
+use Rattle.lists.specs.Lists.{those}
 use Rattle.meaning.specs.Reading.{read, isList}
 use Rattle.meaning.specs.Calls.{Call, set-up, insert-key, finish-key, take-least, sweep-dead, outcome, afterCalls}
 

@@ -68,7 +68,7 @@ fn print(a: Answer, part: &[u32]) {
 }
 
 fn edge(part: &mut [u32], d: u32, k: u32, c: u32) {
-    words::fill(part, LEFT);
+    lists::fill(part, LEFT);
     let a = mdlist::mdlist_set_up(d, k, c, part);
     print(a, part);
 }

@@ -1,5 +1,5 @@
 -- Where the walk for k rests is what the search answers. For want of a link it rests at k's parent, whose slot is empty. Else its last
--- move was the parent's link: to k itself, or to the entry of next larger key, which has the slot.
+-- move was the parent's link: to k itself, or to the node of next larger key, which has the slot.
 use mathlib.Core.Path.{_≡_, refl, sym, ap, ap₂, _∙_, subst}
 use mathlib.Core.Bool.{true, false, cond}
 use mathlib.Core.List.{List, [], _∷_, _++_}
@@ -10,27 +10,29 @@ use native.Mathlib.Omega.{arith}
 use lib.Dec.{eqb}
 use borrow.Author.Tests.{eq-eqb, ne-eqb}
 use Rattle.settings.specs.declared.Settings.{Settings}
+use Rattle.lists.proofs.All.{all-map}
 use Rattle.meaning.specs.Keys.{shared}
-use Rattle.meaning.specs.Row.{Entry, headEntry, firstOf, firstSharing, Place, places, placeOf, entryAt}
+use Rattle.meaning.specs.Row.{Node, headNode, firstOf, firstSharing, Place, places, placeOf, nodeAt}
 use Rattle.meaning.specs.State.{State}
 use Rattle.meaning.specs.Picture.{picture}
-use Rattle.meaning.specs.Reading.{read, Listed}
+use Rattle.meaning.specs.Reading.{read}
 use Rattle.meaning.specs.Operations.{looked, settledLinkAt}
 use Rattle.meaning.specs.Words.{keyAt}
-use Rattle.meaning.specs.Walk.{rest}
 use Rattle.meaning.specs.declared.Rest.{Rest}
-use Rattle.meaning.proofs.Order.{Asc, all-map}
+use Rattle.meaning.specs.Layer.Resting.{rest}
+use Rattle.meaning.specs.Layer.Listed.{Listed}
+use Rattle.meaning.proofs.Order.{Asc}
 use Rattle.meaning.proofs.Keys.{shared-sym, shared-less}
 use Rattle.meaning.proofs.State.{Sound, base-positive}
 use Rattle.meaning.proofs.Cells.{row-range}
 use Rattle.meaning.proofs.Places.{asc-left, lastFrom, dimensionFrom}
 use Rattle.meaning.proofs.Parent.{dimensionAfter, Apart, asc-last, apart-left, apart-before, place-at}
 use Rattle.meaning.proofs.Slot as slot
-use Rattle.meaning.proofs.KeepsInsert.{entry-split, slot-first}
+use Rattle.meaning.proofs.KeepsInsert.{node-split, slot-first}
 use Rattle.meaning.proofs.WalkRead.{settled-above}
 use Rattle.meaning.proofs.Walk.{walk-looked}
 use Rattle.meaning.proofs.WalkStop.{rest-looked, Wanting, Moved, rests}
-use Rattle.meaning.proofs.SentencesCells.{placed-entry, placed-below, place-key}
+use Rattle.meaning.proofs.Placed.{placed-node, placed-below, place-key}
 use Rattle.search.specs.Found.{slotNumber, slotParent, slotShared, slotCell, foundAt, foundOf}
 use Rattle.search.specs.declared.Found.{Found}
 use Rattle.words.proofs.Listed.{on-listed}
@@ -39,7 +41,7 @@ use Rattle.search.proofs.Sides.{Sides, sides-absent, sides-present, slo
 -- What is answered, part by part
 
 absent-is :
-    (s : State) (k : ℕ) {parent p c q n : ℕ} → entryAt k (s .row) ≡ none → parent ≡ slotParent s k → p ≡ slotNumber s k → c ≡ slotCell s k →
+    (s : State) (k : ℕ) {parent p c q n : ℕ} → nodeAt k (s .row) ≡ none → parent ≡ slotParent s k → p ≡ slotNumber s k → c ≡ slotCell s k →
     q ≡ cond (eqb (slotCell s k) 0) 0 (slotShared s k) → n ≡ looked s k →
     record { standing = false; parent = parent; p = p; c = c; q = q; looked = n } ≡ foundOf s k
 unfolding foundOf foundAt
@@ -47,30 +49,30 @@ absent-is s k absent parent p c q n =
     _∙_ {A = Found} (λ i. record { standing = false; parent = parent i; p = p i; c = c i; q = q i; looked = n i }) (sym (ap (foundAt s k) absent))
 
 present-is :
-    (s : State) (k : ℕ) {x : Entry} {parent p c q n : ℕ} → entryAt k (s .row) ≡ some x → parent ≡ slotParent s k → p ≡ slotNumber s k → c ≡ x .cell →
+    (s : State) (k : ℕ) {x : Node} {parent p c q n : ℕ} → nodeAt k (s .row) ≡ some x → parent ≡ slotParent s k → p ≡ slotNumber s k → c ≡ x .cell →
     q ≡ s .settings .dimensions → n ≡ looked s k →
     record { standing = true; parent = parent; p = p; c = c; q = q; looked = n } ≡ foundOf s k
 unfolding foundOf foundAt
 present-is s k present parent p c q n =
     _∙_ {A = Found} (λ i. record { standing = true; parent = parent i; p = p i; c = c i; q = q i; looked = n i }) (sym (ap (foundAt s k) present))
 
--- the entry of next larger key, where its cell is the one that has the slot
+-- the node of next larger key, where its cell is the one that has the slot
 next-is :
-    (b D k d : ℕ) (pre post : List Entry) (to : Place) → Apart (headEntry ∷ (pre ++ post)) → 0 < to .entry .cell → slot.cellAfter b D k d post ≡ to .entry .cell →
-    placeOf (to .entry .cell) (places b D (pre ++ post)) ≡ some to → firstOf post .key ≡ to .entry .key
+    (b D k d : ℕ) (pre post : List Node) (to : Place) → Apart (headNode ∷ (pre ++ post)) → 0 < to .node .cell → slot.cellAfter b D k d post ≡ to .node .cell →
+    placeOf (to .node .cell) (places b D (pre ++ post)) ≡ some to → firstOf post .key ≡ to .node .key
 unfolding places
 next-is b D k d pre [] to o nz c found = absurd (omega arith)
 next-is b D k d pre (x ∷ post) to o nz c found =
-    let here : to .entry .cell ≡ x .cell = sym c ∙ slot-first b D k d (x ∷ post) (λ e. omega arith) .1 in
-    let at = place-at b D headEntry 0 headEntry 0 pre x post (apart-before (headEntry ∷ pre) x post o) in
-    let same : to ≡ record { entry = x; dimension = dimensionAfter b D headEntry pre (x .key); before = lastFrom headEntry pre; beforeDimension = dimensionFrom b D headEntry 0 pre; later = post } = cc in
-    ap (λ p. p .entry .key) (sym same)
+    let here : to .node .cell ≡ x .cell = sym c ∙ slot-first b D k d (x ∷ post) (λ e. omega arith) .1 in
+    let at = place-at b D headNode 0 headNode 0 pre x post (apart-before (headNode ∷ pre) x post o) in
+    let same : to ≡ record { node = x; dimension = dimensionAfter b D headNode pre (x .key); before = lastFrom headNode pre; beforeDimension = dimensionFrom b D headNode 0 pre; later = post } = cc in
+    ap (λ p. p .node .key) (sym same)
 
 module _ (s : State) (v : Sound s) (k : ℕ) (least : 1 ≤ k) (most : k ≤ s .settings .largest) where
   -- the cell in the slot, where k does not stand: where the parent's link leads
-  slot-leads : (absent : entryAt k (s .row) ≡ none) (p : Place) → placeOf (p .entry .cell) (places (s .settings .base) (s .settings .dimensions) (s .row)) ≡ some p →
+  slot-leads : (absent : nodeAt k (s .row) ≡ none) (p : Place) → placeOf (p .node .cell) (places (s .settings .base) (s .settings .dimensions) (s .row)) ≡ some p →
       Hangs (s .settings .base) (s .settings .dimensions) k p →
-      slotCell s k ≡ firstSharing (s .settings .base) (s .settings .dimensions) (p .entry .key) (shared (s .settings .base) (s .settings .dimensions) (p .entry .key) k) (p .later)
+      slotCell s k ≡ firstSharing (s .settings .base) (s .settings .dimensions) (p .node .key) (shared (s .settings .base) (s .settings .dimensions) (p .node .key) k) (p .later)
   unfolding settledLinkAt
   slot-leads absent p found h =
       let b = s .settings .base in
@@ -79,20 +81,20 @@ module _ (s : State) (v : Sound s) (k : ℕ) (least : 1 ≤ k) (most : k ≤ s .
       let sides = sides-absent g in
       let is = hung-at s v k least sides p found h in
       let a : Asc 0 (g .pre ++ g .post) = subst (Asc 0) (g .splits) (v .ascends) in
-      let o : Apart (headEntry ∷ (g .pre ++ g .post)) = subst (λ r. Apart (headEntry ∷ r)) (g .splits) (slot.sound-apart s v) in
+      let o : Apart (headNode ∷ (g .pre ++ g .post)) = subst (λ r. Apart (headNode ∷ r)) (g .splits) (slot.sound-apart s v) in
       slot-at s v k least sides .cell
       ∙ sym
       (slot.slot-c b D (base-positive s v) (slot.dimensions-positive s v) k (g .pre) (g .post) least (asc-left 0 (g .pre) (g .post) a)
-      (apart-left (headEntry ∷ g .pre) (g .post) o) (g .below)
-      (slot.gap-above k (lastFrom headEntry (g .pre) .key) (g .post) (asc-last headEntry (g .pre) (g .post) a) (g .above)))
+      (apart-left (headNode ∷ g .pre) (g .post) o) (g .below)
+      (slot.gap-above k (lastFrom headNode (g .pre) .key) (g .post) (asc-last headNode (g .pre) (g .post) a) (g .above)))
       ∙ ap₂ (λ d c. settledLinkAt b D d (placeOf c (places b D (g .pre ++ g .post)))) (is .0) (is .1)
-      ∙ ap (settledLinkAt b D (shared b D (p .entry .key) k)) (subst (λ r. placeOf (p .entry .cell) (places b D r) ≡ some p) (g .splits) found)
-      ∙ settled-above b D p (shared b D (p .entry .key) k) (h .dimension)
+      ∙ ap (settledLinkAt b D (shared b D (p .node .key) k)) (subst (λ r. placeOf (p .node .cell) (places b D r) ≡ some p) (g .splits) found)
+      ∙ settled-above b D p (shared b D (p .node .key) k) (h .dimension)
 
   -- parent and number of a slot, where k would hang from place p
-  hangs-parent : {pre middle post : List Entry} → Sides k (s .row) pre middle post → (p : Place) →
-      placeOf (p .entry .cell) (places (s .settings .base) (s .settings .dimensions) (s .row)) ≡ some p → Hangs (s .settings .base) (s .settings .dimensions) k p →
-      (p .entry .cell ≡ slotParent s k) × (shared (s .settings .base) (s .settings .dimensions) (p .entry .key) k ≡ slotNumber s k)
+  hangs-parent : {pre middle post : List Node} → Sides k (s .row) pre middle post → (p : Place) →
+      placeOf (p .node .cell) (places (s .settings .base) (s .settings .dimensions) (s .row)) ≡ some p → Hangs (s .settings .base) (s .settings .dimensions) k p →
+      (p .node .cell ≡ slotParent s k) × (shared (s .settings .base) (s .settings .dimensions) (p .node .key) k ≡ slotNumber s k)
   hangs-parent sides p found h =
       let t = slot-at s v k least sides in
       let is = hung-at s v k least sides p found h in
@@ -117,14 +119,14 @@ module _ (s : State) (v : Sound s) (k : ℕ) (least : 1 ≤ k) (most : k ≤ s .
     moved-hangs m =
         record { below = m .below; dimension = m .dimension; between = all-map (λ y f l. f (let h = m .reached in omega arith)) (m .place .later) (m .passed) }
 
-    moved-present : (m : Moved (s .settings .base) (s .settings .dimensions) k (s .row) r) → m .to .entry .key ≡ k →
+    moved-present : (m : Moved (s .settings .base) (s .settings .dimensions) k (s .row) r) → m .to .node .key ≡ k →
         record { standing = true; parent = r .from; p = r .number; c = r .at; q = s .settings .dimensions; looked = r .looked } ≡ foundOf s k
     moved-present m e =
-        let split = entry-split k (m .to .entry) (s .row) (m .present e) in
-        let t = hangs-parent (sides-present (split .0) (m .to .entry) (split .1) (v .ascends) e (split .2)) (m .place) (m .found) (moved-hangs m) in
+        let split = node-split k (m .to .node) (s .row) (m .present e) in
+        let t = hangs-parent (sides-present (split .0) (m .to .node) (split .1) (v .ascends) e (split .2)) (m .place) (m .found) (moved-hangs m) in
         present-is s k (m .present e) (m .from ∙ t .0) (m .number ∙ t .1) (m .at) refl looked-is
 
-    moved-absent : (m : Moved (s .settings .base) (s .settings .dimensions) k (s .row) r) → k < m .to .entry .key →
+    moved-absent : (m : Moved (s .settings .base) (s .settings .dimensions) k (s .row) r) → k < m .to .node .key →
         record { standing = false; parent = r .from; p = r .number; c = r .at; q = r .coordinate; looked = r .looked } ≡ foundOf s k
     moved-absent m above =
         let b = s .settings .base in
@@ -134,16 +136,16 @@ module _ (s : State) (v : Sound s) (k : ℕ) (least : 1 ≤ k) (most : k ≤ s .
         let sides = sides-absent g in
         let t = hangs-parent sides (m .place) (m .found) (moved-hangs m) in
         let is = slot-at s v k least sides in
-        let held : slotCell s k ≡ m .to .entry .cell = slot-leads absent (m .place) (m .found) (moved-hangs m) ∙ m .leads in
-        let other : 0 < m .to .entry .cell =
-        placed-entry {s = s} (record { found = m .to-found }) (λ y. 0 < y .key → 0 < y .cell) (λ h. h) (all-map (λ y h n. h .0) (s .row) (row-range s v)) (omega arith) in
-        let next : firstOf (g .post) .key ≡ m .to .entry .key =
-        next-is b D k (dimensionAfter b D headEntry (g .pre) k) (g .pre) (g .post) (m .to)
-        (subst (λ r. Apart (headEntry ∷ r)) (g .splits) (slot.sound-apart s v)) other (sym (is .cell) ∙ held)
-        (subst (λ r. placeOf (m .to .entry .cell) (places b D r) ≡ some (m .to)) (g .splits) (m .to-found)) in
+        let held : slotCell s k ≡ m .to .node .cell = slot-leads absent (m .place) (m .found) (moved-hangs m) ∙ m .leads in
+        let other : 0 < m .to .node .cell =
+        placed-node {s = s} (record { found = m .to-found }) (λ y. 0 < y .key → 0 < y .cell) (λ h. h) (all-map (λ y h n. h .0) (s .row) (row-range s v)) (omega arith) in
+        let next : firstOf (g .post) .key ≡ m .to .node .key =
+        next-is b D k (dimensionAfter b D headNode (g .pre) k) (g .pre) (g .post) (m .to)
+        (subst (λ r. Apart (headNode ∷ r)) (g .splits) (slot.sound-apart s v)) other (sym (is .cell) ∙ held)
+        (subst (λ r. placeOf (m .to .node .cell) (places b D r) ≡ some (m .to)) (g .splits) (m .to-found)) in
         let some-c : slotCell s k ≡ 0 → ⊥ = (λ e. omega arith) in
-        let less = shared-less b D (m .to .entry .key) k (slot.dimensions-positive s v) (omega arith) in
-        let shares : slotShared s k ≡ shared b D (m .to .entry .key) k = is .shares ∙ ap (shared b D k) next ∙ shared-sym b D k (m .to .entry .key) in
+        let less = shared-less b D (m .to .node .key) k (slot.dimensions-positive s v) (omega arith) in
+        let shares : slotShared s k ≡ shared b D (m .to .node .key) k = is .shares ∙ ap (shared b D k) next ∙ shared-sym b D k (m .to .node .key) in
         let q : r .coordinate ≡ slotShared s k = (let c = m .coordinate in omega arith) in
         absent-is s k absent (m .from ∙ t .0) (m .number ∙ t .1) (m .at ∙ sym held) (rw (ne-eqb (slotCell s k) 0 some-c) q) looked-is
 
@@ -152,11 +154,11 @@ module _ (s : State) (v : Sound s) (k : ℕ) (least : 1 ≤ k) (most : k ≤ s .
     rested : Wanting (s .settings .base) (s .settings .dimensions) k (s .row) r ⊎ Moved (s .settings .base) (s .settings .dimensions) k (s .row) r
     rested = subst (λ t. Wanting (s .settings .base) (s .settings .dimensions) k (s .row) t ⊎ Moved (s .settings .base) (s .settings .dimensions) k (s .row) t) (sym is) (rests s v k least most)
 
-    wanting-key : (w : Wanting (s .settings .base) (s .settings .dimensions) k (s .row) r) → keyAt (picture s) (r .at) ≡ w .place .entry .key
-    wanting-key w = ap (keyAt (picture s)) (w .at) ∙ place-key v {x = w .place .entry .cell} (record { found = w .found })
+    wanting-key : (w : Wanting (s .settings .base) (s .settings .dimensions) k (s .row) r) → keyAt (picture s) (r .at) ≡ w .place .node .key
+    wanting-key w = ap (keyAt (picture s)) (w .at) ∙ place-key v {x = w .place .node .cell} (record { found = w .found })
 
-    moved-key : (m : Moved (s .settings .base) (s .settings .dimensions) k (s .row) r) → keyAt (picture s) (r .at) ≡ m .to .entry .key
-    moved-key m = ap (keyAt (picture s)) (m .at) ∙ place-key v {x = m .to .entry .cell} (record { found = m .to-found })
+    moved-key : (m : Moved (s .settings .base) (s .settings .dimensions) k (s .row) r) → keyAt (picture s) (r .at) ≡ m .to .node .key
+    moved-key m = ap (keyAt (picture s)) (m .at) ∙ place-key v {x = m .to .node .cell} (record { found = m .to-found })
 
     pub rest-below : keyAt (picture s) (r .at) < k → record { standing = false; parent = r .at; p = r .coordinate; c = 0; q = 0; looked = r .looked } ≡ foundOf s k
     rest-below h = at rested
@@ -188,8 +190,8 @@ module _ (s : State) (v : Sound s) (k : ℕ) (least : 1 ≤ k) (most : k ≤ s .
     rest-cell = at rested
       where
         at : Wanting (s .settings .base) (s .settings .dimensions) k (s .row) r ⊎ Moved (s .settings .base) (s .settings .dimensions) k (s .row) r → r .at < s .settings .cells
-        at (inl w) = omega (arith, w .at, placed-below v {x = w .place .entry .cell} (record { found = w .found }))
-        at (inr m) = omega (arith, m .at, placed-below v {x = m .to .entry .cell} (record { found = m .to-found }))
+        at (inl w) = omega (arith, w .at, placed-below v {x = w .place .node .cell} (record { found = w .found }))
+        at (inr m) = omega (arith, m .at, placed-below v {x = m .to .node .cell} (record { found = m .to-found }))
 
 -- On a list, as the code has it: r is where the walk rests, and `key` the key of the cell at hand
 

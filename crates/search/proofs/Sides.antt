@@ -1,4 +1,4 @@
--- A key between the smaller and the larger entries of a row, and its parent: the first of the head and the smaller ones that shares more
+-- A key between the smaller and the larger nodes of a row, and its parent: the first of the head and the smaller ones that shares more
 -- with the last of them than the key does. A place at which a walk rests is that one: what lies between it and the key shares more with
 -- it than the key does, what comes before it shares no more than its dimension.
 use mathlib.Core.Path.{_≡_, refl, sym, ap, ap₂, _∙_, subst}
@@ -9,35 +9,36 @@ use Prim.Native.Nat.{ℕ, suc, _≤_, _<_}
 use native.Mathlib.Omega.{arith}
 use lib.Dec.{leb, ltb}
 use borrow.Author.Tests.{lt-ltb, le-ltb}
+use Rattle.lists.specs.Lists.{those}
+use Rattle.lists.proofs.Those.{those-all, those-none, those-append}
+use Rattle.lists.proofs.All.{All, all-map, all-append, all-left, all-zip}
 use Rattle.meaning.specs.Keys.{shared}
-use Rattle.meaning.specs.Row.{Entry, headEntry, firstOf, Place, placesAfter, places, placeOf, those}
+use Rattle.meaning.specs.Row.{Node, headNode, firstOf, Place, placesAfter, places, placeOf}
 use Rattle.meaning.specs.State.{State}
 use Rattle.meaning.specs.Picture.{firstWith}
 use Rattle.meaning.specs.Operations.{lastOf}
-use Rattle.meaning.proofs.Order.{All, Asc, all-map, all-left, all-append, asc-above}
+use Rattle.meaning.proofs.Order.{Asc, asc-above}
 use Rattle.meaning.proofs.Keys.{shared-same, shared-less, ultra}
 use Rattle.meaning.proofs.State.{Sound, base-positive}
-use Rattle.meaning.proofs.Cells.{all-zip}
 use Rattle.meaning.proofs.Picture.{Told, told}
-use Rattle.meaning.proofs.Places.{asc-left, asc-smaller, asc-larger, places-entries, lastFrom}
-use Rattle.meaning.proofs.Put.{those-all, those-none}
+use Rattle.meaning.proofs.Places.{asc-left, asc-smaller, asc-larger, places-nodes, lastFrom}
 use Rattle.meaning.proofs.Parent.{dimensionAfter, parentAfter, placesFrom, all-last, last-least, last-greatest, first-skips, first-hits, first-front}
 use Rattle.meaning.proofs.Slot as slot
 use Rattle.search.specs.Found.{smallerThan, largerThan, slotNumber, slotParent, slotShared, slotCell}
 
--- The entries below k, at k and above it
+-- The nodes below k, at k and above it
 
-pub record Sides (k : ℕ) (row pre middle post : List Entry) : Type 0 where
+pub record Sides (k : ℕ) (row pre middle post : List Node) : Type 0 where
   pub splits : row ≡ pre ++ (middle ++ post)
   pub below : All (λ y. y .key < k) pre
   pub here : All (λ y. y .key ≡ k) middle
   pub above : All (λ y. k < y .key) post
 
 -- of a key that does not stand, and of one that does
-pub sides-absent : {k : ℕ} {row : List Entry} (g : slot.Gap k row) → Sides k row (g .pre) [] (g .post)
+pub sides-absent : {k : ℕ} {row : List Node} (g : slot.Gap k row) → Sides k row (g .pre) [] (g .post)
 sides-absent g = record { splits = g .splits; below = g .below; here = tt; above = g .above }
 
-pub sides-present : {k : ℕ} {row : List Entry} (pre : List Entry) (x : Entry) (post : List Entry) → Asc 0 row → x .key ≡ k → row ≡ pre ++ x ∷ post → Sides k row pre (x ∷ []) post
+pub sides-present : {k : ℕ} {row : List Node} (pre : List Node) (x : Node) (post : List Node) → Asc 0 row → x .key ≡ k → row ≡ pre ++ x ∷ post → Sides k row pre (x ∷ []) post
 sides-present pre x post a e split =
     let c = subst (Asc 0) split a in
     record {
@@ -47,31 +48,21 @@ sides-present pre x post a e split =
       above = subst (λ n. All (λ y. n < y .key) post) e (asc-larger 0 pre x post c);
     }
 
--- The next smaller and the next larger entry
+-- The next smaller and the next larger node
 
-those-append : (test : Entry → Bool) (xs ys : List Entry) → those test (xs ++ ys) ≡ those test xs ++ those test ys
-unfolding those
-those-append test [] ys = refl
-those-append test (x ∷ xs) ys = at (test x) (those-append test xs ys)
-  where
-    at : (t : Bool) → those test (xs ++ ys) ≡ those test xs ++ those test ys →
-        cond t (x ∷ those test (xs ++ ys)) (those test (xs ++ ys)) ≡ cond t (x ∷ those test xs) (those test xs) ++ those test ys
-    at true e = ap (λ (r : List Entry). x ∷ r) e
-    at false e = e
-
-last-of : (row : List Entry) → lastOf row ≡ lastFrom headEntry row
+last-of : (row : List Node) → lastOf row ≡ lastFrom headNode row
 unfolding lastOf lastFrom
 last-of [] = refl
 last-of (x ∷ row) = from x row
   where
-    from : (x : Entry) (row : List Entry) → lastOf (x ∷ row) ≡ lastFrom x row
+    from : (x : Node) (row : List Node) → lastOf (x ∷ row) ≡ lastFrom x row
     from x [] = refl
     from x (y ∷ row) = from y row
 
-module _ {k : ℕ} {row pre middle post : List Entry} (g : Sides k row pre middle post) where
-  pub smaller-is : smallerThan k row ≡ lastFrom headEntry pre
+module _ {k : ℕ} {row pre middle post : List Node} (g : Sides k row pre middle post) where
+  pub smaller-is : smallerThan k row ≡ lastFrom headNode pre
   smaller-is =
-      let test : Entry → Bool = λ x. ltb (x .key) k in
+      let test : Node → Bool = λ x. ltb (x .key) k in
       ap (λ r. lastOf (those test r)) (g .splits)
       ∙ ap lastOf
       (those-append test pre (middle ++ post)
@@ -83,7 +74,7 @@ module _ {k : ℕ} {row pre middle post : List Entry} (g : Sides k row pre middl
 
   pub larger-is : largerThan k row ≡ firstOf post
   larger-is =
-      let test : Entry → Bool = λ x. ltb k (x .key) in
+      let test : Node → Bool = λ x. ltb k (x .key) in
       ap (λ r. firstOf (those test r)) (g .splits)
       ∙ ap firstOf
       (those-append test pre (middle ++ post)
@@ -93,32 +84,32 @@ module _ {k : ℕ} {row pre middle post : List Entry} (g : Sides k row pre middl
 
 -- The slot of k
 
--- the parts of what the search answers, by the entries below k and above it
-pub record SlotAt (s : State) (k : ℕ) (pre post : List Entry) : Type 0 where
-  pub number : slotNumber s k ≡ dimensionAfter (s .settings .base) (s .settings .dimensions) headEntry pre k
-  pub parent : slotParent s k ≡ parentAfter (s .settings .base) (s .settings .dimensions) headEntry pre k
+-- the parts of what the search answers, by the nodes below k and above it
+pub record SlotAt (s : State) (k : ℕ) (pre post : List Node) : Type 0 where
+  pub number : slotNumber s k ≡ dimensionAfter (s .settings .base) (s .settings .dimensions) headNode pre k
+  pub parent : slotParent s k ≡ parentAfter (s .settings .base) (s .settings .dimensions) headNode pre k
   pub shares : slotShared s k ≡ shared (s .settings .base) (s .settings .dimensions) k (firstOf post .key)
-  pub cell : slotCell s k ≡ slot.cellAfter (s .settings .base) (s .settings .dimensions) k (dimensionAfter (s .settings .base) (s .settings .dimensions) headEntry pre k) post
+  pub cell : slotCell s k ≡ slot.cellAfter (s .settings .base) (s .settings .dimensions) k (dimensionAfter (s .settings .base) (s .settings .dimensions) headNode pre k) post
 
--- the last entry below k shares less with k than with itself
-pub last-below : (b D k : ℕ) (pre : List Entry) → 0 < D → 0 < k → All (λ y. y .key < k) pre →
-    dimensionAfter b D headEntry pre k < shared b D (lastFrom headEntry pre .key) (lastFrom headEntry pre .key)
+-- the last node below k shares less with k than with itself
+pub last-below : (b D k : ℕ) (pre : List Node) → 0 < D → 0 < k → All (λ y. y .key < k) pre →
+    dimensionAfter b D headNode pre k < shared b D (lastFrom headNode pre .key) (lastFrom headNode pre .key)
 last-below b D k pre deep h l =
-    let A = lastFrom headEntry pre in
-    let low : A .key < k = all-last (λ z. z .key < k) headEntry pre h l in
+    let A = lastFrom headNode pre in
+    let low : A .key < k = all-last (λ z. z .key < k) headNode pre h l in
     omega (arith, shared-same b D (A .key), shared-less b D (A .key) k deep (omega arith))
 
-pub slot-at : (s : State) → Sound s → (k : ℕ) → 0 < k → {pre middle post : List Entry} → Sides k (s .row) pre middle post → SlotAt s k pre post
+pub slot-at : (s : State) → Sound s → (k : ℕ) → 0 < k → {pre middle post : List Node} → Sides k (s .row) pre middle post → SlotAt s k pre post
 slot-at s v k h {pre} {middle} {post} g =
     record {
       number = number;
       parent =
-          ap₂ (λ key n. firstWith b D key (suc n) (headEntry ∷ s .row)) (ap (λ y. y .key) (smaller-is g)) number
-          ∙ ap (λ row. firstWith b D (lastFrom headEntry pre .key) (suc (dimensionAfter b D headEntry pre k)) (headEntry ∷ row)) (g .splits)
-          ∙ first-front b D (lastFrom headEntry pre .key) (suc (dimensionAfter b D headEntry pre k)) headEntry pre (middle ++ post)
+          ap₂ (λ key n. firstWith b D key (suc n) (headNode ∷ s .row)) (ap (λ y. y .key) (smaller-is g)) number
+          ∙ ap (λ row. firstWith b D (lastFrom headNode pre .key) (suc (dimensionAfter b D headNode pre k)) (headNode ∷ row)) (g .splits)
+          ∙ first-front b D (lastFrom headNode pre .key) (suc (dimensionAfter b D headNode pre k)) headNode pre (middle ++ post)
           (last-below b D k pre (slot.dimensions-positive s v) h (g .below));
       shares = ap (λ y. shared b D k (y .key)) (larger-is g);
-      cell = ap₂ (λ n y. cond (leb n (shared b D k (y .key))) (y .cell) 0) number (larger-is g) ∙ held (dimensionAfter b D headEntry pre k) post;
+      cell = ap₂ (λ n y. cond (leb n (shared b D k (y .key))) (y .cell) 0) number (larger-is g) ∙ held (dimensionAfter b D headNode pre k) post;
     }
   where
     b : ℕ
@@ -127,47 +118,47 @@ slot-at s v k h {pre} {middle} {post} g =
     D : ℕ
     D = s .settings .dimensions
 
-    number : slotNumber s k ≡ dimensionAfter b D headEntry pre k
+    number : slotNumber s k ≡ dimensionAfter b D headNode pre k
     number = ap (λ y. shared b D (y .key) k) (smaller-is g)
 
     none-held : (t : Bool) → _≡_ {A = ℕ} (cond t 0 0) 0
     none-held true = refl
     none-held false = refl
 
-    held : (p : ℕ) (post : List Entry) → cond (leb p (shared b D k (firstOf post .key))) (firstOf post .cell) 0 ≡ slot.cellAfter b D k p post
+    held : (p : ℕ) (post : List Node) → cond (leb p (shared b D k (firstOf post .key))) (firstOf post .cell) 0 ≡ slot.cellAfter b D k p post
     held p [] = none-held (leb p (shared b D k 0))
     held p (x ∷ post) = refl
 
 -- Where k hangs
 
--- k would hang from place p: p's link of the number of coordinates that it shares with k is one of its own, and every later entry below k
+-- k would hang from place p: p's link of the number of coordinates that it shares with k is one of its own, and every later node below k
 -- shares more with it
 pub record Hangs (b D k : ℕ) (p : Place) : Type 0 where
-  pub below : p .entry .key < k
-  pub dimension : p .dimension ≤ shared b D (p .entry .key) k
-  pub between : All (λ y. y .key < k → shared b D (p .entry .key) k < shared b D (p .entry .key) (y .key)) (p .later)
+  pub below : p .node .key < k
+  pub dimension : p .dimension ≤ shared b D (p .node .key) k
+  pub between : All (λ y. y .key < k → shared b D (p .node .key) k < shared b D (p .node .key) (y .key)) (p .later)
 
 module _ (b D : ℕ) (pos : 0 < b) (deep : 0 < D) where
-  -- a place shares no more with an earlier entry than its dimension
-  dimension-least : (y : Entry) (e : ℕ) (row : List Entry) → Asc (y .key) row → All (λ p. shared b D (y .key) (p .entry .key) ≤ p .dimension) (placesAfter b D y e row)
+  -- a place shares no more with an earlier node than its dimension
+  dimension-least : (y : Node) (e : ℕ) (row : List Node) → Asc (y .key) row → All (λ p. shared b D (y .key) (p .node .key) ≤ p .dimension) (placesAfter b D y e row)
   unfolding placesAfter
   dimension-least y e [] a = tt
   dimension-least y e (z ∷ row) a =
       let f = shared b D (y .key) (z .key) in
       let h = a .0 in (
         omega arith,
-        all-zip (λ p l g. omega (arith, l, ultra b D (y .key) (z .key) (p .entry .key) pos (omega arith) (omega arith))) (placesAfter b D z f row)
-            (dimension-least z f row (a .1)) (places-entries (λ x. z .key < x .key) b D z f row (asc-above (z .key) row (a .1))),
+        all-zip (λ p l g. omega (arith, l, ultra b D (y .key) (z .key) (p .node .key) pos (omega arith) (omega arith))) (placesAfter b D z f row)
+            (dimension-least z f row (a .1)) (places-nodes (λ x. z .key < x .key) b D z f row (asc-above (z .key) row (a .1))),
       )
 
-  -- where y and the entries `pre` are below k and the `rest` is not, each place from which k would hang is the parent
+  -- where y and the nodes `pre` are below k and the `rest` is not, each place from which k would hang is the parent
   hung :
-      (k : ℕ) (w : Entry) (f : ℕ) (y : Entry) (e : ℕ) (pre rest : List Entry) → y .key < k → Asc (y .key) (pre ++ rest) → All (λ z. z .key < k) pre → All (λ z. k ≤ z .key) rest →
-      All (λ p. Hangs b D k p → (dimensionAfter b D y pre k ≡ shared b D (p .entry .key) k) × (parentAfter b D y pre k ≡ p .entry .cell)) (placesFrom b D w f y e (pre ++ rest))
+      (k : ℕ) (w : Node) (f : ℕ) (y : Node) (e : ℕ) (pre rest : List Node) → y .key < k → Asc (y .key) (pre ++ rest) → All (λ z. z .key < k) pre → All (λ z. k ≤ z .key) rest →
+      All (λ p. Hangs b D k p → (dimensionAfter b D y pre k ≡ shared b D (p .node .key) k) × (parentAfter b D y pre k ≡ p .node .cell)) (placesFrom b D w f y e (pre ++ rest))
   unfolding placesAfter lastFrom
   hung k w f y e [] rest h a l g = (
     λ t. (refl, first-hits b D (y .key) (suc (shared b D (y .key) k)) y [] (omega (arith, shared-same b D (y .key), shared-less b D (y .key) k deep (omega arith)))),
-    all-map (λ p m t. absurd (let low = t .below in omega arith)) (placesAfter b D y e rest) (places-entries (λ z. k ≤ z .key) b D y e rest g),
+    all-map (λ p m t. absurd (let low = t .below in omega arith)) (placesAfter b D y e rest) (places-nodes (λ z. k ≤ z .key) b D y e rest g),
   )
   hung k w f y e (z ∷ pre) rest h a l g = (
     λ t.
@@ -178,10 +169,10 @@ module _ (b D : ℕ) (pos : 0 < b) (deep : 0 < D) where
         (λ p m ih t. past p m t (ih t)) (placesAfter b D y e later) known (hung k y e z (shared b D (y .key) (z .key)) pre rest (l .0) (a .1) (l .1) g),
   )
     where
-      A : Entry
+      A : Node
       A = lastFrom z pre
 
-      later : List Entry
+      later : List Node
       later = (z ∷ pre) ++ rest
 
       low : A .key < k
@@ -190,14 +181,14 @@ module _ (b D : ℕ) (pos : 0 < b) (deep : 0 < D) where
       ascends : Asc (y .key) (z ∷ pre)
       ascends = asc-left (y .key) (z ∷ pre) rest a
 
-      Nearer : Entry → Type 0
+      Nearer : Node → Type 0
       Nearer x = x .key < k → shared b D (y .key) k < shared b D (y .key) (x .key)
 
-      Is : List Entry → Place → Type 0
-      Is row p = (shared b D (A .key) k ≡ shared b D (p .entry .key) k) × (firstWith b D (A .key) (suc (shared b D (A .key) k)) row ≡ p .entry .cell)
+      Is : List Node → Place → Type 0
+      Is row p = (shared b D (A .key) k ≡ shared b D (p .node .key) k) × (firstWith b D (A .key) (suc (shared b D (A .key) k)) row ≡ p .node .cell)
 
       Known : Place → Type 0
-      Known p = (y .key < p .entry .key) × ((p .entry .key < k → p .entry .key ≤ A .key) × (shared b D (y .key) (p .entry .key) ≤ p .dimension))
+      Known p = (y .key < p .node .key) × ((p .node .key < k → p .node .key ≤ A .key) × (shared b D (y .key) (p .node .key) ≤ p .dimension))
 
       reach : All (λ x. x .key < k → x .key ≤ A .key) later
       reach =
@@ -206,24 +197,24 @@ module _ (b D : ℕ) (pos : 0 < b) (deep : 0 < D) where
 
       known : All Known (placesAfter b D y e later)
       known =
-          all-zip (λ p m n. (m, n)) (placesAfter b D y e later) (places-entries (λ x. y .key < x .key) b D y e later (asc-above (y .key) later a))
-          (all-zip (λ p m n. (m, n)) (placesAfter b D y e later) (places-entries (λ x. x .key < k → x .key ≤ A .key) b D y e later reach) (dimension-least y e later a))
+          all-zip (λ p m n. (m, n)) (placesAfter b D y e later) (places-nodes (λ x. y .key < x .key) b D y e later (asc-above (y .key) later a))
+          (all-zip (λ p m n. (m, n)) (placesAfter b D y e later) (places-nodes (λ x. x .key < k → x .key ≤ A .key) b D y e later reach) (dimension-least y e later a))
 
       -- y comes before the place p, and so shares too little
       past : (p : Place) → Known p → Hangs b D k p → Is (z ∷ pre) p → Is (y ∷ z ∷ pre) p
       past p m t is =
           let after = m .0 in
-          let u = ultra b D (y .key) (p .entry .key) (A .key) pos (omega arith) (m .1 .0 (t .below)) in
+          let u = ultra b D (y .key) (p .node .key) (A .key) pos (omega arith) (m .1 .0 (t .below)) in
           (is .0, first-skips b D (A .key) (suc (shared b D (A .key) k)) y (z ∷ pre) (omega (arith, u, is .0, m .1 .1, t .dimension)) ∙ is .1)
 
 -- In a state in order, a place from which k would hang is the parent of k's slot, and its link that is wanted has the slot's number.
-pub hung-at : (s : State) → Sound s → (k : ℕ) → 0 < k → {pre middle post : List Entry} → Sides k (s .row) pre middle post → (p : Place) →
-    placeOf (p .entry .cell) (places (s .settings .base) (s .settings .dimensions) (s .row)) ≡ some p → Hangs (s .settings .base) (s .settings .dimensions) k p →
-    (dimensionAfter (s .settings .base) (s .settings .dimensions) headEntry pre k ≡ shared (s .settings .base) (s .settings .dimensions) (p .entry .key) k)
-    × (parentAfter (s .settings .base) (s .settings .dimensions) headEntry pre k ≡ p .entry .cell)
+pub hung-at : (s : State) → Sound s → (k : ℕ) → 0 < k → {pre middle post : List Node} → Sides k (s .row) pre middle post → (p : Place) →
+    placeOf (p .node .cell) (places (s .settings .base) (s .settings .dimensions) (s .row)) ≡ some p → Hangs (s .settings .base) (s .settings .dimensions) k p →
+    (dimensionAfter (s .settings .base) (s .settings .dimensions) headNode pre k ≡ shared (s .settings .base) (s .settings .dimensions) (p .node .key) k)
+    × (parentAfter (s .settings .base) (s .settings .dimensions) headNode pre k ≡ p .node .cell)
 unfolding places
 hung-at s v k h {pre} {middle} {post} g p found t =
-    subst (Told Is (p .entry .cell)) found (told Is (p .entry .cell) (places b D (s .row)) (subst (λ row. All Is (places b D row)) (sym (g .splits)) all)) .1 t
+    subst (Told Is (p .node .cell)) found (told Is (p .node .cell) (places b D (s .row)) (subst (λ row. All Is (places b D row)) (sym (g .splits)) all)) .1 t
   where
     b : ℕ
     b = s .settings .base
@@ -232,9 +223,9 @@ hung-at s v k h {pre} {middle} {post} g p found t =
     D = s .settings .dimensions
 
     Is : Place → Type 0
-    Is q = Hangs b D k q → (dimensionAfter b D headEntry pre k ≡ shared b D (q .entry .key) k) × (parentAfter b D headEntry pre k ≡ q .entry .cell)
+    Is q = Hangs b D k q → (dimensionAfter b D headNode pre k ≡ shared b D (q .node .key) k) × (parentAfter b D headNode pre k ≡ q .node .cell)
 
     all : All Is (places b D (pre ++ (middle ++ post)))
     all =
-        hung b D (base-positive s v) (slot.dimensions-positive s v) k headEntry 0 headEntry 0 pre (middle ++ post) h (subst (Asc 0) (g .splits) (v .ascends)) (g .below)
+        hung b D (base-positive s v) (slot.dimensions-positive s v) k headNode 0 headNode 0 pre (middle ++ post) h (subst (Asc 0) (g .splits) (v .ascends)) (g .below)
         (all-append (λ z. k ≤ z .key) middle post (all-map (λ z m. omega arith) middle (g .here)) (all-map (λ z m. omega arith) post (g .above)))

@@ -1,4 +1,4 @@
--- What the search answers of a key, for insert and finish. Of one that stands: its entry's cell and that cell's parent in the settled
+-- What the search answers of a key, for insert and finish. Of one that stands: its node's cell and that cell's parent in the settled
 -- shape. Of one that does not: the slot in which an insert puts it. Either way the cells named are standing ones.
 use mathlib.Core.Path.{_≡_, refl, sym, ap, _∙_, subst}
 use mathlib.Core.Bool.{true, false, cond, false≢true}
@@ -10,19 +10,21 @@ use native.Mathlib.Omega.{arith}
 use lib.Dec.{eqb}
 use lib.ListN.{length}
 use borrow.Author.Tests.{eq-eqb, ne-eqb}
-use Rattle.meaning.specs.Row.{Entry, headEntry, Place, places, placeOf, entryAt}
-use Rattle.meaning.specs.State.{State, occurrences}
-use Rattle.meaning.specs.Operations.{looked, parentIn, revivedEntry, Slot, slotFor}
-use Rattle.meaning.proofs.Order.{All, Asc, all-left, all-right}
+use Rattle.lists.specs.Lists.{occurrences}
+use Rattle.lists.proofs.Occurrences.{occurrences-between}
+use Rattle.lists.proofs.All.{All, all-left, all-right, all-of-map, all-splits}
+use Rattle.meaning.specs.Row.{Node, headNode, Place, places, placeOf, nodeAt}
+use Rattle.meaning.specs.State.{State}
+use Rattle.meaning.specs.Operations.{looked, parentIn, revivedNode, Slot, slotFor}
+use Rattle.meaning.proofs.Order.{Asc}
 use Rattle.meaning.proofs.Keys.{shared-less}
 use Rattle.meaning.proofs.State.{Sound, base-positive}
-use Rattle.meaning.proofs.Cells.{all-of-map}
-use Rattle.meaning.proofs.Places.{all-splits, occurrences-between, lastFrom, onCell}
+use Rattle.meaning.proofs.Places.{lastFrom, onCell}
 use Rattle.meaning.proofs.Parent.{dimensionAfter, parentAfter, Apart, all-last, apart-before, place-at, first-among, parent-is}
 use Rattle.meaning.proofs.Slot as slot
-use Rattle.meaning.proofs.KeepsInsert.{entry-split, slot-first, revived-parent}
-use Rattle.meaning.proofs.SentencesCells.{Placed, occurs-placed, placed-below}
-use Rattle.meaning.proofs.BookRow.{entry-key, entry-has}
+use Rattle.meaning.proofs.KeepsInsert.{node-split, slot-first, revived-parent}
+use Rattle.meaning.proofs.Placed.{Placed, occurs-placed, placed-below}
+use Rattle.meaning.proofs.BookRow.{node-key, node-has}
 use Rattle.search.specs.Found.{slotNumber, slotParent, slotShared, slotCell, foundAt, foundOf}
 use Rattle.search.specs.declared.Found.{Found}
 use Rattle.search.proofs.Sides.{Sides, sides-absent, sides-present, last-below, SlotAt, slot-at}
@@ -42,28 +44,28 @@ all-stand s =
 pub stands-below : {s : State} → Sound s → (c : ℕ) → Stands s c → c < s .settings .cells
 stands-below {s} v c h = placed-below v (occurs-placed s c h .1)
 
--- the place of the entry with a key
-pub entry-placed : {s : State} → Sound s → (k : ℕ) (x : Entry) → entryAt k (s .row) ≡ some x → (p : Place) × (Placed s (x .cell) p × (p .entry ≡ x))
+-- the place of the node with a key
+pub node-placed : {s : State} → Sound s → (k : ℕ) (x : Node) → nodeAt k (s .row) ≡ some x → (p : Place) × (Placed s (x .cell) p × (p .node ≡ x))
 unfolding places
-entry-placed {s} v k x e =
+node-placed {s} v k x e =
     let b = s .settings .base in
     let D = s .settings .dimensions in
-    let split = entry-split k x (s .row) e in
+    let split = node-split k x (s .row) e in
     let pre = split .0 in
     let post = split .1 in
-    let o = apart-before (headEntry ∷ pre) x post (subst (λ r. Apart (headEntry ∷ r)) (split .2) (slot.sound-apart s v)) in
-    let found = place-at b D headEntry 0 headEntry 0 pre x post o in
+    let o = apart-before (headNode ∷ pre) x post (subst (λ r. Apart (headNode ∷ r)) (split .2) (slot.sound-apart s v)) in
+    let found = place-at b D headNode 0 headNode 0 pre x post o in
     (_, (record { found = ap (λ r. placeOf (x .cell) (places b D r)) (split .2) ∙ found }, refl))
 
 -- What is answered
 
--- of a key that stands, with entry x
-pub record Present (s : State) (k : ℕ) (x : Entry) (f : Found) : Type 0 where
-  pub entry : entryAt k (s .row) ≡ some x
+-- of a key that stands, with node x
+pub record Present (s : State) (k : ℕ) (x : Node) (f : Found) : Type 0 where
+  pub node : nodeAt k (s .row) ≡ some x
   pub standing : f .standing ≡ true
   pub c : f .c ≡ x .cell
   pub parent : f .parent ≡ parentIn s (x .cell) (s .row)
-  pub parent-revived : (value : ℕ) → f .parent ≡ parentIn s (x .cell) (map (onCell (x .cell) (revivedEntry value)) (s .row))
+  pub parent-revived : (value : ℕ) → f .parent ≡ parentIn s (x .cell) (map (onCell (x .cell) (revivedNode value)) (s .row))
   pub looked : f .looked ≡ looked s k
   pub parent-stands : Stands s (f .parent)
   pub c-stands : Stands s (f .c)
@@ -73,7 +75,7 @@ pub record Present (s : State) (k : ℕ) (x : Entry) (f : Found) : Type 0 where
 
 -- of a key that does not; c is 0, and with it q, where no cell has the slot
 pub record Absent (s : State) (k : ℕ) (f : Found) : Type 0 where
-  pub entry : entryAt k (s .row) ≡ none
+  pub node : nodeAt k (s .row) ≡ none
   pub standing : f .standing ≡ false
   pub looked : f .looked ≡ looked s k
   pub parent-stands : Stands s (f .parent)
@@ -93,25 +95,25 @@ pub record SlotFound (f : Found) (t : Slot) : Type 0 where
 
 module _ (s : State) (v : Sound s) (k : ℕ) (least : 1 ≤ k) where
   -- parent and number, of either
-  parent-stands : {pre middle post : List Entry} → Sides k (s .row) pre middle post → Stands s (slotParent s k)
+  parent-stands : {pre middle post : List Node} → Sides k (s .row) pre middle post → Stands s (slotParent s k)
   parent-stands {pre} {middle} {post} g =
       let b = s .settings .base in
       let D = s .settings .dimensions in
       let all = all-stand s in
       rw (slot-at s v k least g .parent)
-      (first-among b D (Stands s) (lastFrom headEntry pre .key) (suc (dimensionAfter b D headEntry pre k)) headEntry pre
+      (first-among b D (Stands s) (lastFrom headNode pre .key) (suc (dimensionAfter b D headNode pre k)) headNode pre
       (last-below b D k pre (slot.dimensions-positive s v) least (g .below)) (all .0)
       (all-left (λ x. Stands s (x .cell)) pre (middle ++ post) (subst (All (λ x. Stands s (x .cell))) (g .splits) (all .1))))
 
-  number-below : {pre middle post : List Entry} → Sides k (s .row) pre middle post → slotNumber s k < s .settings .dimensions
+  number-below : {pre middle post : List Node} → Sides k (s .row) pre middle post → slotNumber s k < s .settings .dimensions
   number-below {pre} g =
       let b = s .settings .base in
       let D = s .settings .dimensions in
-      let low : lastFrom headEntry pre .key < k = all-last (λ z. z .key < k) headEntry pre least (g .below) in
-      omega (arith, slot-at s v k least g .number, shared-less b D (lastFrom headEntry pre .key) k (slot.dimensions-positive s v) (omega arith))
+      let low : lastFrom headNode pre .key < k = all-last (λ z. z .key < k) headNode pre least (g .below) in
+      omega (arith, slot-at s v k least g .number, shared-less b D (lastFrom headNode pre .key) k (slot.dimensions-positive s v) (omega arith))
 
-  -- what has the slot, where k does not stand: the entry of next larger key, if any
-  slot-holds : (pre post : List Entry) → SlotAt s k pre post → All (λ y. k < y .key) post → All (λ x. Stands s (x .cell)) post → Dec (slotCell s k ≡ 0) →
+  -- what has the slot, where k does not stand: the node of next larger key, if any
+  slot-holds : (pre post : List Node) → SlotAt s k pre post → All (λ y. k < y .key) post → All (λ x. Stands s (x .cell)) post → Dec (slotCell s k ≡ 0) →
       Stands s (slotCell s k) × (cond (eqb (slotCell s k) 0) 0 (slotShared s k) < s .settings .dimensions)
   slot-holds pre post t above all (yes e) =
       (subst (Stands s) (sym e) (all-stand s .0), rw (eq-eqb (slotCell s k) 0 e) (slot.dimensions-positive s v))
@@ -121,23 +123,23 @@ module _ (s : State) (v : Sound s) (k : ℕ) (least : 1 ≤ k) where
       let D = s .settings .dimensions in
       let h = above .0 in
       let less = shared-less b D k (x .key) (slot.dimensions-positive s v) (omega arith) in (
-        subst (Stands s) (sym (t .cell ∙ slot-first b D k (dimensionAfter b D headEntry pre k) (x ∷ post) (λ e. ne (t .cell ∙ e)) .1)) (all .0),
+        subst (Stands s) (sym (t .cell ∙ slot-first b D k (dimensionAfter b D headNode pre k) (x ∷ post) (λ e. ne (t .cell ∙ e)) .1)) (all .0),
         rw (ne-eqb (slotCell s k) 0 ne, t .shares) less,
       )
 
-  pub present-at : (x : Entry) → entryAt k (s .row) ≡ some x → Present s k x (foundAt s k (some x))
+  pub present-at : (x : Node) → nodeAt k (s .row) ≡ some x → Present s k x (foundAt s k (some x))
   unfolding foundAt
   present-at x e =
-      let split = entry-split k x (s .row) e in
+      let split = node-split k x (s .row) e in
       let pre = split .0 in
       let post = split .1 in
-      let key = entry-key k x (s .row) e in
+      let key = node-key k x (s .row) e in
       let g = sides-present pre x post (v .ascends) key (split .2) in
-      let parent = slot-at s v k least g .parent ∙ ap (parentAfter (s .settings .base) (s .settings .dimensions) headEntry pre) (sym key) in
+      let parent = slot-at s v k least g .parent ∙ ap (parentAfter (s .settings .base) (s .settings .dimensions) headNode pre) (sym key) in
       let stands = parent-stands g in
-      let c-stands = entry-has (λ y. Stands s (y .cell)) k x (s .row) e (all-stand s .1) in
+      let c-stands = node-has (λ y. Stands s (y .cell)) k x (s .row) e (all-stand s .1) in
       record {
-        entry = e;
+        node = e;
         standing = refl;
         c = refl;
         parent =
@@ -145,7 +147,7 @@ module _ (s : State) (v : Sound s) (k : ℕ) (least : 1 ≤ k) where
             ∙ sym
             (ap (parentIn s (x .cell)) (split .2)
             ∙ parent-is s pre x post (base-positive s v) (slot.dimensions-positive s v) (subst (Asc 0) (split .2) (v .ascends))
-            (subst (λ r. Apart (headEntry ∷ r)) (split .2) (slot.sound-apart s v)));
+            (subst (λ r. Apart (headNode ∷ r)) (split .2) (slot.sound-apart s v)));
         parent-revived = λ value. parent ∙ sym (revived-parent s x value v pre post (split .2));
         looked = refl;
         parent-stands = stands;
@@ -155,7 +157,7 @@ module _ (s : State) (v : Sound s) (k : ℕ) (least : 1 ≤ k) where
         p-below = number-below g;
       }
 
-  pub absent-at : entryAt k (s .row) ≡ none → Absent s k (foundAt s k none)
+  pub absent-at : nodeAt k (s .row) ≡ none → Absent s k (foundAt s k none)
   unfolding foundAt
   absent-at e =
       let gap = slot.gap k 0 (s .row) (v .ascends) e in
@@ -165,7 +167,7 @@ module _ (s : State) (v : Sound s) (k : ℕ) (least : 1 ≤ k) where
       let all = all-right (λ x. Stands s (x .cell)) (gap .pre) (gap .post) (subst (All (λ x. Stands s (x .cell))) (gap .splits) (all-stand s .1)) in
       let held = slot-holds (gap .pre) (gap .post) t (gap .above) all (ℕ-discrete (slotCell s k) 0) in
       record {
-        entry = e;
+        node = e;
         standing = refl;
         looked = refl;
         parent-stands = stands;
@@ -178,7 +180,7 @@ module _ (s : State) (v : Sound s) (k : ℕ) (least : 1 ≤ k) where
       }
 
   -- the slot in which an insert puts the key
-  pub slot-at-absent : entryAt k (s .row) ≡ none → 0 < length (s .free) → SlotFound (foundAt s k none) (slotFor s k)
+  pub slot-at-absent : nodeAt k (s .row) ≡ none → 0 < length (s .free) → SlotFound (foundAt s k none) (slotFor s k)
   unfolding foundAt
   slot-at-absent e room =
       let gap = slot.gap k 0 (s .row) (v .ascends) e in
@@ -195,24 +197,24 @@ module _ (s : State) (v : Sound s) (k : ℕ) (least : 1 ≤ k) where
 -- the same of an answer of the search, by whether the key stands
 
 module _ {s : State} (v : Sound s) {k : ℕ} (least : 1 ≤ k) {f : Found} (is : f ≡ foundOf s k) where
-  pub found-standing : f .standing ≡ true → (x : Entry) × Present s k x f
+  pub found-standing : f .standing ≡ true → (x : Node) × Present s k x f
   unfolding foundOf foundAt
-  found-standing t = at (entryAt k (s .row)) refl
+  found-standing t = at (nodeAt k (s .row)) refl
     where
-      at : (o : Option Entry) → entryAt k (s .row) ≡ o → (x : Entry) × Present s k x f
+      at : (o : Option Node) → nodeAt k (s .row) ≡ o → (x : Node) × Present s k x f
       at none e = absurd (let q : f ≡ foundAt s k none = is ∙ ap (foundAt s k) e in let z : false ≡ true = sym (ap (λ g. g .standing) q) ∙ t in false≢true z)
       at (some x) e = (x, subst (Present s k x) (sym (is ∙ ap (foundAt s k) e)) (present-at s v k least x e))
 
   pub found-missing : f .standing ≡ false → Absent s k f
   unfolding foundOf foundAt
-  found-missing t = at (entryAt k (s .row)) refl
+  found-missing t = at (nodeAt k (s .row)) refl
     where
-      at : (o : Option Entry) → entryAt k (s .row) ≡ o → Absent s k f
+      at : (o : Option Node) → nodeAt k (s .row) ≡ o → Absent s k f
       at none e = subst (Absent s k) (sym (is ∙ ap (foundAt s k) e)) (absent-at s v k least e)
       at (some x) e = absurd (let q : f ≡ foundAt s k (some x) = is ∙ ap (foundAt s k) e in let z : false ≡ true = sym t ∙ ap (λ g. g .standing) q in false≢true z)
 
   pub found-slot : f .standing ≡ false → 0 < length (s .free) → SlotFound f (slotFor s k)
   unfolding foundOf
   found-slot t room =
-      let e = found-missing t .entry in
+      let e = found-missing t .node in
       subst (λ g. SlotFound g (slotFor s k)) (sym (is ∙ ap (foundAt s k) e)) (slot-at-absent s v k least e room)

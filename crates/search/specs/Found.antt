@@ -5,18 +5,19 @@ use mathlib.Core.List.{List, _∷_}
 use mathlib.Core.Option.{Option, none, some}
 use Prim.Native.Nat.{ℕ, suc}
 use lib.Dec.{eqb, leb, ltb}
+use Rattle.lists.specs.Lists.{those}
 use Rattle.meaning.specs.Keys.{shared}
-use Rattle.meaning.specs.Row.{Entry, headEntry, firstOf, entryAt, those}
+use Rattle.meaning.specs.Row.{Node, headNode, firstOf, nodeAt}
 use Rattle.meaning.specs.State.{State}
 use Rattle.meaning.specs.Picture.{firstWith}
 use Rattle.meaning.specs.Operations.{looked, lastOf}
 use Rattle.search.specs.declared.Found.{Found}
 
 -- the standing cell of next smaller key than k (the head if there is no other), and the one of next larger key (the head if none)
-abbrev pub smallerThan : ℕ → List Entry → Entry
+abbrev pub smallerThan : ℕ → List Node → Node
 smallerThan k row = lastOf (those (λ x. ltb (x .key) k) row)
 
-abbrev pub largerThan : ℕ → List Entry → Entry
+abbrev pub largerThan : ℕ → List Node → Node
 largerThan k row = firstOf (those (λ x. ltb k (x .key)) row)
 
 -- The number p of the link by which k hangs, or would hang, from its parent: what k shares with the cell of next smaller key.
@@ -26,7 +27,7 @@ slotNumber s k = shared (s .settings .base) (s .settings .dimensions) (smallerTh
 -- The parent of k: the first standing cell that shares more than p coordinates with the cell of next smaller key.
 abbrev pub slotParent : State → ℕ → ℕ
 slotParent s k =
-    firstWith (s .settings .base) (s .settings .dimensions) (smallerThan k (s .row) .key) (suc (slotNumber s k)) (headEntry ∷ s .row)
+    firstWith (s .settings .base) (s .settings .dimensions) (smallerThan k (s .row) .key) (suc (slotNumber s k)) (headNode ∷ s .row)
 
 -- The coordinates that k shares with the cell of next larger key.
 abbrev pub slotShared : State → ℕ → ℕ
@@ -37,11 +38,11 @@ abbrev pub slotCell : State → ℕ → ℕ
 slotCell s k = cond (leb (slotNumber s k) (slotShared s k)) (largerThan k (s .row) .cell) 0
 
 -- A standing key has its own cell in the slot, and shares all D coordinates with it.
-unfoldable pub foundAt : State → ℕ → Option Entry → Found
+unfoldable pub foundAt : State → ℕ → Option Node → Found
 foundAt s k none =
     record { standing = false; parent = slotParent s k; p = slotNumber s k; c = slotCell s k; q = cond (eqb (slotCell s k) 0) 0 (slotShared s k); looked = looked s k }
 foundAt s k (some x) =
     record { standing = true; parent = slotParent s k; p = slotNumber s k; c = x .cell; q = s .settings .dimensions; looked = looked s k }
 
 unfoldable pub foundOf : State → ℕ → Found
-foundOf s k = foundAt s k (entryAt k (s .row))
+foundOf s k = foundAt s k (nodeAt k (s .row))

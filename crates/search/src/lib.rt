@@ -3,8 +3,9 @@
 ghost use mathlib.Core.Path.{_≡_};
 ghost use Prim.Native.Nat.{_≤_, _<_};
 ghost use Rattle.meaning.specs.Keys.{coordinates};
-ghost use Rattle.meaning.specs.Reading.{read, Listed};
-ghost use Rattle.meaning.specs.Walk.{rest};
+ghost use Rattle.meaning.specs.Reading.{read};
+ghost use Rattle.meaning.specs.Layer.Resting.{rest};
+ghost use Rattle.meaning.specs.Layer.Listed.{Listed};
 ghost use Rattle.search.specs.Found.{foundOf};
 use meaning::Rest;
 use meaning::Step;

@@ -12,7 +12,7 @@ use Rattle.settings.specs.Checked.{settingsOf, checkedOf}
 use Rattle.settings.specs.declared.Settings.{Settings}
 use Rattle.settings.specs.declared.Checked.{Checked}
 use Rattle.settings.specs.declared.Checked.the-variants.{Accepted, OutOfRange}
-use Rattle.settings.proofs.Laws.{ranges}
+use Rattle.settings.proofs.Numbers.{ranges}
 use Rattle.meaning.specs.declared.Answer.{Answer}
 use Rattle.meaning.specs.Refusals.{answer, outOfRange, Meets}
 use Rattle.meaning.specs.Operations.{setUpOut}

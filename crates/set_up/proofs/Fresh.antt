@@ -11,13 +11,14 @@ use lib.Dec.{eqb, leb, ltb, eqb·zero-suc, eqb·suc-zero}
 use borrow.Author.Tests.{eqb-true, eqb-false, eq-eqb, ne-eqb}
 use Rattle.settings.specs.Numbers.{cellWords, baseOf}
 use Rattle.settings.specs.Checked.{settingsOf}
+use Rattle.lists.specs.Lists.{numbersFrom, firstNumber}
 use Rattle.meaning.specs.Keys.{coordinates, shared}
 use Rattle.meaning.specs.Row.{headPlace, firstSharing, link, placesAfter, places, placeOf}
 use Rattle.meaning.specs.State.{positionKey}
-use Rattle.meaning.specs.Picture.{numbersFrom, firstNumber, standingWords, nextFree, freeWords, wordsOf, firstWith, pathWord, path, cells, picture}
+use Rattle.meaning.specs.Picture.{standingWords, nextFree, freeWords, wordsOf, firstWith, pathWord, path, cellPictures, picture}
 use Rattle.meaning.specs.Operations.{fresh}
 use Rattle.set_up.specs.Fresh.{zeros, freshFirst, freshMark, freshCell, freshCells, freshList}
-use Rattle.set_up.proofs.Laws.{zeros-both}
+use Rattle.set_up.proofs.Drawing.{zeros-both}
 
 either-zero : (t : Bool) → _≡_ {A = ℕ} (cond t 0 0) 0
 either-zero true = refl
@@ -88,8 +89,8 @@ unfolding flatMap numbersFrom
 flat-map-same f g i zero same = refl
 flat-map-same f g i (suc n) same = rw (same i (omega arith), flat-map-same f g (suc i) n (λ x h. same x (omega arith))) refl
 
-fresh-cells : (D K C : ℕ) → cells (fresh D K C) ≡ freshCells D C C
-unfolding cells fresh freshCells
+fresh-cells : (D K C : ℕ) → cellPictures (fresh D K C) ≡ freshCells D C C
+unfolding cellPictures fresh freshCells
 fresh-cells D K C = flat-map-same _ (freshCell D C) 0 C (λ x h. cell-words (baseOf D K) D C x (omega arith))
 
 -- The list

@@ -6,7 +6,7 @@ use lib.Dec.{eqb}
 use lib.ListN.{replicate}
 use Rattle.settings.specs.Numbers.{cellWords}
 use Rattle.settings.specs.declared.Settings.{Settings}
-use Rattle.meaning.specs.Picture.{numbersFrom}
+use Rattle.lists.specs.Lists.{numbersFrom}
 
 -- n words that are 0
 abbrev pub zeros : ℕ → List ℕ

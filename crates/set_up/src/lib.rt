@@ -16,7 +16,7 @@ fn write_cell(part: &mut [u32], first: u32, mark: u32)
     requires { ⌜ 3 ≤ length (now part) ⌝ }
     ensures { λ r. ⌜ now (part .exit) ≡ cellOf (length (now (part .entry))) first mark ⌝ }
 {
-    words::fill(part, 0);
+    lists::fill(part, 0);
     part[0] = first;
     part[2] = mark;
 }
@@ -77,7 +77,7 @@ fn draw(list: &mut [u32], s: Settings)
 {
     write_header(list, s);
     let end = words::HEADER_WORDS + s.dimensions as usize;
-    words::fill(&mut list[words::HEADER_WORDS..end], 0);
+    lists::fill(&mut list[words::HEADER_WORDS..end], 0);
     write_cells(list, s.dimensions, s.cells);
 }
 
@@ -87,10 +87,10 @@ pub fn set_up(d: u32, k: u32, c: u32, list: &mut [u32]) -> Answer
 {
     let checked = Settings::new(d, k, c);
     let Checked::Accepted(s) = checked else {
-        return meaning::refused(1);
+        return meaning::refused(meaning::OUT_OF_RANGE);
     };
     if list.len() != s.length() {
-        return meaning::refused(2);
+        return meaning::refused(meaning::WRONG_LENGTH);
     }
     draw(list, s);
     meaning::accepted(0, 0, 0)

@@ -1,3 +1,3 @@
 -- What holds of the base and of the length, and how a rule is shown of a table.
-pub mod Laws
+pub mod Numbers
 pub mod Table

@@ -1,13 +1,13 @@
--- A rule of a table is proved at all of its entries by one test that antt computes, one entry after the other.
+-- A rule of a table is proved at all of its nodes by one test that antt computes, one node after the other.
 use mathlib.Core.Path.{_≡_, _∙_, subst, sym}
 use mathlib.Core.Bool.{Bool, true, _&&_}
 use mathlib.Core.List.{List, [], _∷_}
 use Prim.Native.Nat.{ℕ, zero, suc, _+_, _<_}
 use native.Mathlib.Nat.{add-zero, zero-add, add-suc, suc-add, le-of-suc-le-suc, not-suc-le-zero}
 use lib.ListN.{length, getD}
-use Rattle.settings.proofs.Laws.{and-left, and-right}
+use Rattle.settings.proofs.Numbers.{and-left, and-right}
 
--- the test f passes at each entry of the list and its place, counted from i
+-- the test f passes at each node of the list and its place, counted from i
 abbrev pub every : (ℕ → ℕ → Bool) → ℕ → List ℕ → Bool
 every f i [] = true
 every f i (x ∷ xs) = f i x && every f (suc i) xs

@@ -1,5 +1,5 @@
 -- Each way out of a sweep has the outcome of the definition: what is left is the picture of the swept state, and the count is that of the
--- entries freed, whether all was paid before or not.
+-- nodes freed, whether all was paid before or not.
 use mathlib.Core.Path.{_≡_, refl, sym, ap, _∙_}
 use mathlib.Core.Bool.{Bool, true, false, false≢true, _||_}
 use mathlib.Core.List.{List, map}
@@ -9,11 +9,12 @@ use lib.ListN.{length, length-map, length-reverseAux}
 use Rattle.settings.specs.declared.Settings.{Settings}
 use Rattle.meaning.specs.State.{State}
 use Rattle.meaning.specs.Picture.{picture}
-use Rattle.meaning.specs.Reading.{read, Listed}
+use Rattle.meaning.specs.Reading.{read}
 use Rattle.meaning.specs.Refusals.{answer, accepted, Meets}
 use Rattle.meaning.specs.Operations.{owesFromFree, paid, withRow, deadFront, lastOf, freedBy, swept, sweepOut}
-use Rattle.meaning.specs.SweepStores.{finishAll}
+use Rattle.meaning.specs.Layer.SweepStores.{finishAll}
 use Rattle.meaning.specs.declared.Answer.{Answer}
+use Rattle.meaning.specs.Layer.Listed.{Listed}
 use Rattle.meaning.proofs.SweepWords.{swept-paid, swept-stays}
 use Rattle.meaning.proofs.Outcomes.{sweep-outcome}
 use Rattle.finish.proofs.Debts.{listed-owes}

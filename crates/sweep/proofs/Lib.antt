@@ -1,5 +1,5 @@
 -- The laws that the proofs of a sweep rest on.
-pub mod Laws
+pub mod Sweeping
 pub mod Seeking
 pub mod Lists
 pub mod Call

@@ -1,4 +1,4 @@
--- What a list gives a sweep. Its words are the picture of a state in order: going from the head passes every entry and ends, finishing keeps a
+-- What a list gives a sweep. Its words are the picture of a state in order: going from the head passes every node and ends, finishing keeps a
 -- list, and where nobody owes any more, the new position, its key and the cells to free are those of the definition.
 use mathlib.Core.Path.{_≡_, refl, sym, ap, _∙_, subst}
 use mathlib.Core.Bool.{false}
@@ -8,22 +8,24 @@ use native.Mathlib.Omega.{arith}
 use lib.ListN.{length, getD, replicate, length-map}
 use lib.Seq.{append-snoc}
 use Rattle.settings.specs.declared.Settings.{Settings}
+use Rattle.lists.proofs.Occurrences.{Distinct}
+use Rattle.lists.proofs.All.{All, all-map, all-mapped, all-at}
 use Rattle.meaning.specs.Keys.{coordinate, shared}
-use Rattle.meaning.specs.Row.{Entry, headEntry}
+use Rattle.meaning.specs.Row.{Node, headNode}
 use Rattle.meaning.specs.State.{State}
 use Rattle.meaning.specs.Picture.{picture}
-use Rattle.meaning.specs.Reading.{read, Listed}
+use Rattle.meaning.specs.Reading.{read}
 use Rattle.meaning.specs.Operations.{paid, finished, withRow, deadFront, fromLive, lastOf, freedBy, swept}
-use Rattle.meaning.specs.Stores.{finishWords}
-use Rattle.meaning.specs.SweepStores.{Target, finishAll, cellsBefore, dropFront}
-use Rattle.meaning.proofs.Order.{All, all-map}
+use Rattle.meaning.specs.Layer.Stores.{finishWords}
+use Rattle.meaning.specs.Layer.SweepStores.{Target, finishAll, cellsBefore, dropFront}
+use Rattle.meaning.specs.Layer.Listed.{Listed}
 use Rattle.meaning.proofs.State.{Sound, base-positive}
-use Rattle.meaning.proofs.Cells.{Distinct, free-length}
-use Rattle.meaning.proofs.Places.{all-at, all-mapped, lastFrom}
-use Rattle.meaning.proofs.Keeps.{cell-alone, cells-positive}
+use Rattle.meaning.proofs.Cells.{free-length}
+use Rattle.meaning.proofs.Places.{lastFrom}
+use Rattle.meaning.proofs.KeepsState.{cell-alone, cells-positive}
 use Rattle.meaning.proofs.KeepsFinish.{finished-sound}
 use Rattle.meaning.proofs.Reading.{read-of-picture, picture-is-list}
-use Rattle.meaning.proofs.SentencesCells.{place-key, place-coordinate, placed-below}
+use Rattle.meaning.proofs.Placed.{place-key, place-coordinate, placed-below}
 use Rattle.meaning.proofs.SentencesShape.{HasPlace, row-placed, key-below}
 use Rattle.meaning.proofs.PathNext.{wayTo, PathOf, head-on-way, way-next, way-end, way-on}
 use Rattle.meaning.proofs.SweepStores.{Dropping}
@@ -72,7 +74,7 @@ all-paid {ws} {s} h {left} e =
     }
 
 -- nobody owes
-unowing-all : (row : List Entry) → map paid row ≡ row → All (λ x. x .owes ≡ false) row
+unowing-all : (row : List Node) → map paid row ≡ row → All (λ x. x .owes ≡ false) row
 unowing-all row e = subst (All (λ x. x .owes ≡ false)) e (paid-owes-nothing row)
 
 -- Going from the head
@@ -100,7 +102,7 @@ reaches-over {cells = cells} e h a =
 
 module _ (t : State) (v : Sound t) where
   before-all :
-      (fuel : ℕ) (front later : List Entry) → t .row ≡ front ++ later → length later < fuel →
+      (fuel : ℕ) (front later : List Node) → t .row ≡ front ++ later → length later < fuel →
       cellsBefore fuel (picture t) 0 (wayTo t front) ≡ map (λ y. y .cell) later
   before-all zero front later split h = absurd (omega arith)
   before-all (suc fuel) front [] split h =
@@ -110,7 +112,7 @@ module _ (t : State) (v : Sound t) where
       let D = t .settings .dimensions in
       let here : PathOf t (wayTo t front) front (y ∷ later) = record { split = split; is = refl } in
       let other = cell-alone t v front y later split .standing in
-      before-past (picture t) D (picture-dimensions t) fuel 0 (wayTo t front) (y .cell) (shared b D (lastFrom headEntry front .key) (y .key))
+      before-past (picture t) D (picture-dimensions t) fuel 0 (wayTo t front) (y .cell) (shared b D (lastFrom headNode front .key) (y .key))
       (way-next v here) (λ e. omega arith)
       ∙ ap {B = List ℕ} (λ path. y .cell ∷ cellsBefore fuel (picture t) 0 path) (way-on v here .is)
       ∙ ap {B = List ℕ} (λ cells. y .cell ∷ cells)

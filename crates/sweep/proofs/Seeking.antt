@@ -6,13 +6,13 @@ use mathlib.Core.List.{List, [], _∷_}
 use Prim.Native.Nat.{ℕ, zero, suc, _<_}
 use native.Mathlib.Omega.{arith}
 use lib.Dec.{eqb}
-use lib.ListN.{length, getD, replicate}
+use lib.ListN.{length, replicate}
 use Rattle.settings.specs.declared.Settings.{Settings}
-use Rattle.meaning.specs.Words.{markAt}
-use Rattle.meaning.specs.Paths.{onward, NextCell, nextFrom}
-use Rattle.meaning.specs.SweepStores.{Target, targetFrom, cellsBefore}
+use Rattle.meaning.specs.Words.{markAt, dimensionsAt}
+use Rattle.meaning.specs.Layer.Paths.{onward, NextCell, nextFrom}
+use Rattle.meaning.specs.Layer.SweepStores.{Target, targetFrom, cellsBefore}
 use Rattle.meaning.proofs.SweepTarget.{target-end, target-live, target-dead, before-past}
-use Rattle.words.proofs.Laws.{shaped-dimensions}
+use Rattle.words.proofs.Shaped.{shaped-dimensions}
 use Rattle.paths.specs.declared.Path.{Path}
 use Rattle.paths.specs.declared.Reached.{Reached}
 use Rattle.paths.specs.Paths.{pathOf, PathIn, Walkable, NextIs}
@@ -28,10 +28,10 @@ target-more zero ws at h = absurd (omega arith)
 target-more (suc f) ws at h = go (eqb (next .cell) 0) (eqb (markAt ws (next .cell)) 1) h (target-more f ws there)
   where
     next : NextCell
-    next = nextFrom ws (at .path) (getD ws 0 0)
+    next = nextFrom ws (at .path) (dimensionsAt ws)
 
     there : Target
-    there = record { cell = next .cell; number = next .number; path = onward (getD ws 0 0) (at .path) (next .number) (next .cell) }
+    there = record { cell = next .cell; number = next .number; path = onward (dimensionsAt ws) (at .path) (next .number) (next .cell) }
 
     go : (none live : Bool) → length (cond none [] (next .cell ∷ cellsBefore f ws 0 (there .path))) < suc f →
         (length (cellsBefore f ws 0 (there .path)) < f → targetFrom (suc f) ws there ≡ targetFrom f ws there) →
@@ -42,7 +42,7 @@ target-more (suc f) ws at h = go (eqb (next .cell) 0) (eqb (markAt ws (next .cel
 
 -- One step, with as many cells allowed as before
 
-module _ (ws : List ℕ) (D : ℕ) (is-D : getD ws 0 0 ≡ D) where
+module _ (ws : List ℕ) (D : ℕ) (is-D : dimensionsAt ws ≡ D) where
   step-end : (C : ℕ) (at : Target) (e : ℕ) → 0 < C → nextFrom ws (at .path) D ≡ record { cell = 0; number = e } → targetFrom C ws at ≡ at
   step-end zero at e h next = absurd (omega arith)
   step-end (suc c) at e h next = target-end ws D is-D c at e next
@@ -85,7 +85,7 @@ module _ {ws : List ℕ} {s : Settings} (h : Walkable ws s) {at number : ℕ} {p
   abbrev here : Target
   here = record { cell = at; number = number; path = pathOf p }
 
-  is-D : getD ws 0 0 ≡ s .dimensions
+  is-D : dimensionsAt ws ≡ s .dimensions
   is-D = shaped-dimensions (h .shaped)
 
   pub seeking-end : r .cell ≡ 0 → record { cell = at; number = number; path = pathOf p } ≡ sweptTo ws s

@@ -4,10 +4,11 @@ use mathlib.Core.Bool.{Bool, false, _||_}
 use mathlib.Core.List.{List, map}
 use Prim.Native.Nat.{ℕ, zero, suc}
 use Rattle.settings.specs.declared.Settings.{Settings}
-use Rattle.meaning.specs.Reading.{read, Listed}
+use Rattle.meaning.specs.Reading.{read}
 use Rattle.meaning.specs.Operations.{owesFromFree, paid}
-use Rattle.meaning.specs.SweepStores.{headTarget, targetFrom}
-use Rattle.meaning.specs.SweepStores as stores
+use Rattle.meaning.specs.Layer.SweepStores.{headTarget, targetFrom}
+use Rattle.meaning.specs.Layer.SweepStores as stores
+use Rattle.meaning.specs.Layer.Listed.{Listed}
 use Rattle.paths.specs.Paths.{pathOf}
 use Rattle.free_between.specs.declared.Target.{Target}
 
@@ -16,7 +17,7 @@ unfoldable pub someOwesFrom : List ℕ → ℕ → ℕ → Bool
 someOwesFrom ws x zero = false
 someOwesFrom ws x (suc n) = owesFromFree ws x || someOwesFrom ws (suc x) n
 
--- a list on which nobody owes: paying changes no entry
+-- a list on which nobody owes: paying changes no node
 pub record Paid (ws : List ℕ) (s : Settings) : Type 0 where
   pub listed : Listed ws s
   pub unowing : map paid (read ws .row) ≡ read ws .row

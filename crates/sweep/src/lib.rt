@@ -2,10 +2,10 @@
 // head and it freed.
 ghost use mathlib.Core.Path.{_≡_};
 ghost use Prim.Native.Nat.{_-_};
-ghost use Rattle.meaning.specs.Reading.{Listed};
 ghost use Rattle.meaning.specs.Refusals.{Meets};
 ghost use Rattle.meaning.specs.Operations.{sweepOut};
-ghost use Rattle.meaning.specs.SweepStores.{finishAll};
+ghost use Rattle.meaning.specs.Layer.SweepStores.{finishAll};
+ghost use Rattle.meaning.specs.Layer.Listed.{Listed};
 ghost use Rattle.words.specs.Shaped.{Shaped};
 ghost use Rattle.paths.specs.Paths.{PathIn};
 ghost use Rattle.sweep.specs.Sweeping.{someOwesFrom, Paid, targetOf, sweptTo};
@@ -57,7 +57,7 @@ fn seek_target(list: &[u32], s: Settings) -> Target
                 path,
             };
         }
-        if words::word(list, s, next.cell, words::MARK) == 1 {
+        if words::word(list, s, next.cell, words::MARK) == words::LIVE {
             return Target {
                 cell: at,
                 number,

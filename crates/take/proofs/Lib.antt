@@ -1,2 +1,2 @@
 -- Going on from the position, and what a take leaves.
-pub mod Laws
+pub mod Taking

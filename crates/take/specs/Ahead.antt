@@ -5,7 +5,7 @@ use Prim.Native.Nat.{ℕ, _<_}
 use lib.ListN.{take, drop}
 use Rattle.settings.specs.Numbers.{headerWords}
 use Rattle.settings.specs.declared.Settings.{Settings}
-use Rattle.meaning.specs.Paths.{aheadFrom}
+use Rattle.meaning.specs.Layer.Paths.{aheadFrom}
 use Rattle.paths.specs.Paths.{pathOf, Formed}
 use Rattle.take.specs.declared.Ahead.{Ahead}
 

@@ -1,7 +1,7 @@
 // Take: from the position's path onward, past dead cells, to the least live key. "Links are untouched."
-ghost use Rattle.meaning.specs.Reading.{Listed};
 ghost use Rattle.meaning.specs.Refusals.{Meets};
 ghost use Rattle.meaning.specs.Operations.{takeOut};
+ghost use Rattle.meaning.specs.Layer.Listed.{Listed};
 ghost use Rattle.take.specs.Ahead.{FirstLive};
 use meaning::Answer;
 use paths::Path;
@@ -32,7 +32,7 @@ pub fn first_live(list: &[u32], s: Settings) -> Ahead
         }
         passed += 1;
         path = next.path;
-        if words::word(list, s, next.cell, words::MARK) == 1 {
+        if words::word(list, s, next.cell, words::MARK) == words::LIVE {
             return Ahead {
                 cell: next.cell,
                 passed,
@@ -49,12 +49,12 @@ pub fn take(list: &mut [u32], s: Settings) -> Answer
 {
     let ahead = first_live(list, s);
     if ahead.cell == 0 {
-        return meaning::refused_at(7, 0, ahead.passed);
+        return meaning::refused_at(meaning::NOTHING_LIVE, 0, ahead.passed);
     }
     let key = words::word(list, s, ahead.cell, words::KEY);
     let value = words::word(list, s, ahead.cell, words::VALUE);
     words::store(list, s, ahead.cell, words::VALUE, 0);
-    words::store(list, s, ahead.cell, words::MARK, 2);
+    words::store(list, s, ahead.cell, words::MARK, words::DEAD);
     let path = ahead.path;
     paths::write_path(list, s, path);
     meaning::accepted(key, value, ahead.passed)

@@ -9,7 +9,7 @@ use lib.Dec.{eqb, leb}
 use lib.ListN.{length, length-append}
 use borrow.Author.Tests.{lt-leb, leb-false}
 use Rattle.text.specs.Lines.{lineFeed, mostBytes, linesAfter, linesOf, Handed, line, tooLong, handed, handedOf}
-use Rattle.text.specs.Feeding.{longer, begunAfter, handedBy, handedAtEnd, begunAfterPart, handedByPart, handedByParts, started, begunIn, toldIn, Ready, Stepped, Finished}
+use Rattle.text.specs.Feeding.{longer, begunAfter, handedBy, handedAtEnd, begunAfterPart, handedByPart, handedByParts, started, begunIn, toldIn, Ready, Stepped, FeedEnded}
 use Rattle.text.specs.declared.feed.Feed.{Feed}
 use Rattle.text.specs.declared.feed.Fed.{Fed}
 use Rattle.text.specs.declared.feed.Told.{Told}
@@ -115,7 +115,7 @@ begun-started buffer = refl
 
 -- `feed_byte` was called with each byte of an input, one after the other, and then `finish`; `told` is what they told of, in order.
 pub data Run : List ℕ → Feed → List ℕ → List Handed → Type 0 where
-  ends : {buffer : List ℕ} {feed : Feed} {r : Told} {told : List Handed} → Finished feed r → told ≡ toldIn buffer r → Run buffer feed [] told
+  ends : {buffer : List ℕ} {feed : Feed} {r : Told} {told : List Handed} → FeedEnded feed r → told ≡ toldIn buffer r → Run buffer feed [] told
   goes :
       {before after : List ℕ} {feed : Feed} {byte : ℕ} {r : Fed} {input : List ℕ} {told more : List Handed} →
       Stepped before after feed byte r → Run after (r .feed) input more → told ≡ toldIn after (r .told) ++ more →

@@ -10,7 +10,7 @@ use lib.ListN.{length, take, set, length-append, length-set}
 use lib.Seq.{length-take-le, take-suc-set}
 use borrow.Author.Tests.{eq-eqb, ne-eqb, le-leb, lt-leb}
 use Rattle.text.specs.Lines.{lineFeed, mostBytes, line, tooLong}
-use Rattle.text.specs.Feeding.{begunAfter, handedBy, handedAtEnd, started, begunIn, toldIn, endedOf, Ready, Kept, Stepped, Finished}
+use Rattle.text.specs.Feeding.{begunAfter, handedBy, handedAtEnd, started, begunIn, toldIn, endedOf, Ready, Kept, Stepped, FeedEnded}
 use Rattle.text.specs.declared.feed.Feed.{Feed}
 use Rattle.text.specs.declared.feed.Told.the-variants.{NoLine, Line, LongLine}
 
@@ -105,7 +105,7 @@ unfolding handedAtEnd
 line-at-end [] h = absurd (not-suc-le-zero h)
 line-at-end (byte ∷ bytes) h = refl
 
-pub finished-over : {feed : Feed} → feed .over ≡ true → Finished feed LongLine
+pub finished-over : {feed : Feed} → feed .over ≡ true → FeedEnded feed LongLine
 unfolding toldIn begunIn handedAtEnd
 finished-over over =
     record {
@@ -113,7 +113,7 @@ finished-over over =
       line-fits = λ n e. let z : _≡_ {A = ℕ} 0 1 = cc in omega arith;
     }
 
-pub finished-none : {feed : Feed} → feed .over ≡ false → feed .fill ≡ 0 → Finished feed NoLine
+pub finished-none : {feed : Feed} → feed .over ≡ false → feed .fill ≡ 0 → FeedEnded feed NoLine
 unfolding toldIn begunIn handedAtEnd
 finished-none under none =
     record {
@@ -121,7 +121,7 @@ finished-none under none =
       line-fits = λ n e. let z : _≡_ {A = ℕ} 0 1 = cc in omega arith;
     }
 
-pub finished-some : {feed : Feed} → feed .over ≡ false → (feed .fill ≡ 0 → ⊥) → feed .fill ≤ mostBytes → Finished feed (Line (feed .fill))
+pub finished-some : {feed : Feed} → feed .over ≡ false → (feed .fill ≡ 0 → ⊥) → feed .fill ≤ mostBytes → FeedEnded feed (Line (feed .fill))
 unfolding toldIn begunIn
 finished-some {feed} under some fits =
     record {

@@ -84,7 +84,7 @@ pub record Stepped (before after : List ℕ) (feed : Feed) (byte : ℕ) (r : Fed
   pub line-fits : (n : ℕ) → r .told ≡ Line n → n ≤ mostBytes
 
 -- The end of the input.
-pub record Finished (feed : Feed) (r : Told) : Type 0 where
+pub record FeedEnded (feed : Feed) (r : Told) : Type 0 where
   pub told : (buffer : List ℕ) → length buffer ≡ mostBytes → toldIn buffer r ≡ handedAtEnd (begunIn buffer feed)
   pub line-fits : (n : ℕ) → r ≡ Line n → n ≤ mostBytes
 

@@ -4,7 +4,7 @@ ghost use mathlib.Core.Path.{_≡_};
 ghost use Prim.Native.Nat.{_≤_};
 ghost use lib.ListN.{length};
 ghost use Rattle.text.specs.Lines.{mostBytes};
-ghost use Rattle.text.specs.Feeding.{started, endedOf, Ready, Kept, Stepped, Finished};
+ghost use Rattle.text.specs.Feeding.{started, endedOf, Ready, Kept, Stepped, FeedEnded};
 
 pub const MOST_BYTES: usize = 64;
 
@@ -93,7 +93,7 @@ pub fn feed_byte(buffer: &mut [u8], feed: Feed, byte: u8) -> Fed
 // The end of the input: a line begun counts, and there is none where nothing follows the last line feed.
 pub fn finish(feed: Feed) -> Told
     requires { ⌜ feed .fill ≤ mostBytes ⌝ }
-    ensures { λ r. ⌜ Finished feed r ⌝ }
+    ensures { λ r. ⌜ FeedEnded feed r ⌝ }
 {
     if feed.over {
         return Told::LongLine;

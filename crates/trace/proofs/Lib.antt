@@ -1,2 +1,2 @@
 -- What the buffer's words are after a line: laws of the first words of an array.
-pub mod Laws
+pub mod BufferWords

@@ -12,7 +12,7 @@ fn made(words: &mut [u32], n: usize) -> usize
     requires { ⌜ Held (now words) n ⌝ }
     ensures { λ r. ⌜ Holds (now (words .exit)) r (replicate n left) ⌝ }
 {
-    words::fill(&mut words[0..n], LEFT);
+    lists::fill(&mut words[0..n], LEFT);
     n
 }
 
@@ -33,7 +33,7 @@ fn resized(words: &mut [u32], used: usize, n: usize) -> usize
     ensures { λ r. ⌜ Holds (now (words .exit)) r (cutTo n (take used (now (words .entry)))) ⌝ }
 {
     if used < n {
-        words::fill(&mut words[used..n], 0);
+        lists::fill(&mut words[used..n], 0);
     }
     n
 }

@@ -4,8 +4,6 @@ ghost use Rattle.trace.specs.Calling.{replyOf, afterCall};
 use super::Kind;
 use meaning::Answer;
 
-const UNREADABLE: u32 = 10;
-
 // What a line is answered: four numbers, or none where it makes no call.
 pub enum Reply {
     Four(Answer),
@@ -25,6 +23,6 @@ pub fn call(list: &mut [u32], kind: Kind) -> Reply
         Kind::Sweep => return Reply::Four(mdlist::mdlist_sweep(list)),
         Kind::Put(_, _) => return Reply::NoCall,
         Kind::Length(_) => return Reply::NoCall,
-        Kind::Unreadable => return Reply::Four(meaning::refused(UNREADABLE)),
+        Kind::Unreadable => return Reply::Four(meaning::refused(meaning::LINE_NOT_READABLE)),
     }
 }

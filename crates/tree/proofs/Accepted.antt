@@ -9,23 +9,25 @@ use native.Mathlib.Omega.{arith}
 use lib.ListN.{length, getD, length-append, length-map}
 use borrow.Author.Tests.{eqb-true}
 use Rattle.settings.specs.Numbers.{headerWords}
-use Rattle.settings.proofs.Laws.{base-is, base-unique}
-use Rattle.meaning.specs.Row.{headEntry, places}
-use Rattle.meaning.specs.State.{State, positionKey, occurrences}
+use Rattle.settings.proofs.Numbers.{base-is, base-unique}
+use Rattle.lists.specs.Lists.{occurrences}
+use Rattle.lists.proofs.Occurrences.{Distinct, occurrences-here, occurrences-more}
+use Rattle.lists.proofs.All.{All, all-map, all-append}
+use Rattle.lists.proofs.Tests.{both}
+use Rattle.meaning.specs.Row.{headNode, places}
+use Rattle.meaning.specs.State.{State, positionKey}
 use Rattle.meaning.specs.Picture.{firstWith, picture, pathWord}
 use Rattle.meaning.specs.Reading.{settingsAt, isList}
-use Rattle.meaning.specs.Words.{keyAt, markAt}
-use Rattle.meaning.proofs.Order.{All, Asc, both, all-map, all-append}
+use Rattle.meaning.specs.Words.{keyAt, markAt, dimensionsAt, largestAt, cellsAt, baseAt, positionAt, firstFreeAt}
+use Rattle.meaning.proofs.Order.{Asc}
 use Rattle.meaning.proofs.State.{Sound, cellsIn}
-use Rattle.meaning.proofs.Cells.{Distinct, occurrences-here}
-use Rattle.meaning.proofs.Places.{occurrences-more}
 use Rattle.meaning.proofs.Reading.{picture-is-list}
-use Rattle.meaning.proofs.SentencesCells.{held-picture}
-use Rattle.tree.specs.Tree.{positionWord, headRight, headerRight, atHead, chainRight, seenAll, accepts}
+use Rattle.meaning.proofs.Placed.{held-picture}
+use Rattle.tree.specs.Tree.{headRight, headerRight, atHead, chainRight, seenAll, accepts}
 use Rattle.tree.proofs.AcceptedTests.{Header, header-right, Head, head-right}
 use Rattle.tree.proofs.AcceptedRun.{Run, head-run}
 use Rattle.tree.proofs.AcceptedKeys.{head-keyed, rowIn, Rising, rising, row-asc}
-use Rattle.tree.proofs.AcceptedWords.{Standing, standing-places}
+use Rattle.tree.proofs.AcceptedWords.{StandingWords, standing-places}
 use Rattle.tree.proofs.AcceptedPath.{Occurs, position-met, path-right, position-key, dead-met, values-met, keys-met}
 use Rattle.tree.proofs.AcceptedChain.{chainCells, chain-length, chain-free, chain-first, free-mark, free-positive, chain-distinct, free-held}
 use Rattle.tree.proofs.AcceptedCells.{distinct-append, distinct-once, left-met, distinct-met, range-met, marked-met}
@@ -37,7 +39,7 @@ record Checked (ws : List ℕ) : Type 0 where
   begins : atHead ws .right ≡ true
   run : Run ws 0 0 (atHead ws) (seenAll ws)
   reached : seenAll ws .reached ≡ true
-  chain : chainRight ws (seenAll ws .left) (getD ws 4 0) ≡ true
+  chain : chainRight ws (seenAll ws .left) (firstFreeAt ws) ≡ true
 
 checked : (ws : List ℕ) → accepts ws ≡ true → Checked ws
 unfolding accepts
@@ -47,55 +49,55 @@ checked ws e = at (headerRight ws) refl e
     tree = atHead ws .right && seenAll ws .right
 
     rest : Bool
-    rest = seenAll ws .reached && chainRight ws (seenAll ws .left) (getD ws 4 0)
+    rest = seenAll ws .reached && chainRight ws (seenAll ws .left) (firstFreeAt ws)
 
     at : (t : Bool) → headerRight ws ≡ t → elim t [ true ↦ headRight ws && (tree && rest) | false ↦ false ] ≡ true → Checked ws
     at true q h =
         let t = both (headRight ws) (tree && rest) h in
         let u = both tree rest (t .1) in
         let v = both (atHead ws .right) (seenAll ws .right) (u .0) in
-        let w = both (seenAll ws .reached) (chainRight ws (seenAll ws .left) (getD ws 4 0)) (u .1) in
+        let w = both (seenAll ws .reached) (chainRight ws (seenAll ws .left) (firstFreeAt ws)) (u .1) in
         record { header = header-right ws q; head = head-right ws (t .0); begins = v .0; run = head-run ws (v .1); reached = w .0; chain = w .1 }
     at false q h = absurd (false≢true h)
 
 -- the state that the buffer shows
 abbrev stateOf : (ws : List ℕ) → Checked ws → State
 stateOf ws k =
-    record { settings = settingsAt ws; row = rowIn ws (k .run .met); free = chainCells ws (seenAll ws .left) (getD ws 4 0); position = positionWord ws }
+    record { settings = settingsAt ws; row = rowIn ws (k .run .met); free = chainCells ws (seenAll ws .left) (firstFreeAt ws); position = positionAt ws }
 
 module _ (ws : List ℕ) (k : Checked ws) where
-  levels : All (λ m. m .linkNumber < getD ws 0 0) (k .run .met)
+  levels : All (λ m. m .linkNumber < dimensionsAt ws) (k .run .met)
   levels = all-map (λ m h. h .1) (k .run .met) (k .run .levels)
 
   rises : Rising ws 0 (k .run .met)
   unfolding atHead
   rises = rising ws (k .header) (atHead ws) (k .run .met) (head-keyed ws (k .header) (k .head)) (k .run .trace) levels
 
-  standing : All (Standing ws (getD ws 3 0) (getD ws 0 0)) (places (getD ws 3 0) (getD ws 0 0) (rowIn ws (k .run .met)))
+  standing : All (StandingWords ws (baseAt ws) (dimensionsAt ws)) (places (baseAt ws) (dimensionsAt ws) (rowIn ws (k .run .met)))
   standing = standing-places ws (k .header) (k .head) (k .run .met) (k .run .trace) (k .run .links) rises (k .run .cells) levels (k .run .linked)
 
-  position-is : (positionWord ws ≡ 0) ⊎ Occurs ws (positionWord ws) (k .run .met)
+  position-is : (positionAt ws ≡ 0) ⊎ Occurs ws (positionAt ws) (k .run .met)
   position-is = position-met ws (k .run .met) (ap (λ t. t .reached) (sym (k .run .ends)) ∙ k .reached)
 
   -- The state is in order
 
-  free-range : All (λ c. (0 < c) × (c < getD ws 2 0)) (stateOf ws k .free)
-  free-range = all-map (λ c f. (free-positive ws (k .head) c f, f .inside)) (stateOf ws k .free) (chain-free ws (seenAll ws .left) (getD ws 4 0) (k .chain))
+  free-range : All (λ c. (0 < c) × (c < cellsAt ws)) (stateOf ws k .free)
+  free-range = all-map (λ c f. (free-positive ws (k .head) c f, f .inside)) (stateOf ws k .free) (chain-free ws (seenAll ws .left) (firstFreeAt ws) (k .chain))
 
-  range : All (λ c. (0 < c) × (c < getD ws 2 0)) (cellsIn (stateOf ws k))
+  range : All (λ c. (0 < c) × (c < cellsAt ws)) (cellsIn (stateOf ws k))
   range =
-      all-append (λ c. (0 < c) × (c < getD ws 2 0)) (map (λ x. x .cell) (stateOf ws k .row)) (stateOf ws k .free)
+      all-append (λ c. (0 < c) × (c < cellsAt ws)) (map (λ x. x .cell) (stateOf ws k .row)) (stateOf ws k .free)
       (range-met ws (atHead ws) (k .run .met) (k .run .trace) (k .run .cells)) free-range
 
   distinct : Distinct (cellsIn (stateOf ws k))
   distinct =
       let free = stateOf ws k .free in
       let row = map (λ x. x .cell) (stateOf ws k .row) in
-      distinct-append row free (distinct-met ws 0 (k .run .met) rises) (chain-distinct ws (k .head) (seenAll ws .left) (getD ws 4 0) (k .chain))
+      distinct-append row free (distinct-met ws 0 (k .run .met) rises) (chain-distinct ws (k .head) (seenAll ws .left) (firstFreeAt ws) (k .chain))
       (all-map (λ x marked. all-map (λ y f q. omega (arith, marked, free-mark ws y f, ap (markAt ws) q)) free
-      (chain-free ws (seenAll ws .left) (getD ws 4 0) (k .chain))) row (marked-met ws (atHead ws) (k .run .met) (k .run .trace)))
+      (chain-free ws (seenAll ws .left) (firstFreeAt ws) (k .chain))) row (marked-met ws (atHead ws) (k .run .met) (k .run .trace)))
 
-  count : length (cellsIn (stateOf ws k)) ≡ getD ws 2 0 - 1
+  count : length (cellsIn (stateOf ws k)) ≡ cellsAt ws - 1
   unfolding atHead
   count =
       let row = stateOf ws k .row in
@@ -104,60 +106,60 @@ module _ (ws : List ℕ) (k : Checked ws) where
         arith,
         length-append (map (λ x. x .cell) row) free,
         length-map row (λ x. x .cell),
-        chain-length ws (seenAll ws .left) (getD ws 4 0),
+        chain-length ws (seenAll ws .left) (firstFreeAt ws),
         left-met ws (atHead ws) (k .run .met) (k .run .trace),
         ap (λ t. t .left) (k .run .ends),
       )
 
-  key-is : positionKey (stateOf ws k) ≡ keyAt ws (positionWord ws)
+  key-is : positionKey (stateOf ws k) ≡ keyAt ws (positionAt ws)
   key-is = position-key ws (k .head) (k .run .met) rises position-is
 
-  position-stands : 0 < occurrences (positionWord ws) (0 ∷ map (λ x. x .cell) (stateOf ws k .row))
+  position-stands : 0 < occurrences (positionAt ws) (0 ∷ map (λ x. x .cell) (stateOf ws k .row))
   position-stands = at position-is
     where
       row : List ℕ
       row = map (λ x. x .cell) (stateOf ws k .row)
 
-      at : (positionWord ws ≡ 0) ⊎ Occurs ws (positionWord ws) (k .run .met) → 0 < occurrences (positionWord ws) (0 ∷ row)
-      at (inl q) = omega (arith, occurrences-here (positionWord ws) 0 row (sym q))
-      at (inr o) = omega (arith, o, occurrences-more (positionWord ws) 0 row)
+      at : (positionAt ws ≡ 0) ⊎ Occurs ws (positionAt ws) (k .run .met) → 0 < occurrences (positionAt ws) (0 ∷ row)
+      at (inl q) = omega (arith, occurrences-here (positionAt ws) 0 row (sym q))
+      at (inr o) = omega (arith, o, occurrences-more (positionAt ws) 0 row)
 
   dead : All (λ x. x .key ≤ positionKey (stateOf ws k) → x .live ≡ false) (stateOf ws k .row)
   unfolding atHead
   dead =
       all-map (λ x d h. d (omega (arith, h, key-is))) (stateOf ws k .row)
-      (dead-met ws (atHead ws) (k .run .met) (k .run .trace) rises (λ e. omega (arith, ap (keyAt ws) (eqb-true (positionWord ws) 0 e))))
+      (dead-met ws (atHead ws) (k .run .met) (k .run .trace) rises (λ e. omega (arith, ap (keyAt ws) (eqb-true (positionAt ws) 0 e))))
 
   sound : Sound (stateOf ws k)
   sound =
       let r = k .header .in-range in
       record {
         ranges = r;
-        base = base-unique (k .header .base) (base-is (getD ws 0 0) (getD ws 1 0) (let h = r .dimensions-least in omega arith));
+        base = base-unique (k .header .base) (base-is (dimensionsAt ws) (largestAt ws) (let h = r .dimensions-least in omega arith));
         ascends = subst (λ low. Asc low (stateOf ws k .row)) (k .head .key) (row-asc ws 0 (k .run .met) rises);
         keys = keys-met ws (atHead ws) (k .run .met) (k .run .trace);
         count = count;
         range = range;
         once = distinct-once (cellsIn (stateOf ws k)) distinct;
         values = values-met ws (atHead ws) (k .run .met) (k .run .trace);
-        debts = all-map (λ p t. t .debt) (places (getD ws 3 0) (getD ws 0 0) (stateOf ws k .row)) standing;
+        debts = all-map (λ p t. t .debt) (places (baseAt ws) (dimensionsAt ws) (stateOf ws k .row)) standing;
         position = position-stands;
         dead = dead;
       }
 
   -- The buffer is its picture
 
-  path-word : (d : ℕ) → d < getD ws 0 0 → pathWord (stateOf ws k) d ≡ getD ws (headerWords + d) 0
+  path-word : (d : ℕ) → d < dimensionsAt ws → pathWord (stateOf ws k) d ≡ getD ws (headerWords + d) 0
   path-word d l =
-      ap (λ key. firstWith (getD ws 3 0) (getD ws 0 0) key (suc d) (headEntry ∷ stateOf ws k .row)) key-is
+      ap (λ key. firstWith (baseAt ws) (dimensionsAt ws) key (suc d) (headNode ∷ stateOf ws k .row)) key-is
       ∙ sym (path-right ws (k .header .positive) (k .head) (k .run .met) (k .run .trace) rises (k .begins) position-is d l)
 
   picture-is : picture (stateOf ws k) ≡ ws
   picture-is =
-      held-picture ws (stateOf ws k .row) (stateOf ws k .free) (positionWord ws) sound (k .header .size)
-      (sym (chain-first ws (seenAll ws .left) (getD ws 4 0) (k .chain))) path-word
-      (all-map (λ p t. t .held) (places (getD ws 3 0) (getD ws 0 0) (stateOf ws k .row)) standing)
-      (free-held ws (k .head) (seenAll ws .left) (getD ws 4 0) (k .chain))
+      held-picture ws (stateOf ws k .row) (stateOf ws k .free) (positionAt ws) sound (k .header .size)
+      (sym (chain-first ws (seenAll ws .left) (firstFreeAt ws) (k .chain))) path-word
+      (all-map (λ p t. t .held) (places (baseAt ws) (dimensionsAt ws) (stateOf ws k .row)) standing)
+      (free-held ws (k .head) (seenAll ws .left) (firstFreeAt ws) (k .chain))
 
 pub accepts-list : (ws : List ℕ) → accepts ws ≡ true → isList ws ≡ true
 accepts-list ws e =

@@ -6,12 +6,11 @@ use mathlib.Core.Logic.{_⊎_, inl, inr}
 use mathlib.Core.List.{List, [], _∷_, _++_, map}
 use Prim.Native.Nat.{ℕ, _+_, _≤_, _<_}
 use native.Mathlib.Omega.{arith}
-use lib.ListN.{length, getD}
-use Rattle.meaning.specs.State.{occurrences}
-use Rattle.meaning.specs.Words.{keyAt, valueAt, markAt}
-use Rattle.meaning.proofs.Order.{All, all-append}
-use Rattle.meaning.proofs.Cells.{Distinct, all-zip, occurrences-here, occurrences-past}
-use Rattle.meaning.proofs.Places.{none-occurs}
+use lib.ListN.{length}
+use Rattle.lists.specs.Lists.{occurrences}
+use Rattle.lists.proofs.Occurrences.{Distinct, occurrences-here, occurrences-past, none-occurs}
+use Rattle.lists.proofs.All.{All, all-append, all-zip}
+use Rattle.meaning.specs.Words.{keyAt, valueAt, markAt, cellsAt}
 use Rattle.tree.specs.declared.Seen.{Seen}
 use Rattle.tree.proofs.AcceptedRun.{Met, seen, seenAfter, Trace}
 use Rattle.tree.proofs.AcceptedKeys.{rowIn, Rising}
@@ -47,14 +46,14 @@ distinct-met ws x [] r = tt
 distinct-met ws x (m ∷ met) r = (cells-other ws (m .cell) (m .cell) met (r .1) (omega arith), distinct-met ws (m .cell) met (r .1))
 
 pub range-met : (ws : List ℕ) (s : Seen) (met : List Met) → Trace ws s met → All (λ m. 0 < m .cell) met →
-    All (λ c. (0 < c) × (c < getD ws 2 0)) (map (λ y. y .cell) (rowIn ws met))
+    All (λ c. (0 < c) × (c < cellsAt ws)) (map (λ y. y .cell) (rowIn ws met))
 range-met ws s [] t a = tt
 range-met ws s (m ∷ met) t a = ((a .0, t .0 .inside), range-met ws (seen ws m s) met (t .1) (a .1))
 
 -- a cell that was read is marked
 pub marked-met : (ws : List ℕ) (s : Seen) (met : List Met) → Trace ws s met → All (λ c. 0 < markAt ws c) (map (λ y. y .cell) (rowIn ws met))
 marked-met ws s [] t = tt
-marked-met ws s (m ∷ met) t = (at (t .0 .entry), marked-met ws (seen ws m s) met (t .1))
+marked-met ws s (m ∷ met) t = (at (t .0 .node), marked-met ws (seen ws m s) met (t .1))
   where
     at : ((markAt ws (m .cell) ≡ 2) × (valueAt ws (m .cell) ≡ 0)) ⊎ ((markAt ws (m .cell) ≡ 1) × (s .reached ≡ true)) → 0 < markAt ws (m .cell)
     at (inl d) = let e = d .0 in omega arith

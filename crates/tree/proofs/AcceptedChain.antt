@@ -8,14 +8,15 @@ use native.Mathlib.Decide.{ℕ-discrete}
 use native.Mathlib.Omega.{arith}
 use lib.ListN.{length}
 use borrow.Author.Tests.{eqb-true}
-use Rattle.meaning.specs.Picture.{firstNumber, nextFree}
+use Rattle.lists.specs.Lists.{firstNumber}
+use Rattle.lists.proofs.Occurrences.{Distinct}
+use Rattle.lists.proofs.All.{All, all-map, all-zip}
+use Rattle.meaning.specs.Picture.{nextFree}
 use Rattle.meaning.specs.Words.{wordAt, markAt}
-use Rattle.meaning.proofs.Order.{All, all-map}
-use Rattle.meaning.proofs.Cells.{Distinct, all-zip}
 use Rattle.meaning.proofs.Reading.{Follow, distinct-follow}
-use Rattle.meaning.proofs.SentencesCells.{FreeHeld}
+use Rattle.meaning.proofs.Placed.{FreeHeld}
 use Rattle.tree.specs.Tree.{freeRight, chainRight}
-use Rattle.tree.proofs.AcceptedTests.{Head, Free, free-right}
+use Rattle.tree.proofs.AcceptedTests.{Head, FreeTested, free-right}
 
 -- The chain
 
@@ -29,11 +30,11 @@ unfolding chainCells
 chain-length ws zero c = refl
 chain-length ws (suc n) c = ap suc (chain-length ws n (wordAt ws c 0))
 
-chain-step : (ws : List ℕ) (n c : ℕ) → chainRight ws (suc n) c ≡ true → Free ws c × (chainRight ws n (wordAt ws c 0) ≡ true)
+chain-step : (ws : List ℕ) (n c : ℕ) → chainRight ws (suc n) c ≡ true → FreeTested ws c × (chainRight ws n (wordAt ws c 0) ≡ true)
 unfolding chainRight
 chain-step ws n c e = at (freeRight ws c) refl e
   where
-    at : (t : Bool) → freeRight ws c ≡ t → cond t (chainRight ws n (wordAt ws c 0)) false ≡ true → Free ws c × (chainRight ws n (wordAt ws c 0) ≡ true)
+    at : (t : Bool) → freeRight ws c ≡ t → cond t (chainRight ws n (wordAt ws c 0)) false ≡ true → FreeTested ws c × (chainRight ws n (wordAt ws c 0) ≡ true)
     at true q h = (free-right ws c q, h)
     at false q h = absurd (false≢true h)
 
@@ -41,7 +42,7 @@ chain-end : (ws : List ℕ) (c : ℕ) → chainRight ws 0 c ≡ true → c ≡ 0
 unfolding chainRight
 chain-end ws c e = eqb-true c 0 e
 
-pub chain-free : (ws : List ℕ) (n c : ℕ) → chainRight ws n c ≡ true → All (Free ws) (chainCells ws n c)
+pub chain-free : (ws : List ℕ) (n c : ℕ) → chainRight ws n c ≡ true → All (FreeTested ws) (chainCells ws n c)
 unfolding chainCells
 chain-free ws zero c e = tt
 chain-free ws (suc n) c e = let t = chain-step ws n c e in (t .0, chain-free ws n (wordAt ws c 0) (t .1))
@@ -63,11 +64,11 @@ chain-leads ws (suc n) c e =
     let t = chain-step ws n c e in
     (chain-first ws n (wordAt ws c 0) (t .1), chain-leads ws n (wordAt ws c 0) (t .1))
 
-pub free-mark : (ws : List ℕ) (c : ℕ) → Free ws c → markAt ws c ≡ 0
+pub free-mark : (ws : List ℕ) (c : ℕ) → FreeTested ws c → markAt ws c ≡ 0
 free-mark ws c f = f .blank 2 (omega arith) (omega arith)
 
 module _ (ws : List ℕ) (head : Head ws) where
-  pub free-positive : (c : ℕ) → Free ws c → 0 < c
+  pub free-positive : (c : ℕ) → FreeTested ws c → 0 < c
   free-positive c f = at (ℕ-discrete c 0)
     where
       at : Dec (c ≡ 0) → 0 < c

@@ -13,13 +13,15 @@ use lib.ListN.{length, getD, drop, length-take, length-drop}
 use lib.Seq.{getD-take, getD-drop}
 use borrow.Author.Tests.{eqb-true}
 use Rattle.settings.specs.Numbers.{fieldsBeforeCoordinates, cellWords}
+use Rattle.lists.proofs.All.{All}
+use Rattle.lists.proofs.Tests.{both}
 use Rattle.meaning.specs.Keys.{coordinate, shared}
-use Rattle.meaning.specs.Row.{Entry, firstSharing}
-use Rattle.meaning.specs.Words.{place, keyAt, coordinateAt}
-use Rattle.meaning.proofs.Order.{All, Asc, both}
+use Rattle.meaning.specs.Row.{Node, firstSharing}
+use Rattle.meaning.specs.Words.{wordIndex, keyAt, coordinateAt, dimensionsAt, cellsAt, baseAt}
+use Rattle.meaning.proofs.Order.{Asc}
 use Rattle.meaning.proofs.Keys.{shared-same, ultra, coordinate-head, coordinate-other, coordinate-larger, shared-stop}
 use Rattle.meaning.proofs.Parent.{sharing-skips, sharing-hits, sharing-above}
-use Rattle.meaning.proofs.ConverseRow.{entryIn}
+use Rattle.meaning.proofs.ConverseRow.{nodeIn}
 use Rattle.tree.specs.declared.Seen.{Seen}
 use Rattle.tree.specs.Tree.{written, coordinateWords, allBelow, writesKey}
 use Rattle.tree.proofs.Written.{allBelow-all, written-coordinates}
@@ -29,44 +31,44 @@ use Rattle.tree.proofs.AcceptedRun.{Met, next, next-past, next-here, ne
 -- Coordinate words
 
 -- the words of a cell are words of the buffer
-pub cell-fits : (ws : List ℕ) → Header ws → (c j : ℕ) → c < getD ws 2 0 → j ≤ cellWords (getD ws 0 0) → place (getD ws 0 0) c j ≤ length ws
+pub cell-fits : (ws : List ℕ) → Header ws → (c j : ℕ) → c < cellsAt ws → j ≤ cellWords (dimensionsAt ws) → wordIndex (dimensionsAt ws) c j ≤ length ws
 cell-fits ws header c j h l =
-    let w = cellWords (getD ws 0 0) in
-    let m : suc c * w ≤ getD ws 2 0 * w = mul-le-mul-right w h in
+    let w = cellWords (dimensionsAt ws) in
+    let m : suc c * w ≤ cellsAt ws * w = mul-le-mul-right w h in
     omega (arith, header .size)
 
 -- the coordinate words of a cell are its key's coordinates
 pub record Keyed (ws : List ℕ) (x : ℕ) : Type 0 where
-  pub below : keyAt ws x < getD ws 3 0 ^ getD ws 0 0
-  pub coordinate : (d : ℕ) → d < getD ws 0 0 → coordinateAt ws x d ≡ coordinate (getD ws 3 0) (getD ws 0 0) (keyAt ws x) d
+  pub below : keyAt ws x < baseAt ws ^ dimensionsAt ws
+  pub coordinate : (d : ℕ) → d < dimensionsAt ws → coordinateAt ws x d ≡ coordinate (baseAt ws) (dimensionsAt ws) (keyAt ws x) d
 
-coordinate-word : (ws : List ℕ) (c d : ℕ) → d < getD ws 0 0 → coordinateAt ws c d ≡ getD (coordinateWords ws c) d 0
+coordinate-word : (ws : List ℕ) (c d : ℕ) → d < dimensionsAt ws → coordinateAt ws c d ≡ getD (coordinateWords ws c) d 0
 coordinate-word ws c d l =
-    ap (λ i. getD ws i 0) (let there : place (getD ws 0 0) c (fieldsBeforeCoordinates + d) ≡ place (getD ws 0 0) c fieldsBeforeCoordinates + d = omega arith in there)
-    ∙ sym (getD-drop (place (getD ws 0 0) c fieldsBeforeCoordinates) ws d 0)
-    ∙ sym (getD-take (getD ws 0 0) (drop (place (getD ws 0 0) c fieldsBeforeCoordinates) ws) d 0 l)
+    ap (λ i. getD ws i 0) (let there : wordIndex (dimensionsAt ws) c (fieldsBeforeCoordinates + d) ≡ wordIndex (dimensionsAt ws) c fieldsBeforeCoordinates + d = omega arith in there)
+    ∙ sym (getD-drop (wordIndex (dimensionsAt ws) c fieldsBeforeCoordinates) ws d 0)
+    ∙ sym (getD-take (dimensionsAt ws) (drop (wordIndex (dimensionsAt ws) c fieldsBeforeCoordinates) ws) d 0 l)
 
-coordinate-words-length : (ws : List ℕ) → Header ws → (c : ℕ) → c < getD ws 2 0 → length (coordinateWords ws c) ≡ getD ws 0 0
+coordinate-words-length : (ws : List ℕ) → Header ws → (c : ℕ) → c < cellsAt ws → length (coordinateWords ws c) ≡ dimensionsAt ws
 coordinate-words-length ws header c inside =
-    let D = getD ws 0 0 in
-    let from = place D c fieldsBeforeCoordinates in
-    let fits : place D c (fieldsBeforeCoordinates + D) ≤ length ws = cell-fits ws header c (fieldsBeforeCoordinates + D) inside (omega arith) in
+    let D = dimensionsAt ws in
+    let from = wordIndex D c fieldsBeforeCoordinates in
+    let fits : wordIndex D c (fieldsBeforeCoordinates + D) ≤ length ws = cell-fits ws header c (fieldsBeforeCoordinates + D) inside (omega arith) in
     length-take D (drop from ws) ∙ omega (arith, length-drop from ws)
 
-pub cell-keyed : (ws : List ℕ) → Header ws → (c : ℕ) → c < getD ws 2 0 → writesKey ws c ≡ true → Keyed ws c
+pub cell-keyed : (ws : List ℕ) → Header ws → (c : ℕ) → c < cellsAt ws → writesKey ws c ≡ true → Keyed ws c
 unfolding writesKey
 cell-keyed ws header c inside e =
-    let b = getD ws 3 0 in
+    let b = baseAt ws in
     let words = coordinateWords ws c in
     let t = both (allBelow b words) (eqb (written b 0 words) (keyAt ws c)) e in
-    let k = written-coordinates b (getD ws 0 0) (keyAt ws c) words (coordinate-words-length ws header c inside) (allBelow-all b words (t .0))
+    let k = written-coordinates b (dimensionsAt ws) (keyAt ws c) words (coordinate-words-length ws header c inside) (allBelow-all b words (t .0))
     (eqb-true (written b 0 words) (keyAt ws c) (t .1)) in
     record { below = k .1; coordinate = λ d l. coordinate-word ws c d l ∙ ap (λ xs. getD xs d 0) (sym (k .0)) }
 
 pub head-keyed : (ws : List ℕ) → Header ws → Head ws → Keyed ws 0
 head-keyed ws header head =
-    let b = getD ws 3 0 in
-    let D = getD ws 0 0 in
+    let b = baseAt ws in
+    let D = dimensionsAt ws in
     record {
       below = let k = head .key in let h = header .base .above in omega arith;
       coordinate = λ d l. head .coordinate d l ∙ sym (ap (λ k. coordinate b D k d) (head .key) ∙ coordinate-head b D d);
@@ -89,23 +91,23 @@ first-other b D x y e pos inside hx hy same less = (coordinate-larger b D x y e 
 
 -- The row
 
-abbrev pub rowIn : List ℕ → List Met → List Entry
-rowIn ws met = map (λ m. entryIn ws (m .cell)) met
+abbrev pub rowIn : List ℕ → List Met → List Node
+rowIn ws met = map (λ m. nodeIn ws (m .cell)) met
 
 -- cells met after cell x: each has a larger key than the one before, and shares with it what the number says by which it was met
 abbrev pub Rising : List ℕ → ℕ → List Met → Type 0
 Rising ws x [] = Unit {0}
-Rising ws x (m ∷ met) = ((keyAt ws x < keyAt ws (m .cell)) × (shared (getD ws 3 0) (getD ws 0 0) (keyAt ws x) (keyAt ws (m .cell)) ≡ m .linkNumber)) × Rising ws (m .cell) met
+Rising ws x (m ∷ met) = ((keyAt ws x < keyAt ws (m .cell)) × (shared (baseAt ws) (dimensionsAt ws) (keyAt ws x) (keyAt ws (m .cell)) ≡ m .linkNumber)) × Rising ws (m .cell) met
 
 pub row-asc : (ws : List ℕ) (x : ℕ) (met : List Met) → Rising ws x met → Asc (keyAt ws x) (rowIn ws met)
 row-asc ws x [] r = tt
 row-asc ws x (m ∷ met) r = (r .0 .0, row-asc ws (m .cell) met (r .1))
 
-pub rising : (ws : List ℕ) → Header ws → (s : Seen) (met : List Met) → Keyed ws (s .last) → Trace ws s met → All (λ m. m .linkNumber < getD ws 0 0) met → Rising ws (s .last) met
+pub rising : (ws : List ℕ) → Header ws → (s : Seen) (met : List Met) → Keyed ws (s .last) → Trace ws s met → All (λ m. m .linkNumber < dimensionsAt ws) met → Rising ws (s .last) met
 rising ws header s [] keyed t levels = tt
 rising ws header s (m ∷ met) keyed t levels =
-    let b = getD ws 3 0 in
-    let D = getD ws 0 0 in
+    let b = baseAt ws in
+    let D = dimensionsAt ws in
     let x = s .last in
     let y = m .cell in
     let e = m .linkNumber in
@@ -119,10 +121,10 @@ rising ws header s (m ∷ met) keyed t levels =
 
 -- The first that shares d coordinates
 
-module _ (ws : List ℕ) (pos : 0 < getD ws 3 0) where
+module _ (ws : List ℕ) (pos : 0 < baseAt ws) where
   -- after a cell p that shares more than d with x, the first that is met by a number of at most d
-  sharing-next : (x p d : ℕ) (met : List Met) → Rising ws p met → keyAt ws x ≤ keyAt ws p → d < shared (getD ws 3 0) (getD ws 0 0) (keyAt ws x) (keyAt ws p) →
-      firstSharing (getD ws 3 0) (getD ws 0 0) (keyAt ws x) d (rowIn ws met) ≡ next d met
+  sharing-next : (x p d : ℕ) (met : List Met) → Rising ws p met → keyAt ws x ≤ keyAt ws p → d < shared (baseAt ws) (dimensionsAt ws) (keyAt ws x) (keyAt ws p) →
+      firstSharing (baseAt ws) (dimensionsAt ws) (keyAt ws x) d (rowIn ws met) ≡ next d met
   unfolding firstSharing next
   sharing-next x p d [] r h l = refl
   sharing-next x p d (m ∷ met) r h l =
@@ -130,23 +132,23 @@ module _ (ws : List ℕ) (pos : 0 < getD ws 3 0) where
       (λ k. sharing-next x (m .cell) d met (r .1) (let i = r .0 .0 in omega arith) k)
     where
       b : ℕ
-      b = getD ws 3 0
+      b = baseAt ws
 
       D : ℕ
-      D = getD ws 0 0
+      D = dimensionsAt ws
 
       at : Dec (d < m .linkNumber) → Dec (m .linkNumber ≡ d) → shared b D (keyAt ws p) (keyAt ws (m .cell)) ≡ m .linkNumber →
           shared b D (keyAt ws x) (keyAt ws (m .cell)) ≡ min (shared b D (keyAt ws x) (keyAt ws p)) (shared b D (keyAt ws p) (keyAt ws (m .cell))) →
           (d < shared b D (keyAt ws x) (keyAt ws (m .cell)) → firstSharing b D (keyAt ws x) d (rowIn ws met) ≡ next d met) →
-          firstSharing b D (keyAt ws x) d (entryIn ws (m .cell) ∷ rowIn ws met) ≡ next d (m ∷ met)
+          firstSharing b D (keyAt ws x) d (nodeIn ws (m .cell) ∷ rowIn ws met) ≡ next d (m ∷ met)
       at (yes k) q is u more =
-          sharing-skips b D (keyAt ws x) d (entryIn ws (m .cell) ∷ []) (rowIn ws met) ((λ e. omega arith), tt) ∙ more (omega arith) ∙ sym (next-past d m met k)
+          sharing-skips b D (keyAt ws x) d (nodeIn ws (m .cell) ∷ []) (rowIn ws met) ((λ e. omega arith), tt) ∙ more (omega arith) ∙ sym (next-past d m met k)
       at (no k) (yes q) is u more =
-          sharing-hits b D (keyAt ws x) d (entryIn ws (m .cell)) (rowIn ws met) (omega arith) ∙ sym (next-here d m met q)
+          sharing-hits b D (keyAt ws x) d (nodeIn ws (m .cell)) (rowIn ws met) (omega arith) ∙ sym (next-here d m met q)
       at (no k) (no q) is u more =
-          sharing-above b D pos (keyAt ws x) d (entryIn ws (m .cell)) (rowIn ws met) (let i = r .0 .0 in omega arith) (row-asc ws (m .cell) met (r .1)) (omega arith)
+          sharing-above b D pos (keyAt ws x) d (nodeIn ws (m .cell)) (rowIn ws met) (let i = r .0 .0 in omega arith) (row-asc ws (m .cell) met (r .1)) (omega arith)
           ∙ sym (next-none d m met (omega arith))
 
   -- link d of x
-  pub sharing-is-next : (x d : ℕ) (met : List Met) → Rising ws x met → d < getD ws 0 0 → firstSharing (getD ws 3 0) (getD ws 0 0) (keyAt ws x) d (rowIn ws met) ≡ next d met
-  sharing-is-next x d met r l = sharing-next x x d met r (omega arith) (omega (arith, shared-same (getD ws 3 0) (getD ws 0 0) (keyAt ws x)))
+  pub sharing-is-next : (x d : ℕ) (met : List Met) → Rising ws x met → d < dimensionsAt ws → firstSharing (baseAt ws) (dimensionsAt ws) (keyAt ws x) d (rowIn ws met) ≡ next d met
+  sharing-is-next x d met r l = sharing-next x x d met r (omega arith) (omega (arith, shared-same (baseAt ws) (dimensionsAt ws) (keyAt ws x)))

@@ -9,12 +9,12 @@ use Prim.Native.Nat.{ℕ, zero, suc, _-_, _≤_, _<_}
 use native.Mathlib.Decide.{ℕ-discrete}
 use native.Mathlib.Omega.{arith}
 use lib.Dec.{eqb, leb}
-use lib.ListN.{getD}
 use borrow.Author.Tests.{eqb-true, eqb-false, eq-eqb, ne-eqb, le-leb, lt-leb}
+use Rattle.lists.proofs.All.{All, all-map, all-append}
 use Rattle.meaning.specs.Walk.{linkRead}
-use Rattle.meaning.proofs.Order.{All, all-map, all-append}
+use Rattle.meaning.specs.Words.{dimensionsAt, cellsAt, positionAt}
 use Rattle.tree.specs.declared.Seen.{Seen}
-use Rattle.tree.specs.Tree.{agreedAt, positionWord, cellRight, wrong, entered, along, children, atHead, seenAll}
+use Rattle.tree.specs.Tree.{agreedAt, cellRight, wrong, entered, along, children, atHead, seenAll}
 use Rattle.tree.proofs.AcceptedTests.{Right, cell-right}
 
 -- A cell that has been read, and the number of the link that led to it.
@@ -59,7 +59,7 @@ next-before d (n ∷ front) m later h = ap (λ r. cond (leb (n .linkNumber) d) (
 
 -- the links of x of number e and more, read through what is owed, lead to the cells met after x
 abbrev pub Linked : List ℕ → ℕ → ℕ → List Met → Type 0
-Linked ws x e met = (d : ℕ) → e ≤ d → d < getD ws 0 0 → linkRead ws x d ≡ next d met
+Linked ws x e met = (d : ℕ) → e ≤ d → d < dimensionsAt ws → linkRead ws x d ≡ next d met
 
 -- and so for each cell met, from the number on that it was met by
 abbrev pub Links : List ℕ → List Met → Type 0
@@ -76,7 +76,7 @@ links-append ws (n ∷ front) m later a front-links links = (
 
 -- what has been seen once a cell is read
 abbrev pub seen : List ℕ → Met → Seen → Seen
-seen ws m s = record { right = true; left = s .left - 1; last = m .cell; agreed = agreedAt ws (m .cell) (m .linkNumber) (s .agreed); reached = s .reached || eqb (m .cell) (positionWord ws) }
+seen ws m s = record { right = true; left = s .left - 1; last = m .cell; agreed = agreedAt ws (m .cell) (m .linkNumber) (s .agreed); reached = s .reached || eqb (m .cell) (positionAt ws) }
 
 unfoldable pub seenAfter : List ℕ → Seen → List Met → Seen
 seenAfter ws s [] = s
@@ -102,7 +102,7 @@ pub record Run (ws : List ℕ) (e x : ℕ) (s t : Seen) : Type 0 where
   pub met : List Met
   pub trace : Trace ws s met
   pub ends : t ≡ seenAfter ws s met
-  pub levels : All (λ m. (e ≤ m .linkNumber) × (m .linkNumber < getD ws 0 0)) met
+  pub levels : All (λ m. (e ≤ m .linkNumber) × (m .linkNumber < dimensionsAt ws)) met
   pub cells : All (λ m. 0 < m .cell) met
   pub linked : Linked ws x e met
   pub links : Links ws met
@@ -120,13 +120,13 @@ run-none ws e x s t none r =
       links = r .links;
     }
   where
-    at : (d : ℕ) → d < getD ws 0 0 → Dec (e ≡ d) → e ≤ d → linkRead ws x d ≡ next d (r .met)
+    at : (d : ℕ) → d < dimensionsAt ws → Dec (e ≡ d) → e ≤ d → linkRead ws x d ≡ next d (r .met)
     at d l (yes q) h =
         ap (linkRead ws x) (sym q) ∙ none ∙ sym (next-of-higher d (r .met) (all-map (λ m k. let k₀ = k .0 in omega arith) (r .met) (r .levels)))
     at d l (no ne) h = r .linked d (omega arith) l
 
 -- x has a link e, to y
-run-more : (ws : List ℕ) (e x y : ℕ) (s t u : Seen) → e < getD ws 0 0 → linkRead ws x e ≡ y → 0 < y → Run ws (suc e) x s t →
+run-more : (ws : List ℕ) (e x y : ℕ) (s t u : Seen) → e < dimensionsAt ws → linkRead ws x e ≡ y → 0 < y → Run ws (suc e) x s t →
     Right ws t y e → Run ws e y (seen ws (record { cell = y; linkNumber = e }) t) u → Run ws e x s u
 unfolding seenAfter
 run-more ws e x y s t u inside leads pos r right more =
@@ -134,7 +134,7 @@ run-more ws e x y s t u inside leads pos r right more =
       met = r .met ++ (m ∷ more .met);
       trace = trace-append ws s (r .met) (m ∷ more .met) (r .trace) (subst (λ z. Trace ws z (m ∷ more .met)) (r .ends) (right, more .trace));
       ends = more .ends ∙ ap (λ z. seenAfter ws z (m ∷ more .met)) (r .ends) ∙ sym (seen-append ws s (r .met) (m ∷ more .met));
-      levels = all-append (λ n. (e ≤ n .linkNumber) × (n .linkNumber < getD ws 0 0)) (r .met) (m ∷ more .met) (all-map (λ n h. (let k = h .0 in omega arith, h .1)) (r .met) (r .levels)) ((omega arith, inside), more .levels);
+      levels = all-append (λ n. (e ≤ n .linkNumber) × (n .linkNumber < dimensionsAt ws)) (r .met) (m ∷ more .met) (all-map (λ n h. (let k = h .0 in omega arith, h .1)) (r .met) (r .levels)) ((omega arith, inside), more .levels);
       cells = all-append (λ n. 0 < n .cell) (r .met) (m ∷ more .met) (r .cells) (pos, more .cells);
       linked = λ d h l. at d l (ℕ-discrete e d) h;
       links = links-append ws (r .met) m (more .met) higher (r .links) (more .linked, more .links);
@@ -146,14 +146,14 @@ run-more ws e x y s t u inside leads pos r right more =
     higher : All (λ n. e < n .linkNumber) (r .met)
     higher = all-map (λ n h. h .0) (r .met) (r .levels)
 
-    at : (d : ℕ) → d < getD ws 0 0 → Dec (e ≡ d) → e ≤ d → linkRead ws x d ≡ next d (r .met ++ (m ∷ more .met))
+    at : (d : ℕ) → d < dimensionsAt ws → Dec (e ≡ d) → e ≤ d → linkRead ws x d ≡ next d (r .met ++ (m ∷ more .met))
     at d l (yes q) h =
         ap (linkRead ws x) (sym q) ∙ leads ∙ sym (next-here d m (more .met) q)
         ∙ sym (next-behind d (r .met) (m ∷ more .met) (all-map (λ n k. omega arith) (r .met) higher))
     at d l (no ne) h = r .linked d (omega arith) l ∙ sym (next-before d (r .met) m (more .met) (omega arith))
 
 -- the cells at one number, one from the other, each after the children by higher links of the one before
-along-run : (higher : ℕ → Seen → Seen) (ws : List ℕ) (e : ℕ) → e < getD ws 0 0 →
+along-run : (higher : ℕ → Seen → Seen) (ws : List ℕ) (e : ℕ) → e < dimensionsAt ws →
     ((x : ℕ) (s : Seen) → higher x s .right ≡ true → Run ws (suc e) x s (higher x s)) →
     (fuel x : ℕ) (s : Seen) → along higher ws e fuel x s .right ≡ true → Run ws e x s (along higher ws e fuel x s)
 unfolding along entered
@@ -166,13 +166,13 @@ along-run higher ws e inside runs (suc fuel) x s right = at-higher (t .right) re
     y : ℕ
     y = linkRead ws x e
 
-    onward : Seen → Seen
-    onward u = cond (u .right) (along higher ws e fuel y u) u
+    wayOn : Seen → Seen
+    wayOn u = cond (u .right) (along higher ws e fuel y u) u
 
     at-cell : (0 < y) → t .right ≡ true → (q : Bool) → cellRight ws y e t ≡ q →
         ((z : ℕ) (u : Seen) → along higher ws e fuel z u .right ≡ true → Run ws e z u (along higher ws e fuel z u)) →
-        onward (cond q (seen ws (record { cell = y; linkNumber = e }) t) (wrong t)) .right ≡ true →
-        Run ws e x s (onward (cond q (seen ws (record { cell = y; linkNumber = e }) t) (wrong t)))
+        wayOn (cond q (seen ws (record { cell = y; linkNumber = e }) t) (wrong t)) .right ≡ true →
+        Run ws e x s (wayOn (cond q (seen ws (record { cell = y; linkNumber = e }) t) (wrong t)))
     at-cell pos rt true c more h =
         let u = seen ws (record { cell = y; linkNumber = e }) t in
         run-more ws e x y s t (along higher ws e fuel y u) inside refl pos (runs x s rt) (cell-right ws y e t c) (more y u h)
@@ -180,30 +180,30 @@ along-run higher ws e inside runs (suc fuel) x s right = at-higher (t .right) re
 
     at-link : t .right ≡ true → (q : Bool) → eqb y 0 ≡ q →
         ((z : ℕ) (u : Seen) → along higher ws e fuel z u .right ≡ true → Run ws e z u (along higher ws e fuel z u)) →
-        cond q t (onward (entered ws y e t)) .right ≡ true → Run ws e x s (cond q t (onward (entered ws y e t)))
+        cond q t (wayOn (entered ws y e t)) .right ≡ true → Run ws e x s (cond q t (wayOn (entered ws y e t)))
     at-link rt true c more h = run-none ws e x s t (eqb-true y 0 c) (runs x s rt)
     at-link rt false c more h = at-cell (let ne = eqb-false y 0 c in omega arith) rt (cellRight ws y e t) refl more h
 
     at-higher : (q : Bool) → t .right ≡ q →
         ((z : ℕ) (u : Seen) → along higher ws e fuel z u .right ≡ true → Run ws e z u (along higher ws e fuel z u)) →
-        cond q (cond (eqb y 0) t (onward (entered ws y e t))) t .right ≡ true → Run ws e x s (cond q (cond (eqb y 0) t (onward (entered ws y e t))) t)
+        cond q (cond (eqb y 0) t (wayOn (entered ws y e t))) t .right ≡ true → Run ws e x s (cond q (cond (eqb y 0) t (wayOn (entered ws y e t))) t)
     at-higher true c more h = at-link c (eqb y 0) refl more h
     at-higher false c more h = absurd (false≢true (sym c ∙ h))
 
 -- the children of x by links D-1 down to D-n
-children-run : (fuel : ℕ) (ws : List ℕ) (n x : ℕ) (s : Seen) → n ≤ getD ws 0 0 → children fuel ws n x s .right ≡ true →
-    Run ws (getD ws 0 0 - n) x s (children fuel ws n x s)
+children-run : (fuel : ℕ) (ws : List ℕ) (n x : ℕ) (s : Seen) → n ≤ dimensionsAt ws → children fuel ws n x s .right ≡ true →
+    Run ws (dimensionsAt ws - n) x s (children fuel ws n x s)
 unfolding children seenAfter
 children-run fuel ws zero x s h right =
     record { met = []; trace = tt; ends = refl; levels = tt; cells = tt; linked = λ d k l. absurd (omega arith); links = tt }
 children-run fuel ws (suc n) x s h right =
-    let up : getD ws 0 0 - n ≡ suc (getD ws 0 0 - suc n) = omega arith in
-    along-run (children fuel ws n) ws (getD ws 0 0 - suc n) (omega arith)
+    let up : dimensionsAt ws - n ≡ suc (dimensionsAt ws - suc n) = omega arith in
+    along-run (children fuel ws n) ws (dimensionsAt ws - suc n) (omega arith)
     (λ z u r. subst (λ e. Run ws e z u (children fuel ws n z u)) up (children-run fuel ws n z u (omega arith) r)) fuel x s right
 
 -- all children of the head
 pub head-run : (ws : List ℕ) → seenAll ws .right ≡ true → Run ws 0 0 (atHead ws) (seenAll ws)
 head-run ws right =
-    let D = getD ws 0 0 in
+    let D = dimensionsAt ws in
     let least : D - D ≡ 0 = omega arith in
-    subst (λ e. Run ws e 0 (atHead ws) (seenAll ws)) least (children-run (getD ws 2 0) ws D 0 (atHead ws) (omega arith) right)
+    subst (λ e. Run ws e 0 (atHead ws) (seenAll ws)) least (children-run (cellsAt ws) ws D 0 (atHead ws) (omega arith) right)

@@ -7,15 +7,16 @@ use Prim.Native.Nat.{ℕ, zero, suc, _+_, _-_, _^_, _≤_, _<_}
 use native.Mathlib.Decide.{ℕ-discrete}
 use native.Mathlib.Omega.{arith}
 use lib.Dec.{eqb, leb, ltb}
-use lib.ListN.{length, getD}
+use lib.ListN.{length}
 use borrow.Author.Tests.{ltb-true, ltb-false, leb-true, eqb-true, eq-eqb, ne-eqb, not-true}
 use Rattle.settings.specs.Numbers.{cellWords, lengthOf, inRange}
 use Rattle.settings.specs.Base.{IsBase}
-use Rattle.settings.proofs.Laws.{Ranges, ranges, is-base}
-use Rattle.meaning.specs.Words.{wordAt, keyAt, valueAt, markAt, owedAt, lowAt, highAt, coordinateAt, linkAt}
-use Rattle.meaning.proofs.Order.{All, both}
+use Rattle.settings.proofs.Numbers.{Ranges, ranges, is-base}
+use Rattle.lists.proofs.All.{All}
+use Rattle.lists.proofs.Tests.{both}
+use Rattle.meaning.specs.Words.{wordAt, keyAt, valueAt, markAt, owedAt, lowAt, highAt, coordinateAt, linkAt, dimensionsAt, largestAt, cellsAt, baseAt, positionAt}
 use Rattle.tree.specs.declared.Seen.{Seen}
-use Rattle.tree.specs.Tree.{allFrom, writesKey, follows, entryRight, dueTo, linksBelow, debtRight, agreedAt, positionWord, cellAloneRight, cellRight, headRight, freeRight, headerRight}
+use Rattle.tree.specs.Tree.{allFrom, writesKey, follows, nodeRight, dueTo, linksBelow, debtRight, agreedAt, cellAloneRight, cellRight, headRight, freeRight, headerRight}
 
 -- Tests of several parts
 
@@ -47,42 +48,42 @@ all-from test i (suc n) d e h l = at (ℕ-discrete i d) (both (test i) (allFrom 
 -- A cell that is met
 
 -- of a cell y that owes, of dimension e, read after x
-pub record Owing (ws : List ℕ) (x y e : ℕ) : Type 0 where
+pub record DebtTested (ws : List ℕ) (x y e : ℕ) : Type 0 where
   pub before : owedAt ws x ≡ 0
   pub low : lowAt ws y ≡ e
   pub high : e < highAt ws y
-  pub inside : highAt ws y < getD ws 0 0
-  pub cell : owedAt ws y < getD ws 2 0
-  pub links : (d : ℕ) → d < getD ws 0 0 → linkAt ws y d ≡ cond (eqb d (highAt ws y)) (owedAt ws y) 0
+  pub inside : highAt ws y < dimensionsAt ws
+  pub cell : owedAt ws y < cellsAt ws
+  pub links : (d : ℕ) → d < dimensionsAt ws → linkAt ws y d ≡ cond (eqb d (highAt ws y)) (owedAt ws y) 0
 
 -- of a cell y, met by link e, when `s` has been seen
 pub record Right (ws : List ℕ) (s : Seen) (y e : ℕ) : Type 0 where
   pub left : 0 < s .left
-  pub inside : y < getD ws 2 0
+  pub inside : y < cellsAt ws
   pub same : (d : ℕ) → d < e → coordinateAt ws y d ≡ coordinateAt ws (s .last) d
   pub larger : coordinateAt ws (s .last) e < coordinateAt ws y e
   pub writes : writesKey ws y ≡ true
-  pub key : keyAt ws y ≤ getD ws 1 0
-  pub entry : ((markAt ws y ≡ 2) × (valueAt ws y ≡ 0)) ⊎ ((markAt ws y ≡ 1) × (s .reached ≡ true))
+  pub key : keyAt ws y ≤ largestAt ws
+  pub node : ((markAt ws y ≡ 2) × (valueAt ws y ≡ 0)) ⊎ ((markAt ws y ≡ 1) × (s .reached ≡ true))
   pub below : (d : ℕ) → d < e → (linkAt ws y d ≡ 0) ⊎ (dueTo ws (s .last) d ≡ true)
   pub unowing : owedAt ws y ≡ 0 → (lowAt ws y ≡ 0) × (highAt ws y ≡ 0)
-  pub owing : (owedAt ws y ≡ 0 → ⊥) → Owing ws (s .last) y e
-  pub path : y ≡ positionWord ws → agreedAt ws y e (s .agreed) ≡ getD ws 0 0
+  pub owing : (owedAt ws y ≡ 0 → ⊥) → DebtTested ws (s .last) y e
+  pub path : y ≡ positionAt ws → agreedAt ws y e (s .agreed) ≡ dimensionsAt ws
 
-pub owing-right : (ws : List ℕ) (x y e : ℕ) → debtRight ws x y e ≡ true → (owedAt ws y ≡ 0 → ⊥) → Owing ws x y e
+pub owing-right : (ws : List ℕ) (x y e : ℕ) → debtRight ws x y e ≡ true → (owedAt ws y ≡ 0 → ⊥) → DebtTested ws x y e
 unfolding debtRight
 owing-right ws x y e h ne =
     let links : ℕ → Bool = λ d. eqb (linkAt ws y d) (cond (eqb d (highAt ws y)) (owedAt ws y) 0) in
-    let t = joined-all (eqb (owedAt ws x) 0 ∷ eqb (lowAt ws y) e ∷ ltb e (highAt ws y) ∷ ltb (highAt ws y) (getD ws 0 0) ∷
-    ltb (owedAt ws y) (getD ws 2 0) ∷ allFrom links 0 (getD ws 0 0) ∷ [])
+    let t = joined-all (eqb (owedAt ws x) 0 ∷ eqb (lowAt ws y) e ∷ ltb e (highAt ws y) ∷ ltb (highAt ws y) (dimensionsAt ws) ∷
+    ltb (owedAt ws y) (cellsAt ws) ∷ allFrom links 0 (dimensionsAt ws) ∷ [])
     (rw (ne-eqb (owedAt ws y) 0 ne) at h) in
     record {
       before = eqb-true (owedAt ws x) 0 (t .0);
       low = eqb-true (lowAt ws y) e (t .1 .0);
       high = ltb-true e (highAt ws y) (t .1 .1 .0);
-      inside = ltb-true (highAt ws y) (getD ws 0 0) (t .1 .1 .1 .0);
-      cell = ltb-true (owedAt ws y) (getD ws 2 0) (t .1 .1 .1 .1 .0);
-      links = λ d l. eqb-true (linkAt ws y d) (cond (eqb d (highAt ws y)) (owedAt ws y) 0) (all-from links 0 (getD ws 0 0) d (t .1 .1 .1 .1 .1 .0) (omega arith) (omega arith));
+      inside = ltb-true (highAt ws y) (dimensionsAt ws) (t .1 .1 .1 .0);
+      cell = ltb-true (owedAt ws y) (cellsAt ws) (t .1 .1 .1 .1 .0);
+      links = λ d l. eqb-true (linkAt ws y d) (cond (eqb d (highAt ws y)) (owedAt ws y) 0) (all-from links 0 (dimensionsAt ws) d (t .1 .1 .1 .1 .1 .0) (omega arith) (omega arith));
     }
 
 unowing-right : (ws : List ℕ) (x y e : ℕ) → debtRight ws x y e ≡ true → owedAt ws y ≡ 0 → (lowAt ws y ≡ 0) × (highAt ws y ≡ 0)
@@ -91,14 +92,14 @@ unowing-right ws x y e h q =
     let t = both (eqb (lowAt ws y) 0) (eqb (highAt ws y) 0) (rw (eq-eqb (owedAt ws y) 0 q) at h) in
     (eqb-true (lowAt ws y) 0 (t .0), eqb-true (highAt ws y) 0 (t .1))
 
-entry-right : (ws : List ℕ) (y : ℕ) (reached : Bool) → entryRight ws y reached ≡ true →
-    (keyAt ws y ≤ getD ws 1 0) × (((markAt ws y ≡ 2) × (valueAt ws y ≡ 0)) ⊎ ((markAt ws y ≡ 1) × (reached ≡ true)))
-unfolding entryRight
-entry-right ws y reached h =
+node-right : (ws : List ℕ) (y : ℕ) (reached : Bool) → nodeRight ws y reached ≡ true →
+    (keyAt ws y ≤ largestAt ws) × (((markAt ws y ≡ 2) × (valueAt ws y ≡ 0)) ⊎ ((markAt ws y ≡ 1) × (reached ≡ true)))
+unfolding nodeRight
+node-right ws y reached h =
     let dead = eqb (markAt ws y) 2 && eqb (valueAt ws y) 0 in
     let live = eqb (markAt ws y) 1 && reached in
-    let t = both (leb (keyAt ws y) (getD ws 1 0)) (dead || live) h in
-    (leb-true (keyAt ws y) (getD ws 1 0) (t .0), at (either dead live (t .1)))
+    let t = both (leb (keyAt ws y) (largestAt ws)) (dead || live) h in
+    (leb-true (keyAt ws y) (largestAt ws) (t .0), at (either dead live (t .1)))
   where
     at : ((eqb (markAt ws y) 2 && eqb (valueAt ws y) 0) ≡ true) ⊎ ((eqb (markAt ws y) 1 && reached) ≡ true) →
         ((markAt ws y ≡ 2) × (valueAt ws y ≡ 0)) ⊎ ((markAt ws y ≡ 1) × (reached ≡ true))
@@ -119,40 +120,40 @@ cell-right ws y e s h =
     let x = s .last in
     let agreed = agreedAt ws y e (s .agreed) in
     let alike : ℕ → Bool = λ d. eqb (coordinateAt ws y d) (coordinateAt ws x d) in
-    let p = both (cellAloneRight ws y e s) (not (eqb y (positionWord ws)) || eqb agreed (getD ws 0 0)) h in
-    let t = joined-all (ltb 0 (s .left) ∷ ltb y (getD ws 2 0) ∷ follows ws x y e ∷ writesKey ws y ∷ entryRight ws y (s .reached) ∷
+    let p = both (cellAloneRight ws y e s) (not (eqb y (positionAt ws)) || eqb agreed (dimensionsAt ws)) h in
+    let t = joined-all (ltb 0 (s .left) ∷ ltb y (cellsAt ws) ∷ follows ws x y e ∷ writesKey ws y ∷ nodeRight ws y (s .reached) ∷
     linksBelow ws x y e ∷ debtRight ws x y e ∷ []) (p .0) in
     let f = both (allFrom alike 0 e) (ltb (coordinateAt ws x e) (coordinateAt ws y e)) (t .1 .1 .0) in
-    let entry = entry-right ws y (s .reached) (t .1 .1 .1 .1 .0) in
+    let node = node-right ws y (s .reached) (t .1 .1 .1 .1 .0) in
     record {
       left = ltb-true 0 (s .left) (t .0);
-      inside = ltb-true y (getD ws 2 0) (t .1 .0);
+      inside = ltb-true y (cellsAt ws) (t .1 .0);
       same = λ d l. eqb-true (coordinateAt ws y d) (coordinateAt ws x d) (all-from alike 0 e d (f .0) (omega arith) (omega arith));
       larger = ltb-true (coordinateAt ws x e) (coordinateAt ws y e) (f .1);
       writes = t .1 .1 .1 .0;
-      key = entry .0;
-      entry = entry .1;
+      key = node .0;
+      node = node .1;
       below = below-right ws x y e (t .1 .1 .1 .1 .1 .0);
       unowing = unowing-right ws x y e (t .1 .1 .1 .1 .1 .1 .0);
       owing = owing-right ws x y e (t .1 .1 .1 .1 .1 .1 .0);
-      path = λ q. eqb-true agreed (getD ws 0 0) (rw (eq-eqb y (positionWord ws) q) at (p .1));
+      path = λ q. eqb-true agreed (dimensionsAt ws) (rw (eq-eqb y (positionAt ws) q) at (p .1));
     }
 
 -- The header and the head
 
 pub record Header (ws : List ℕ) : Type 0 where
-  pub in-range : Ranges (getD ws 0 0) (getD ws 1 0) (getD ws 2 0)
-  pub positive : 0 < getD ws 3 0
-  pub size : length ws ≡ lengthOf (getD ws 0 0) (getD ws 2 0)
-  pub base : IsBase (getD ws 0 0) (getD ws 1 0) (getD ws 3 0)
+  pub in-range : Ranges (dimensionsAt ws) (largestAt ws) (cellsAt ws)
+  pub positive : 0 < baseAt ws
+  pub size : length ws ≡ lengthOf (dimensionsAt ws) (cellsAt ws)
+  pub base : IsBase (dimensionsAt ws) (largestAt ws) (baseAt ws)
 
 pub header-right : (ws : List ℕ) → headerRight ws ≡ true → Header ws
 unfolding headerRight
 header-right ws h =
-    let D = getD ws 0 0 in
-    let K = getD ws 1 0 in
-    let C = getD ws 2 0 in
-    let b = getD ws 3 0 in
+    let D = dimensionsAt ws in
+    let K = largestAt ws in
+    let C = cellsAt ws in
+    let b = baseAt ws in
     let t = joined-all (inRange D K C ∷ eqb (length ws) (lengthOf D C) ∷ ltb 0 b ∷ ltb K (b ^ D) ∷ not (ltb K ((b - 1) ^ D)) ∷ []) h in
     record {
       in-range = ranges D K C (t .0);
@@ -168,13 +169,13 @@ pub record Head (ws : List ℕ) : Type 0 where
   pub owed : owedAt ws 0 ≡ 0
   pub low : lowAt ws 0 ≡ 0
   pub high : highAt ws 0 ≡ 0
-  pub coordinate : (d : ℕ) → d < getD ws 0 0 → coordinateAt ws 0 d ≡ 0
+  pub coordinate : (d : ℕ) → d < dimensionsAt ws → coordinateAt ws 0 d ≡ 0
 
 pub head-right : (ws : List ℕ) → headRight ws ≡ true → Head ws
 unfolding headRight
 head-right ws h =
     let t = joined-all (eqb (keyAt ws 0) 0 ∷ eqb (valueAt ws 0) 0 ∷ eqb (markAt ws 0) 2 ∷ eqb (owedAt ws 0) 0 ∷ eqb (lowAt ws 0) 0 ∷
-    eqb (highAt ws 0) 0 ∷ allFrom (λ d. eqb (coordinateAt ws 0 d) 0) 0 (getD ws 0 0) ∷ []) h in
+    eqb (highAt ws 0) 0 ∷ allFrom (λ d. eqb (coordinateAt ws 0 d) 0) 0 (dimensionsAt ws) ∷ []) h in
     record {
       key = eqb-true (keyAt ws 0) 0 (t .0);
       value = eqb-true (valueAt ws 0) 0 (t .1 .0);
@@ -182,22 +183,22 @@ head-right ws h =
       owed = eqb-true (owedAt ws 0) 0 (t .1 .1 .1 .0);
       low = eqb-true (lowAt ws 0) 0 (t .1 .1 .1 .1 .0);
       high = eqb-true (highAt ws 0) 0 (t .1 .1 .1 .1 .1 .0);
-      coordinate = λ d l. eqb-true (coordinateAt ws 0 d) 0 (all-from (λ i. eqb (coordinateAt ws 0 i) 0) 0 (getD ws 0 0) d (t .1 .1 .1 .1 .1 .1 .0) (omega arith) (omega arith));
+      coordinate = λ d l. eqb-true (coordinateAt ws 0 d) 0 (all-from (λ i. eqb (coordinateAt ws 0 i) 0) 0 (dimensionsAt ws) d (t .1 .1 .1 .1 .1 .1 .0) (omega arith) (omega arith));
     }
 
 -- A free cell
 
-pub record Free (ws : List ℕ) (c : ℕ) : Type 0 where
-  pub inside : c < getD ws 2 0
-  pub blank : (j : ℕ) → 0 < j → j < cellWords (getD ws 0 0) → wordAt ws c j ≡ 0
+pub record FreeTested (ws : List ℕ) (c : ℕ) : Type 0 where
+  pub inside : c < cellsAt ws
+  pub blank : (j : ℕ) → 0 < j → j < cellWords (dimensionsAt ws) → wordAt ws c j ≡ 0
 
-pub free-right : (ws : List ℕ) (c : ℕ) → freeRight ws c ≡ true → Free ws c
+pub free-right : (ws : List ℕ) (c : ℕ) → freeRight ws c ≡ true → FreeTested ws c
 unfolding freeRight
 free-right ws c h =
-    let D = getD ws 0 0 in
+    let D = dimensionsAt ws in
     let blank : ℕ → Bool = λ j. eqb (wordAt ws c j) 0 in
-    let t = both (ltb c (getD ws 2 0)) (allFrom blank 1 (cellWords D - 1)) h in
+    let t = both (ltb c (cellsAt ws)) (allFrom blank 1 (cellWords D - 1)) h in
     record {
-      inside = ltb-true c (getD ws 2 0) (t .0);
+      inside = ltb-true c (cellsAt ws) (t .0);
       blank = λ j pos l. eqb-true (wordAt ws c j) 0 (all-from blank 1 (cellWords D - 1) j (t .1) pos (omega arith));
     }

@@ -8,33 +8,33 @@ use Prim.Native.Nat.{ℕ, _-_, _≤_, _<_}
 use native.Mathlib.Decide.{ℕ-discrete, decLe, decLt}
 use native.Mathlib.Omega.{arith}
 use lib.Dec.{eqb}
-use lib.ListN.{getD}
 use borrow.Author.Tests.{le-leb, lt-leb, eq-eqb, ne-eqb, eqb-false, not-true}
+use Rattle.lists.proofs.All.{All}
+use Rattle.lists.proofs.Tests.{both}
 use Rattle.meaning.specs.Keys.{shared}
-use Rattle.meaning.specs.Row.{headEntry, firstSharing, Place, headPlace, placesAfter, places, settledLink, owed, low, high, between, link}
+use Rattle.meaning.specs.Row.{headNode, firstSharing, Place, headPlace, placesAfter, places, settledLink, owed, low, high, between, link}
 use Rattle.meaning.specs.Picture.{mark}
-use Rattle.meaning.specs.Words.{keyAt, valueAt, markAt, owedAt, lowAt, highAt, linkAt}
+use Rattle.meaning.specs.Words.{keyAt, valueAt, markAt, owedAt, lowAt, highAt, linkAt, dimensionsAt, baseAt}
 use Rattle.meaning.specs.Walk.{linkRead}
-use Rattle.meaning.proofs.Order.{All, both}
 use Rattle.meaning.proofs.Keys.{coordinate-head}
 use Rattle.meaning.proofs.State.{Debt}
 use Rattle.meaning.proofs.WalkRead.{Held, link-tested, read-own, read-owed, read-unowing, between-facts}
-use Rattle.meaning.proofs.ConverseRow.{entryIn}
+use Rattle.meaning.proofs.ConverseRow.{nodeIn}
 use Rattle.tree.specs.declared.Seen.{Seen}
 use Rattle.tree.specs.Tree.{dueTo, atHead}
-use Rattle.tree.proofs.AcceptedTests.{Owing, Right, Header, Head}
+use Rattle.tree.proofs.AcceptedTests.{DebtTested, Right, Header, Head}
 use Rattle.tree.proofs.AcceptedRun.{Met, next, next-here, next-none, Linked, Links, seen, Trace}
 use Rattle.tree.proofs.AcceptedKeys.{cell-keyed, rowIn, Rising, sharing-is-next}
 
 -- Links read through what is owed
 
 -- x owes, and link d is one that it owes
-record Due (ws : List ℕ) (x d : ℕ) : Type 0 where
+record DueLink (ws : List ℕ) (x d : ℕ) : Type 0 where
   owes : owedAt ws x ≡ 0 → ⊥
   least : lowAt ws x ≤ d
   above : d < highAt ws x
 
-due-fact : (ws : List ℕ) (x d : ℕ) → dueTo ws x d ≡ true → Due ws x d
+due-fact : (ws : List ℕ) (x d : ℕ) → dueTo ws x d ≡ true → DueLink ws x d
 due-fact ws x d e =
     let (owes, inside) = both (not (eqb (owedAt ws x) 0)) (between (lowAt ws x) (highAt ws x) d) e in
     let (least, above) = between-facts (lowAt ws x) (highAt ws x) d inside in
@@ -72,19 +72,19 @@ clear-next ws x e c [] = c
 clear-next ws x e c (m ∷ met) = inl c
 
 -- a cell y that owes: its only link leads to the owed cell
-module _ (ws : List ℕ) (x y e : ℕ) (o : Owing ws x y e) where
+module _ (ws : List ℕ) (x y e : ℕ) (o : DebtTested ws x y e) where
   owing-link : linkRead ws y (highAt ws y) ≡ owedAt ws y
   owing-link =
       read-own ws y (highAt ws y) (due-not ws y (highAt ws y) (omega arith)) ∙ o .links (highAt ws y) (o .inside)
       ∙ ap (λ t. cond t (owedAt ws y) 0) (eq-eqb (highAt ws y) (highAt ws y) refl)
 
-  owing-none : (d : ℕ) → d < getD ws 0 0 → highAt ws y < d → linkRead ws y d ≡ 0
+  owing-none : (d : ℕ) → d < dimensionsAt ws → highAt ws y < d → linkRead ws y d ≡ 0
   owing-none d l h =
       read-own ws y d (due-not ws y d (omega arith)) ∙ o .links d l ∙ ap (λ t. cond t (owedAt ws y) 0) (ne-eqb d (highAt ws y) (λ q. omega arith))
 
   -- so that is the cell met next
   owing-next : (owedAt ws y ≡ 0 → ⊥) → (later : List Met) → Linked ws y e later →
-      All (λ m. 0 < m .cell) later → All (λ m. m .linkNumber < getD ws 0 0) later → OwesNext ws y e later
+      All (λ m. 0 < m .cell) later → All (λ m. m .linkNumber < dimensionsAt ws) later → OwesNext ws y e later
   unfolding next
   owing-next ne [] linked cells levels = absurd (ne (sym owing-link ∙ linked (highAt ws y) (let h = o .high in omega arith) (o .inside)))
   owing-next ne (m ∷ later) linked cells levels = at (decLt (highAt ws y) (m .linkNumber)) (ℕ-discrete (m .linkNumber) (highAt ws y))
@@ -101,7 +101,7 @@ module _ (ws : List ℕ) (x y e : ℕ) (o : Owing ws x y e) where
       at (no h) (no q) = absurd (ne (leads ∙ next-none (highAt ws y) m later (omega arith)))
 
 owes-next : (ws : List ℕ) (s : Seen) (y e : ℕ) (later : List Met) → Right ws s y e → Linked ws y e later → All (λ m. 0 < m .cell) later →
-    All (λ m. m .linkNumber < getD ws 0 0) later → OwesNext ws y e later
+    All (λ m. m .linkNumber < dimensionsAt ws) later → OwesNext ws y e later
 owes-next ws s y e later r linked cells levels = at (ℕ-discrete (owedAt ws y) 0)
   where
     at : Dec (owedAt ws y ≡ 0) → OwesNext ws y e later
@@ -112,17 +112,17 @@ owes-next ws s y e later r linked cells levels = at (ℕ-discrete (owedAt ws y) 
 
 -- the place of cell y, of dimension `dim`, met after cell a of dimension e
 abbrev placeIn : List ℕ → ℕ → ℕ → ℕ → ℕ → List Met → Place
-placeIn ws a e y dim later = record { entry = entryIn ws y; dimension = dim; before = entryIn ws a; beforeDimension = e; later = rowIn ws later }
+placeIn ws a e y dim later = record { node = nodeIn ws y; dimension = dim; before = nodeIn ws a; beforeDimension = e; later = rowIn ws later }
 
 -- The words of a standing cell are those of its place, and its debt is one that document 01 allows.
-pub record Standing (ws : List ℕ) (b D : ℕ) (p : Place) : Type 0 where
+pub record StandingWords (ws : List ℕ) (b D : ℕ) (p : Place) : Type 0 where
   pub held : Held ws b D p
-  pub debt : p .entry .owes ≡ true → Debt b D p
+  pub debt : p .node .owes ≡ true → Debt b D p
 
-owes-not : (ws : List ℕ) (x : ℕ) → owedAt ws x ≡ 0 → entryIn ws x .owes ≡ false
+owes-not : (ws : List ℕ) (x : ℕ) → owedAt ws x ≡ 0 → nodeIn ws x .owes ≡ false
 owes-not ws x e = rw (eq-eqb (owedAt ws x) 0 e) refl
 
-owes-is : (ws : List ℕ) (x : ℕ) → (owedAt ws x ≡ 0 → ⊥) → entryIn ws x .owes ≡ true
+owes-is : (ws : List ℕ) (x : ℕ) → (owedAt ws x ≡ 0 → ⊥) → nodeIn ws x .owes ≡ true
 owes-is ws x ne = rw (ne-eqb (owedAt ws x) 0 ne) refl
 
 -- the words of what is owed
@@ -137,27 +137,27 @@ module _ (ws : List ℕ) (a ea y e dim : ℕ) (same : dim ≡ e) where
   debt-low (m ∷ later) (inl c) = c .low ∙ sym (ap (λ t. cond t dim 0) (owes-not ws y (c .owed)))
   debt-low (m ∷ later) (inr o) = o .low ∙ sym same ∙ sym (ap (λ t. cond t dim 0) (owes-is ws y (o .owes)))
 
-  debt-high : (later : List Met) → Rising ws y later → OwesNext ws y e later → highAt ws y ≡ high (getD ws 3 0) (getD ws 0 0) (placeIn ws a ea y dim later)
-  debt-high [] r c = c .high ∙ sym (ap (λ t. cond t (shared (getD ws 3 0) (getD ws 0 0) (keyAt ws y) 0) 0) (owes-not ws y (c .owed)))
+  debt-high : (later : List Met) → Rising ws y later → OwesNext ws y e later → highAt ws y ≡ high (baseAt ws) (dimensionsAt ws) (placeIn ws a ea y dim later)
+  debt-high [] r c = c .high ∙ sym (ap (λ t. cond t (shared (baseAt ws) (dimensionsAt ws) (keyAt ws y) 0) 0) (owes-not ws y (c .owed)))
   debt-high (m ∷ later) r (inl c) =
-      c .high ∙ sym (ap (λ t. cond t (shared (getD ws 3 0) (getD ws 0 0) (keyAt ws y) (keyAt ws (m .cell))) 0) (owes-not ws y (c .owed)))
+      c .high ∙ sym (ap (λ t. cond t (shared (baseAt ws) (dimensionsAt ws) (keyAt ws y) (keyAt ws (m .cell))) 0) (owes-not ws y (c .owed)))
   debt-high (m ∷ later) r (inr o) =
-      o .high ∙ sym (r .0 .1) ∙ sym (ap (λ t. cond t (shared (getD ws 3 0) (getD ws 0 0) (keyAt ws y) (keyAt ws (m .cell))) 0) (owes-is ws y (o .owes)))
+      o .high ∙ sym (r .0 .1) ∙ sym (ap (λ t. cond t (shared (baseAt ws) (dimensionsAt ws) (keyAt ws y) (keyAt ws (m .cell))) 0) (owes-is ws y (o .owes)))
 
   -- the links of y that the cell itself owes
   due-own : (later : List Met) → Rising ws y later → OwesNext ws y e later → (d : ℕ) →
-      dueTo ws y d ≡ (entryIn ws y .owes && between (low (placeIn ws a ea y dim later)) (high (getD ws 3 0) (getD ws 0 0) (placeIn ws a ea y dim later)) d)
-  due-own later r owes d = ap₂ (λ l h. entryIn ws y .owes && between l h d) (debt-low later owes) (debt-high later r owes)
+      dueTo ws y d ≡ (nodeIn ws y .owes && between (low (placeIn ws a ea y dim later)) (high (baseAt ws) (dimensionsAt ws) (placeIn ws a ea y dim later)) d)
+  due-own later r owes d = ap₂ (λ l h. nodeIn ws y .owes && between l h d) (debt-low later owes) (debt-high later r owes)
 
   -- and those that the cell before owes
-  due-before : Clear ws a ⊎ OwesTo ws a ea (record { cell = y; linkNumber = e }) → (d : ℕ) → dueTo ws a d ≡ (entryIn ws a .owes && between ea dim d)
+  due-before : Clear ws a ⊎ OwesTo ws a ea (record { cell = y; linkNumber = e }) → (d : ℕ) → dueTo ws a d ≡ (nodeIn ws a .owes && between ea dim d)
   due-before (inl c) d =
       ap (λ t. t && between (lowAt ws a) (highAt ws a) d) (owes-not ws a (c .owed)) ∙ sym (ap (λ t. t && between ea dim d) (owes-not ws a (c .owed)))
-  due-before (inr o) d = ap₂ (λ l h. entryIn ws a .owes && between l h d) (o .low) (o .high ∙ sym same)
+  due-before (inr o) d = ap₂ (λ l h. nodeIn ws a .owes && between l h d) (o .low) (o .high ∙ sym same)
 
   -- "its owed cell c is the standing cell of next larger key, c owes nothing, .. and low < high"
   debt-allowed : (s : Seen) (later : List Met) → s .last ≡ y → Trace ws s later → Rising ws y later → OwesNext ws y e later →
-      entryIn ws y .owes ≡ true → Debt (getD ws 3 0) (getD ws 0 0) (placeIn ws a ea y dim later)
+      nodeIn ws y .owes ≡ true → Debt (baseAt ws) (dimensionsAt ws) (placeIn ws a ea y dim later)
   debt-allowed s [] is t r c o = absurd (false≢true (sym (owes-not ws y (c .owed)) ∙ o))
   debt-allowed s (m ∷ later) is t r (inl c) o = absurd (false≢true (sym (owes-not ws y (c .owed)) ∙ o))
   debt-allowed s (m ∷ later) is t r (inr owes) o =
@@ -167,25 +167,25 @@ module _ (ws : List ℕ) (a ea y e dim : ℕ) (same : dim ≡ e) where
         lower = let l = owes .lower in let q = r .0 .1 in omega arith;
       }
     where
-      at : Dec (owedAt ws (m .cell) ≡ 0) → entryIn ws (m .cell) .owes ≡ false
+      at : Dec (owedAt ws (m .cell) ≡ 0) → nodeIn ws (m .cell) .owes ≡ false
       at (yes q) = owes-not ws (m .cell) q
       at (no ne) = absurd (owes .owes (ap (owedAt ws) (sym is) ∙ t .0 .owing ne .before))
 
 -- Link d of a cell that is met after another, of dimension ea.
-module _ (ws : List ℕ) (pos : 0 < getD ws 3 0) (s : Seen) (ea : ℕ) (m : Met) (later : List Met) (right : Right ws s (m .cell) (m .linkNumber))
+module _ (ws : List ℕ) (pos : 0 < baseAt ws) (s : Seen) (ea : ℕ) (m : Met) (later : List Met) (right : Right ws s (m .cell) (m .linkNumber))
     (before : Linked ws (s .last) ea (m ∷ later)) (before-owes : Clear ws (s .last) ⊎ OwesTo ws (s .last) ea m)
     (rises : Rising ws (s .last) (m ∷ later)) (linked : Linked ws (m .cell) (m .linkNumber) later) (owes : OwesNext ws (m .cell) (m .linkNumber) later)
-    (d : ℕ) (inside : d < getD ws 0 0) where
+    (d : ℕ) (inside : d < dimensionsAt ws) where
   -- one that the cell before owes
   link-due : dueTo ws (s .last) d ≡ true →
-      linkAt ws (m .cell) d ≡ firstSharing (getD ws 3 0) (getD ws 0 0) (keyAt ws (s .last)) d (entryIn ws (m .cell) ∷ rowIn ws later)
+      linkAt ws (m .cell) d ≡ firstSharing (baseAt ws) (dimensionsAt ws) (keyAt ws (s .last)) d (nodeIn ws (m .cell) ∷ rowIn ws later)
   link-due t = at before-owes
     where
-      due : Due ws (s .last) d
+      due : DueLink ws (s .last) d
       due = due-fact ws (s .last) d t
 
       at : Clear ws (s .last) ⊎ OwesTo ws (s .last) ea m →
-          linkAt ws (m .cell) d ≡ firstSharing (getD ws 3 0) (getD ws 0 0) (keyAt ws (s .last)) d (entryIn ws (m .cell) ∷ rowIn ws later)
+          linkAt ws (m .cell) d ≡ firstSharing (baseAt ws) (dimensionsAt ws) (keyAt ws (s .last)) d (nodeIn ws (m .cell) ∷ rowIn ws later)
       at (inl c) = absurd (due .owes (c .owed))
       at (inr o) =
           ap (λ x. linkAt ws x d) (sym (o .owed)) ∙ sym (read-owed ws (s .last) d t) ∙ before d (let h = due .least in let k = o .low in omega arith) inside
@@ -200,36 +200,36 @@ module _ (ws : List ℕ) (pos : 0 < getD ws 3 0) (s : Seen) (ea : ℕ) (m : Met)
 
   -- any other is settled
   link-own : (dim : ℕ) → dim ≡ m .linkNumber → dueTo ws (s .last) d ≡ false → dueTo ws (m .cell) d ≡ false →
-      linkAt ws (m .cell) d ≡ settledLink (getD ws 3 0) (getD ws 0 0) (placeIn ws (s .last) ea (m .cell) dim later) d
+      linkAt ws (m .cell) d ≡ settledLink (baseAt ws) (dimensionsAt ws) (placeIn ws (s .last) ea (m .cell) dim later) d
   link-own dim same t u = at (decLe dim d)
     where
       lower : (linkAt ws (m .cell) d ≡ 0) ⊎ (dueTo ws (s .last) d ≡ true) → linkAt ws (m .cell) d ≡ 0
       lower (inl q) = q
       lower (inr q) = absurd (false≢true (sym t ∙ q))
 
-      at : Dec (dim ≤ d) → linkAt ws (m .cell) d ≡ settledLink (getD ws 3 0) (getD ws 0 0) (placeIn ws (s .last) ea (m .cell) dim later) d
+      at : Dec (dim ≤ d) → linkAt ws (m .cell) d ≡ settledLink (baseAt ws) (dimensionsAt ws) (placeIn ws (s .last) ea (m .cell) dim later) d
       at (yes h) =
           rw (le-leb dim d h)
           (sym (read-own ws (m .cell) d u) ∙ linked d (omega arith) inside ∙ sym (sharing-is-next ws pos (m .cell) d later (rises .1) inside))
       at (no h) = rw (lt-leb dim d (omega arith)) (lower (right .below d (omega arith)))
 
-  link-word : (dim : ℕ) → dim ≡ m .linkNumber → linkAt ws (m .cell) d ≡ link (getD ws 3 0) (getD ws 0 0) (placeIn ws (s .last) ea (m .cell) dim later) d
+  link-word : (dim : ℕ) → dim ≡ m .linkNumber → linkAt ws (m .cell) d ≡ link (baseAt ws) (dimensionsAt ws) (placeIn ws (s .last) ea (m .cell) dim later) d
   link-word dim same =
       at (dueTo ws (s .last) d) (dueTo ws (m .cell) d) refl refl
       ∙ sym (link-tested b D p d (sym (due-before ws (s .last) ea (m .cell) (m .linkNumber) dim same before-owes d))
       (sym (due-own ws (s .last) ea (m .cell) (m .linkNumber) dim same later (rises .1) owes d)))
     where
       b : ℕ
-      b = getD ws 3 0
+      b = baseAt ws
 
       D : ℕ
-      D = getD ws 0 0
+      D = dimensionsAt ws
 
       p : Place
       p = placeIn ws (s .last) ea (m .cell) dim later
 
       at : (q r : Bool) → dueTo ws (s .last) d ≡ q → dueTo ws (m .cell) d ≡ r →
-          linkAt ws (m .cell) d ≡ cond q (firstSharing b D (keyAt ws (s .last)) d (entryIn ws (m .cell) ∷ rowIn ws later)) (cond r 0 (settledLink b D p d))
+          linkAt ws (m .cell) d ≡ cond q (firstSharing b D (keyAt ws (s .last)) d (nodeIn ws (m .cell) ∷ rowIn ws later)) (cond r 0 (settledLink b D p d))
       at true r t u = link-due t
       at false true t u = link-owed u
       at false false t u = link-own dim same t u
@@ -237,15 +237,15 @@ module _ (ws : List ℕ) (pos : 0 < getD ws 3 0) (s : Seen) (ea : ℕ) (m : Met)
 -- The places of the cells met
 
 mark-word : (ws : List ℕ) (s : Seen) (y e : ℕ) → Right ws s y e → markAt ws y ≡ mark (eqb (markAt ws y) 1)
-mark-word ws s y e r = at (r .entry)
+mark-word ws s y e r = at (r .node)
   where
     at : ((markAt ws y ≡ 2) × (valueAt ws y ≡ 0)) ⊎ ((markAt ws y ≡ 1) × (s .reached ≡ true)) → markAt ws y ≡ mark (eqb (markAt ws y) 1)
     at (inl t) = t .0 ∙ sym (ap (λ n. mark (eqb n 1)) (t .0))
     at (inr t) = t .0 ∙ sym (ap (λ n. mark (eqb n 1)) (t .0))
 
 pub standing-after : (ws : List ℕ) → Header ws → (s : Seen) (ea : ℕ) (met : List Met) → Trace ws s met → Links ws met → Rising ws (s .last) met →
-    All (λ m. 0 < m .cell) met → All (λ m. m .linkNumber < getD ws 0 0) met → Linked ws (s .last) ea met → OwesNext ws (s .last) ea met →
-    All (Standing ws (getD ws 3 0) (getD ws 0 0)) (placesAfter (getD ws 3 0) (getD ws 0 0) (entryIn ws (s .last)) ea (rowIn ws met))
+    All (λ m. 0 < m .cell) met → All (λ m. m .linkNumber < dimensionsAt ws) met → Linked ws (s .last) ea met → OwesNext ws (s .last) ea met →
+    All (StandingWords ws (baseAt ws) (dimensionsAt ws)) (placesAfter (baseAt ws) (dimensionsAt ws) (nodeIn ws (s .last)) ea (rowIn ws met))
 unfolding placesAfter
 standing-after ws header s ea [] trace links rises cells levels before before-owes = tt
 standing-after ws header s ea (m ∷ met) trace links rises cells levels before before-owes = (
@@ -267,23 +267,23 @@ standing-after ws header s ea (m ∷ met) trace links rises cells levels before 
 )
   where
     dim : ℕ
-    dim = shared (getD ws 3 0) (getD ws 0 0) (keyAt ws (s .last)) (keyAt ws (m .cell))
+    dim = shared (baseAt ws) (dimensionsAt ws) (keyAt ws (s .last)) (keyAt ws (m .cell))
 
     owes : OwesNext ws (m .cell) (m .linkNumber) met
     owes = owes-next ws s (m .cell) (m .linkNumber) met (trace .0) (links .0) (cells .1) (levels .1)
 
 -- The head's place
 
-pub entry-head : (ws : List ℕ) → Head ws → entryIn ws 0 ≡ headEntry
-entry-head ws head =
+pub node-head : (ws : List ℕ) → Head ws → nodeIn ws 0 ≡ headNode
+node-head ws head =
     λ i. record { cell = 0; key = head .key i; value = head .value i; live = ap (λ n. eqb n 1) (head .mark) i; owes = owes-not ws 0 (head .owed) i }
 
-standing-head : (ws : List ℕ) → 0 < getD ws 3 0 → Head ws → (met : List Met) → Rising ws 0 met → Linked ws 0 0 met →
-    Standing ws (getD ws 3 0) (getD ws 0 0) (headPlace (rowIn ws met))
+standing-head : (ws : List ℕ) → 0 < baseAt ws → Head ws → (met : List Met) → Rising ws 0 met → Linked ws 0 0 met →
+    StandingWords ws (baseAt ws) (dimensionsAt ws) (headPlace (rowIn ws met))
 unfolding link
 standing-head ws pos head met rises linked =
-    let b = getD ws 3 0 in
-    let D = getD ws 0 0 in
+    let b = baseAt ws in
+    let D = dimensionsAt ws in
     record {
       held = record {
         key = head .key;
@@ -303,12 +303,12 @@ standing-head ws pos head met rises linked =
 
 -- all places, from a run over all children of the head
 pub standing-places : (ws : List ℕ) → Header ws → Head ws → (met : List Met) → Trace ws (atHead ws) met → Links ws met → Rising ws 0 met →
-    All (λ m. 0 < m .cell) met → All (λ m. m .linkNumber < getD ws 0 0) met → Linked ws 0 0 met →
-    All (Standing ws (getD ws 3 0) (getD ws 0 0)) (places (getD ws 3 0) (getD ws 0 0) (rowIn ws met))
+    All (λ m. 0 < m .cell) met → All (λ m. m .linkNumber < dimensionsAt ws) met → Linked ws 0 0 met →
+    All (StandingWords ws (baseAt ws) (dimensionsAt ws)) (places (baseAt ws) (dimensionsAt ws) (rowIn ws met))
 unfolding places atHead
 standing-places ws header head met trace links rises cells levels linked = (
   standing-head ws (header .positive) head met rises linked,
-  subst (λ x. All (Standing ws (getD ws 3 0) (getD ws 0 0)) (placesAfter (getD ws 3 0) (getD ws 0 0) x 0 (rowIn ws met))) (entry-head ws head)
+  subst (λ x. All (StandingWords ws (baseAt ws) (dimensionsAt ws)) (placesAfter (baseAt ws) (dimensionsAt ws) x 0 (rowIn ws met))) (node-head ws head)
       (standing-after ws header (atHead ws) 0 met trace links rises cells levels linked
       (clear-next ws 0 0 (record { owed = head .owed; low = head .low; high = head .high }) met)),
 )

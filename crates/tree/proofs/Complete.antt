@@ -9,37 +9,39 @@ use Prim.Native.Nat.{ℕ, suc, _+_, _-_, _^_, _≤_, _<_}
 use native.Mathlib.Decide.{decLt, ℕ-discrete}
 use native.Mathlib.Omega.{arith}
 use lib.Dec.{eqb, leb}
-use lib.ListN.{length, getD}
+use lib.ListN.{length}
 use borrow.Author.Tests.{lt-ltb, le-ltb, le-leb, lt-leb, eq-eqb, ne-eqb}
 use Rattle.settings.specs.Numbers.{cellWords, lengthOf}
-use Rattle.settings.proofs.Laws.{in-range}
+use Rattle.settings.proofs.Numbers.{in-range}
+use Rattle.lists.specs.Lists.{firstNumber}
+use Rattle.lists.proofs.All.{All, all-map}
 use Rattle.meaning.specs.Keys.{shared}
-use Rattle.meaning.specs.Row.{Entry, headEntry, Place, headPlace, placeOf, placesAfter, places}
+use Rattle.meaning.specs.Row.{Node, headNode, Place, headPlace, placeOf, placesAfter, places}
 use Rattle.meaning.specs.State.{State, positionKey}
-use Rattle.meaning.specs.Picture.{firstNumber, picture}
+use Rattle.meaning.specs.Picture.{picture}
 use Rattle.meaning.specs.Reading.{read, isList}
-use Rattle.meaning.specs.Words.{wordAt, keyAt, valueAt, markAt, owedAt, lowAt, highAt, coordinateAt}
-use Rattle.meaning.proofs.Order.{All, Asc, all-map, asc-weaken}
+use Rattle.meaning.specs.Words.{wordAt, keyAt, valueAt, markAt, owedAt, lowAt, highAt, coordinateAt, dimensionsAt, cellsAt, baseAt, positionAt}
+use Rattle.meaning.proofs.Order.{Asc, asc-weaken}
 use Rattle.meaning.proofs.Keys.{shared-same, coordinate-head}
 use Rattle.meaning.proofs.State.{Sound, base-positive, base-above, base-of}
 use Rattle.meaning.proofs.Cells.{free-distinct, free-range, free-length}
 use Rattle.meaning.proofs.Picture.{picture-length, picture-free, free-found}
 use Rattle.meaning.proofs.Reading.{Follow, distinct-follow, list-is-picture, list-sound}
 use Rattle.meaning.proofs.WalkRead.{places-read}
-use Rattle.meaning.proofs.SentencesCells.{free-cell-first, free-cell-rest}
-use Rattle.tree.specs.Tree.{positionWord, pathRun, children, headRight, atHead, freeRight, chainRight, headerRight, seenAll, accepts}
+use Rattle.meaning.proofs.Placed.{free-cell-first, free-cell-rest}
+use Rattle.tree.specs.Tree.{pathRun, children, headRight, atHead, freeRight, chainRight, headerRight, seenAll, accepts}
 use Rattle.tree.proofs.CompleteOrder.{lastBelow, seenAt, LinksRead, Entered, Ready, below-keeps, last-any, children-read}
-use Rattle.tree.proofs.CompletePath.{Stands, OnPath, run-agreed, position-here, position-apart}
+use Rattle.tree.proofs.CompletePath.{Stands, PlaceOnPath, run-agreed, position-here, position-apart}
 use Rattle.tree.proofs.CompleteCell.{and-then, or-left, or-right, all-from, Shown, enters-after}
 use Rattle.tree.proofs.CompleteShown.{position-stands, places-shown}
 
 -- The position among the standing cells
 
 -- a key has been reached at x, or stands later
-abbrev Ahead : ℕ → Entry → List Entry → Type 0
-Ahead key x later = (key ≤ x .key) ⊎ Stands key later
+abbrev ToCome : ℕ → Node → List Node → Type 0
+ToCome key x later = (key ≤ x .key) ⊎ Stands key later
 
-stands-above : (key low : ℕ) (row : List Entry) → Asc low row → Stands key row → low < key
+stands-above : (key low : ℕ) (row : List Node) → Asc low row → Stands key row → low < key
 stands-above key low [] asc stands = absurd stands
 stands-above key low (x ∷ row) asc (inl e) = let h = asc .0 in omega arith
 stands-above key low (x ∷ row) asc (inr later) =
@@ -47,26 +49,26 @@ stands-above key low (x ∷ row) asc (inr later) =
     stands-above key low row (asc-weaken low (x .key) row (omega arith) (asc .1)) later
 
 -- no standing key is between those of a cell and the next
-gap : (key : ℕ) (x y : Entry) (later : List Entry) → Asc (x .key) (y ∷ later) → Ahead key x (y ∷ later) → (key ≤ x .key) ⊎ (y .key ≤ key)
+gap : (key : ℕ) (x y : Node) (later : List Node) → Asc (x .key) (y ∷ later) → ToCome key x (y ∷ later) → (key ≤ x .key) ⊎ (y .key ≤ key)
 gap key x y later asc (inl h) = inl h
 gap key x y later asc (inr (inl e)) = inr (omega arith)
 gap key x y later asc (inr (inr stands)) = inr (let h = stands-above key (y .key) later (asc .1) stands in omega arith)
 
-ahead-next : (key : ℕ) (x y : Entry) (later : List Entry) → x .key < y .key → Ahead key x (y ∷ later) → Ahead key y later
+ahead-next : (key : ℕ) (x y : Node) (later : List Node) → x .key < y .key → ToCome key x (y ∷ later) → ToCome key y later
 ahead-next key x y later h (inl l) = inl (omega arith)
 ahead-next key x y later h (inr (inl e)) = inl (omega arith)
 ahead-next key x y later h (inr (inr stands)) = inr stands
 
 -- at a place of an ascending row
 abbrev Passing : ℕ → Place → Type 0
-Passing key p = Asc (p .entry .key) (p .later) × Ahead key (p .entry) (p .later)
+Passing key p = Asc (p .node .key) (p .later) × ToCome key (p .node) (p .later)
 
 -- at the end of the row the position has been reached
-passed-last : (b D key : ℕ) (p : Place) → Passing key p → leb key (lastBelow b D 0 p .entry .key) ≡ true
+passed-last : (b D key : ℕ) (p : Place) → Passing key p → leb key (lastBelow b D 0 p .node .key) ≡ true
 passed-last b D key p ahead =
-    le-leb key (last .entry .key)
-    (at (subst (Ahead key (last .entry))
-    (last-any b D (p .entry .key) (p .entry) (p .dimension) (p .before) (p .beforeDimension) (p .later)) (passing .1)))
+    le-leb key (last .node .key)
+    (at (subst (ToCome key (last .node))
+    (last-any b D (p .node .key) (p .node) (p .dimension) (p .before) (p .beforeDimension) (p .later)) (passing .1)))
   where
     last : Place
     last = lastBelow b D 0 p
@@ -74,21 +76,21 @@ passed-last b D key p ahead =
     passing : Passing key last
     passing =
         below-keeps b D (Passing key) (λ q y later is h.
-        let asc : Asc (q .entry .key) (y ∷ later) = subst (Asc (q .entry .key)) is (h .0) in
-        (asc .1, ahead-next key (q .entry) y later (asc .0) (subst (Ahead key (q .entry)) is (h .1)))) 0 p ahead
+        let asc : Asc (q .node .key) (y ∷ later) = subst (Asc (q .node .key)) is (h .0) in
+        (asc .1, ahead-next key (q .node) y later (asc .0) (subst (ToCome key (q .node)) is (h .1)))) 0 p ahead
 
-    at : Ahead key (last .entry) [] → key ≤ last .entry .key
+    at : ToCome key (last .node) [] → key ≤ last .node .key
     at (inl h) = h
     at (inr stands) = absurd stands
 
 -- Every standing cell is right when it is read
 
-module _ (ws : List ℕ) (key free : ℕ) (pos : 0 < getD ws 3 0) (some : 0 < getD ws 0 0) where
-  after-entered : (x : Entry) (e : ℕ) (a : Entry) (f : ℕ) (later : List Entry) →
-      Shown ws key (record { entry = x; dimension = e; before = a; beforeDimension = f; later = later }) →
-      All (Shown ws key) (placesAfter (getD ws 3 0) (getD ws 0 0) x e later) →
-      All (LinksRead ws (getD ws 3 0)) (placesAfter (getD ws 3 0) (getD ws 0 0) x e later) →
-      Ahead key x later → All (Entered ws (getD ws 3 0) key free) (placesAfter (getD ws 3 0) (getD ws 0 0) x e later)
+module _ (ws : List ℕ) (key free : ℕ) (pos : 0 < baseAt ws) (some : 0 < dimensionsAt ws) where
+  after-entered : (x : Node) (e : ℕ) (a : Node) (f : ℕ) (later : List Node) →
+      Shown ws key (record { node = x; dimension = e; before = a; beforeDimension = f; later = later }) →
+      All (Shown ws key) (placesAfter (baseAt ws) (dimensionsAt ws) x e later) →
+      All (LinksRead ws (baseAt ws)) (placesAfter (baseAt ws) (dimensionsAt ws) x e later) →
+      ToCome key x later → All (Entered ws (baseAt ws) key free) (placesAfter (baseAt ws) (dimensionsAt ws) x e later)
   unfolding placesAfter
   after-entered x e a f [] shown after links ahead = tt
   after-entered x e a f (y ∷ later) shown after links ahead = (
@@ -97,54 +99,54 @@ module _ (ws : List ℕ) (key free : ℕ) (pos : 0 < getD ws 3 0) (some : 0 < ge
       links = links .0;
       enters = enters-after ws key x e a f y later free pos some shown (after .0) (gap key x y later (shown .ascends) ahead);
     },
-    after-entered y (shared (getD ws 3 0) (getD ws 0 0) (x .key) (y .key)) x e later (after .0) (after .1) (links .1)
+    after-entered y (shared (baseAt ws) (dimensionsAt ws) (x .key) (y .key)) x e later (after .0) (after .1) (links .1)
         (ahead-next key x y later (shown .ascends .0) ahead),
   )
 
 -- The head
 
-module _ (ws : List ℕ) (key free : ℕ) (row : List Entry) (some : 0 < getD ws 0 0) (on : OnPath ws (getD ws 3 0) key (headPlace row)) where
-  head-agreed : pathRun ws 0 0 (getD ws 0 0) ≡ shared (getD ws 3 0) (getD ws 0 0) 0 key
+module _ (ws : List ℕ) (key free : ℕ) (row : List Node) (some : 0 < dimensionsAt ws) (on : PlaceOnPath ws (baseAt ws) key (headPlace row)) where
+  head-agreed : pathRun ws 0 0 (dimensionsAt ws) ≡ shared (baseAt ws) (dimensionsAt ws) 0 key
   head-agreed =
-      let D = getD ws 0 0 in
+      let D = dimensionsAt ws in
       let all : D ≡ D - 0 = omega arith in
-      ap (pathRun ws 0 0) all ∙ run-agreed ws (getD ws 3 0) key (headPlace row) on 0 (omega arith) (omega arith)
+      ap (pathRun ws 0 0) all ∙ run-agreed ws (baseAt ws) key (headPlace row) on 0 (omega arith) (omega arith)
 
   -- what has been seen at the head
-  head-seen : getD ws 2 0 - 1 ≡ length row + free → atHead ws ≡ seenAt (getD ws 3 0) (getD ws 0 0) key free (headPlace row)
+  head-seen : cellsAt ws - 1 ≡ length row + free → atHead ws ≡ seenAt (baseAt ws) (dimensionsAt ws) key free (headPlace row)
   unfolding atHead
   head-seen left = λ i. record { right = right i; left = left i; last = 0; agreed = head-agreed i; reached = reached i }
     where
       b : ℕ
-      b = getD ws 3 0
+      b = baseAt ws
 
       D : ℕ
-      D = getD ws 0 0
+      D = dimensionsAt ws
 
-      apart : (0 ≡ key → ⊥) → positionWord ws ≡ 0 → ⊥
+      apart : (0 ≡ key → ⊥) → positionAt ws ≡ 0 → ⊥
       apart ne e = position-apart ws b key (headPlace row) on some ne (sym e)
 
-      here : 0 ≡ key → positionWord ws ≡ 0
+      here : 0 ≡ key → positionAt ws ≡ 0
       here e = sym (position-here ws b key (headPlace row) on some some e)
 
-      right : (not (eqb (positionWord ws) 0) || eqb (pathRun ws 0 0 D) D) ≡ true
+      right : (not (eqb (positionAt ws) 0) || eqb (pathRun ws 0 0 D) D) ≡ true
       right = at (ℕ-discrete 0 key)
         where
-          at : Dec (0 ≡ key) → (not (eqb (positionWord ws) 0) || eqb (pathRun ws 0 0 D) D) ≡ true
+          at : Dec (0 ≡ key) → (not (eqb (positionAt ws) 0) || eqb (pathRun ws 0 0 D) D) ≡ true
           at (yes e) =
-              or-right (not (eqb (positionWord ws) 0)) (eqb (pathRun ws 0 0 D) D)
+              or-right (not (eqb (positionAt ws) 0)) (eqb (pathRun ws 0 0 D) D)
               (eq-eqb (pathRun ws 0 0 D) D (head-agreed ∙ ap (shared b D 0) (sym e) ∙ shared-same b D 0))
           at (no ne) =
-              or-left (not (eqb (positionWord ws) 0)) (eqb (pathRun ws 0 0 D) D) (ap not (ne-eqb (positionWord ws) 0 (apart ne)))
+              or-left (not (eqb (positionAt ws) 0)) (eqb (pathRun ws 0 0 D) D) (ap not (ne-eqb (positionAt ws) 0 (apart ne)))
 
-      reached : eqb (positionWord ws) 0 ≡ leb key 0
+      reached : eqb (positionAt ws) 0 ≡ leb key 0
       reached = at (ℕ-discrete 0 key)
         where
-          at : Dec (0 ≡ key) → eqb (positionWord ws) 0 ≡ leb key 0
-          at (yes e) = eq-eqb (positionWord ws) 0 (here e) ∙ sym (le-leb key 0 (omega arith))
-          at (no ne) = ne-eqb (positionWord ws) 0 (apart ne) ∙ sym (lt-leb key 0 (omega arith))
+          at : Dec (0 ≡ key) → eqb (positionAt ws) 0 ≡ leb key 0
+          at (yes e) = eq-eqb (positionAt ws) 0 (here e) ∙ sym (le-leb key 0 (omega arith))
+          at (no ne) = ne-eqb (positionAt ws) 0 (apart ne) ∙ sym (lt-leb key 0 (omega arith))
 
-head-right : (ws : List ℕ) (key : ℕ) (row : List Entry) → Shown ws key (headPlace row) → headRight ws ≡ true
+head-right : (ws : List ℕ) (key : ℕ) (row : List Node) → Shown ws key (headPlace row) → headRight ws ≡ true
 unfolding headRight
 head-right ws key row shown =
     let held = shown .held in
@@ -154,31 +156,31 @@ head-right ws key row shown =
     (and-then (eq-eqb (owedAt ws 0) 0 (held .owed))
     (and-then (eq-eqb (lowAt ws 0) 0 (held .low))
     (and-then (eq-eqb (highAt ws 0) 0 (held .high))
-    (all-from (λ d. eqb (coordinateAt ws 0 d) 0) 0 (getD ws 0 0)
-    (λ d h l. eq-eqb (coordinateAt ws 0 d) 0 (held .coordinate d (omega arith) ∙ coordinate-head (getD ws 3 0) (getD ws 0 0) d))))))))
+    (all-from (λ d. eqb (coordinateAt ws 0 d) 0) 0 (dimensionsAt ws)
+    (λ d h l. eq-eqb (coordinateAt ws 0 d) 0 (held .coordinate d (omega arith) ∙ coordinate-head (baseAt ws) (dimensionsAt ws) d))))))))
 
 -- All standing cells
 
 -- at the head a key that stands is ahead
-head-ahead : (key : ℕ) (row : List Entry) → Stands key (headEntry ∷ row) → Ahead key headEntry row
+head-ahead : (key : ℕ) (row : List Node) → Stands key (headNode ∷ row) → ToCome key headNode row
 head-ahead key row (inl e) = inl (omega arith)
 head-ahead key row (inr stands) = inr stands
 
-all-seen : (ws : List ℕ) (key free : ℕ) (row : List Entry) → 0 < getD ws 3 0 → 0 < getD ws 0 0 → Stands key (headEntry ∷ row) →
-    getD ws 2 0 ≡ suc (length row + free) → All (Shown ws key) (places (getD ws 3 0) (getD ws 0 0) row) →
-    All (LinksRead ws (getD ws 3 0)) (places (getD ws 3 0) (getD ws 0 0) row) →
-    seenAll ws ≡ seenAt (getD ws 3 0) (getD ws 0 0) key free (lastBelow (getD ws 3 0) (getD ws 0 0) 0 (headPlace row))
+all-seen : (ws : List ℕ) (key free : ℕ) (row : List Node) → 0 < baseAt ws → 0 < dimensionsAt ws → Stands key (headNode ∷ row) →
+    cellsAt ws ≡ suc (length row + free) → All (Shown ws key) (places (baseAt ws) (dimensionsAt ws) row) →
+    All (LinksRead ws (baseAt ws)) (places (baseAt ws) (dimensionsAt ws) row) →
+    seenAll ws ≡ seenAt (baseAt ws) (dimensionsAt ws) key free (lastBelow (baseAt ws) (dimensionsAt ws) 0 (headPlace row))
 unfolding places
 all-seen ws key free row pos some stands cells shown links =
-    let b = getD ws 3 0 in
-    let D = getD ws 0 0 in
-    let C = getD ws 2 0 in
+    let b = baseAt ws in
+    let D = dimensionsAt ws in
+    let C = cellsAt ws in
     let lowest : D - D ≡ 0 = omega arith in
     let ready : Ready ws b key free C (headPlace row) =
     record {
       ascends = shown .0 .ascends;
       links = links .0;
-      later = after-entered ws key free pos some headEntry 0 headEntry 0 row (shown .0) (shown .1) (links .1) (head-ahead key row stands);
+      later = after-entered ws key free pos some headNode 0 headNode 0 row (shown .0) (shown .1) (links .1) (head-ahead key row stands);
       enough = omega arith;
     } in
     ap (children C ws D 0) (head-seen ws key free row some (shown .0 .path) (omega arith))
@@ -241,7 +243,7 @@ module _ (s : State) (v : Sound s) where
   seen-all-left =
       let b = s .settings .base in
       let D = s .settings .dimensions in
-      let end = ap length (last-any b D 0 headEntry 0 headEntry 0 (s .row)) in
+      let end = ap length (last-any b D 0 headNode 0 headNode 0 (s .row)) in
       ap (λ t. t .left) picture-seen ∙ omega arith
 
   seen-all-passed : seenAll (picture s) .reached ≡ true

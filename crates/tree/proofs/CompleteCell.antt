@@ -8,21 +8,23 @@ use Prim.Native.Nat.{ℕ, zero, suc, _+_, _-_, _^_, _≤_, _<_}
 use native.Mathlib.Decide.{decLt, decLe, ℕ-discrete}
 use native.Mathlib.Omega.{arith}
 use lib.Dec.{eqb, leb, ltb}
-use lib.ListN.{length, getD}
+use lib.ListN.{length}
 use borrow.Author.Tests.{lt-ltb, le-leb, lt-leb, eq-eqb, ne-eqb}
+use Rattle.lists.proofs.All.{All}
+use Rattle.lists.proofs.Tests.{and-both}
 use Rattle.meaning.specs.Keys.{coordinates, shared}
-use Rattle.meaning.specs.Row.{Entry, firstOf, firstSharing, Place, settledLink, between, link}
+use Rattle.meaning.specs.Row.{Node, firstOf, firstSharing, Place, settledLink, between, link}
 use Rattle.meaning.specs.Picture.{mark}
-use Rattle.meaning.specs.Words.{keyAt, valueAt, markAt, owedAt, lowAt, highAt, coordinateAt, linkAt}
-use Rattle.meaning.proofs.Order.{All, Asc, and-both}
+use Rattle.meaning.specs.Words.{keyAt, valueAt, markAt, owedAt, lowAt, highAt, coordinateAt, linkAt, dimensionsAt, largestAt, cellsAt, baseAt, positionAt}
+use Rattle.meaning.proofs.Order.{Asc}
 use Rattle.meaning.proofs.Keys.{shared-same, shared-le, shared-less, coordinate-same, coordinate-less, coordinate-inside}
 use Rattle.meaning.proofs.State.{Debt}
 use Rattle.meaning.proofs.WalkRead.{Held, between-is, between-not, linkOwing, link-tested}
 use Rattle.meaning.proofs.Parent.{sharing-hits, sharing-above}
-use Rattle.tree.specs.Tree.{allFrom, written, coordinateWords, allBelow, writesKey, follows, entryRight, dueTo, linksBelow, debtRight, agreedAt, positionWord, cellRight, entered}
+use Rattle.tree.specs.Tree.{allFrom, written, coordinateWords, allBelow, writesKey, follows, nodeRight, dueTo, linksBelow, debtRight, agreedAt, cellRight, entered}
 use Rattle.tree.proofs.Written.{all-allBelow, coordinates-below, coordinates-write}
 use Rattle.tree.proofs.CompleteOrder.{placeAfter, seenAt, seenBefore}
-use Rattle.tree.proofs.CompletePath.{OnPath, agreed-is, position-here, position-apart}
+use Rattle.tree.proofs.CompletePath.{PlaceOnPath, agreed-is, position-here, position-apart}
 
 -- Tests that hold
 
@@ -43,45 +45,45 @@ or-right false t e = e
 
 -- What the words and the row say of a standing cell, with the position's key.
 pub record Shown (ws : List ℕ) (key : ℕ) (p : Place) : Type 0 where
-  pub held : Held ws (getD ws 3 0) (getD ws 0 0) p
-  pub coordinates : coordinateWords ws (p .entry .cell) ≡ coordinates (getD ws 3 0) (getD ws 0 0) (p .entry .key)
-  pub cell : p .entry .cell < getD ws 2 0
-  pub most : p .entry .key ≤ getD ws 1 0
-  pub below : p .entry .key < getD ws 3 0 ^ getD ws 0 0
-  pub worthless : p .entry .live ≡ false → p .entry .value ≡ 0
-  pub dead : p .entry .key ≤ key → p .entry .live ≡ false
-  pub debt : p .entry .owes ≡ true → Debt (getD ws 3 0) (getD ws 0 0) p
-  pub ascends : Asc (p .entry .key) (p .later)
-  pub later : All (λ z. (0 < z .cell) × (z .cell < getD ws 2 0)) (p .later)
-  pub path : OnPath ws (getD ws 3 0) key p
+  pub held : Held ws (baseAt ws) (dimensionsAt ws) p
+  pub coordinates : coordinateWords ws (p .node .cell) ≡ coordinates (baseAt ws) (dimensionsAt ws) (p .node .key)
+  pub cell : p .node .cell < cellsAt ws
+  pub most : p .node .key ≤ largestAt ws
+  pub below : p .node .key < baseAt ws ^ dimensionsAt ws
+  pub worthless : p .node .live ≡ false → p .node .value ≡ 0
+  pub dead : p .node .key ≤ key → p .node .live ≡ false
+  pub debt : p .node .owes ≡ true → Debt (baseAt ws) (dimensionsAt ws) p
+  pub ascends : Asc (p .node .key) (p .later)
+  pub later : All (λ z. (0 < z .cell) × (z .cell < cellsAt ws)) (p .later)
+  pub path : PlaceOnPath ws (baseAt ws) key p
 
-writes-key : (ws : List ℕ) (key : ℕ) (p : Place) → 0 < getD ws 3 0 → Shown ws key p → writesKey ws (p .entry .cell) ≡ true
+writes-key : (ws : List ℕ) (key : ℕ) (p : Place) → 0 < baseAt ws → Shown ws key p → writesKey ws (p .node .cell) ≡ true
 unfolding writesKey
 writes-key ws key p pos shown =
-    let b = getD ws 3 0 in
-    let D = getD ws 0 0 in
-    let c = p .entry .cell in
+    let b = baseAt ws in
+    let D = dimensionsAt ws in
+    let c = p .node .cell in
     and-then
-    (ap (allBelow b) (shown .coordinates) ∙ all-allBelow b (coordinates b D (p .entry .key)) (coordinates-below b D (p .entry .key) pos))
+    (ap (allBelow b) (shown .coordinates) ∙ all-allBelow b (coordinates b D (p .node .key)) (coordinates-below b D (p .node .key) pos))
     (eq-eqb (written b 0 (coordinateWords ws c)) (keyAt ws c)
     (ap (written b 0) (shown .coordinates)
-    ∙ coordinates-write b D (p .entry .key) pos (shown .below)
+    ∙ coordinates-write b D (p .node .key) pos (shown .below)
     ∙ sym (shown .held .key)))
 
 -- key at most K, and live only where the position is before
-entry-right : (ws : List ℕ) (key : ℕ) (p : Place) → Shown ws key p → (key ≤ p .before .key) ⊎ (p .entry .key ≤ key) →
-    entryRight ws (p .entry .cell) (leb key (p .before .key)) ≡ true
-unfolding entryRight
-entry-right ws key p shown gap =
+node-right : (ws : List ℕ) (key : ℕ) (p : Place) → Shown ws key p → (key ≤ p .before .key) ⊎ (p .node .key ≤ key) →
+    nodeRight ws (p .node .cell) (leb key (p .before .key)) ≡ true
+unfolding nodeRight
+node-right ws key p shown gap =
     and-then
-    (le-leb (keyAt ws c) (getD ws 1 0) (let k = shown .held .key in let m = shown .most in omega arith))
-    (at (p .entry .live) (shown .held .mark) (shown .worthless) (shown .dead) gap)
+    (le-leb (keyAt ws c) (largestAt ws) (let k = shown .held .key in let m = shown .most in omega arith))
+    (at (p .node .live) (shown .held .mark) (shown .worthless) (shown .dead) gap)
   where
     c : ℕ
-    c = p .entry .cell
+    c = p .node .cell
 
-    at : (live : Bool) → markAt ws c ≡ mark live → (live ≡ false → p .entry .value ≡ 0) → (p .entry .key ≤ key → live ≡ false) →
-        (key ≤ p .before .key) ⊎ (p .entry .key ≤ key) →
+    at : (live : Bool) → markAt ws c ≡ mark live → (live ≡ false → p .node .value ≡ 0) → (p .node .key ≤ key → live ≡ false) →
+        (key ≤ p .before .key) ⊎ (p .node .key ≤ key) →
         ((eqb (markAt ws c) 2 && eqb (valueAt ws c) 0) || (eqb (markAt ws c) 1 && leb key (p .before .key))) ≡ true
     at false m worthless dead any =
         or-left (eqb (markAt ws c) 2 && eqb (valueAt ws c) 0) (eqb (markAt ws c) 1 && leb key (p .before .key))
@@ -92,20 +94,20 @@ entry-right ws key p shown gap =
     at true m worthless dead (inr h) = absurd (let e = dead h in let z : _≡_ {A = ℕ} 0 1 = cc in omega arith)
 
 -- A cell y after a cell x, which has dimension e and stands after a, of dimension f.
-module _ (ws : List ℕ) (key : ℕ) (x : Entry) (e : ℕ) (a : Entry) (f : ℕ) (y : Entry) (later : List Entry) where
+module _ (ws : List ℕ) (key : ℕ) (x : Node) (e : ℕ) (a : Node) (f : ℕ) (y : Node) (later : List Node) where
   -- x's place
   abbrev first : Place
-  first = record { entry = x; dimension = e; before = a; beforeDimension = f; later = y ∷ later }
+  first = record { node = x; dimension = e; before = a; beforeDimension = f; later = y ∷ later }
 
   -- y's place
   abbrev second : Place
-  second = placeAfter (getD ws 3 0) (getD ws 0 0) first y later
+  second = placeAfter (baseAt ws) (dimensionsAt ws) first y later
 
-  cell-follows : 0 < getD ws 3 0 → Shown ws key first → Shown ws key second → follows ws (x .cell) (y .cell) (second .dimension) ≡ true
+  cell-follows : 0 < baseAt ws → Shown ws key first → Shown ws key second → follows ws (x .cell) (y .cell) (second .dimension) ≡ true
   unfolding follows
   cell-follows pos s t =
-      let b = getD ws 3 0 in
-      let D = getD ws 0 0 in
+      let b = baseAt ws in
+      let D = dimensionsAt ws in
       let n = shared b D (x .key) (y .key) in
       let rise = s .ascends .0 in
       let less = coordinate-less b D (x .key) (y .key) pos (s .below) (t .below) rise in
@@ -121,10 +123,10 @@ module _ (ws : List ℕ) (key : ℕ) (x : Entry) (e : ℕ) (a : Entry) (f : ℕ)
 
   -- a link below the dimension is 0 if x does not owe it
   link-below : (d : ℕ) → d < second .dimension → (x .owes && between e (second .dimension) d) ≡ false →
-      link (getD ws 3 0) (getD ws 0 0) second d ≡ 0
+      link (baseAt ws) (dimensionsAt ws) second d ≡ 0
   link-below d h free =
-      let b = getD ws 3 0 in
-      let D = getD ws 0 0 in
+      let b = baseAt ws in
+      let D = dimensionsAt ws in
       link-tested b D second d free refl
       ∙ ap (λ l. cond (linkOwing b D second d) 0 (cond l (firstSharing b D (y .key) d later) 0)) (lt-leb (second .dimension) d h)
       ∙ same (linkOwing b D second d)
@@ -151,10 +153,10 @@ module _ (ws : List ℕ) (key : ℕ) (x : Entry) (e : ℕ) (a : Entry) (f : ℕ)
       all-from (λ d. eqb (linkAt ws (y .cell) d) 0 || dueTo ws (x .cell) d) 0 n (λ d h l. at d (omega arith) (x .owes) refl (decLe e d))
     where
       b : ℕ
-      b = getD ws 3 0
+      b = baseAt ws
 
       D : ℕ
-      D = getD ws 0 0
+      D = dimensionsAt ws
 
       n : ℕ
       n = shared b D (x .key) (y .key)
@@ -176,8 +178,8 @@ module _ (ws : List ℕ) (key : ℕ) (x : Entry) (e : ℕ) (a : Entry) (f : ℕ)
   debt-none : Shown ws key second → y .owes ≡ false → debtRight ws (x .cell) (y .cell) (second .dimension) ≡ true
   unfolding debtRight
   debt-none t o =
-      let b = getD ws 3 0 in
-      let D = getD ws 0 0 in
+      let b = baseAt ws in
+      let D = dimensionsAt ws in
       let is-owed : owedAt ws (y .cell) ≡ 0 = t .held .owed ∙ ap (λ u. cond u (firstOf later .cell) 0) o in
       rw (eq-eqb (owedAt ws (y .cell)) 0 is-owed)
       (and-then
@@ -193,9 +195,9 @@ module _ (ws : List ℕ) (key : ℕ) (x : Entry) (e : ℕ) (a : Entry) (f : ℕ)
       at true q = absurd (let u = s .debt q .unowing in let z : _≡_ {A = ℕ} 0 1 = cc in omega arith)
 
   -- the only link of a y that owes is link high, to the owed cell
-  link-owing : 0 < getD ws 3 0 → Shown ws key second → x .owes ≡ false → y .owes ≡ true →
-      (c : Entry) (rest : List Entry) → later ≡ c ∷ rest → (d : ℕ) →
-      link (getD ws 3 0) (getD ws 0 0) second d ≡ cond (eqb d (shared (getD ws 3 0) (getD ws 0 0) (y .key) (c .key))) (c .cell) 0
+  link-owing : 0 < baseAt ws → Shown ws key second → x .owes ≡ false → y .owes ≡ true →
+      (c : Node) (rest : List Node) → later ≡ c ∷ rest → (d : ℕ) →
+      link (baseAt ws) (dimensionsAt ws) second d ≡ cond (eqb d (shared (baseAt ws) (dimensionsAt ws) (y .key) (c .key))) (c .cell) 0
   link-owing pos t unowing owing c rest is d =
       link-tested b D second d (ap (λ u. u && between e m d) unowing) refl
       ∙ ap (λ u. cond (u && between (cond u m 0) (cond u (shared b D (y .key) (firstOf later .key)) 0) d) 0 (settledLink b D second d)) owing
@@ -203,10 +205,10 @@ module _ (ws : List ℕ) (key : ℕ) (x : Entry) (e : ℕ) (a : Entry) (f : ℕ)
       ∙ at (decLt d m) (decLt d n) (ℕ-discrete d n)
     where
       b : ℕ
-      b = getD ws 3 0
+      b = baseAt ws
 
       D : ℕ
-      D = getD ws 0 0
+      D = dimensionsAt ws
 
       m : ℕ
       m = second .dimension
@@ -232,17 +234,17 @@ module _ (ws : List ℕ) (key : ℕ) (x : Entry) (e : ℕ) (a : Entry) (f : ℕ)
           (sharing-above b D pos (y .key) d c rest (let h = asc .0 in omega arith) (asc .1) (omega (arith, l, z)))
 
   -- y owes
-  debt-some : 0 < getD ws 3 0 → 0 < getD ws 0 0 → Shown ws key first → Shown ws key second → y .owes ≡ true →
+  debt-some : 0 < baseAt ws → 0 < dimensionsAt ws → Shown ws key first → Shown ws key second → y .owes ≡ true →
       debtRight ws (x .cell) (y .cell) (second .dimension) ≡ true
   unfolding debtRight
   debt-some pos some s t o = at later refl (t .ascends) (t .later)
     where
-      at : (l : List Entry) → later ≡ l → Asc (y .key) l → All (λ z. (0 < z .cell) × (z .cell < getD ws 2 0)) l →
+      at : (l : List Node) → later ≡ l → Asc (y .key) l → All (λ z. (0 < z .cell) × (z .cell < cellsAt ws)) l →
           debtRight ws (x .cell) (y .cell) (second .dimension) ≡ true
       at [] is asc range = absurd (let n = ap length is in let m = t .debt o .later in omega arith)
       at (c ∷ rest) is asc range =
-          let b = getD ws 3 0 in
-          let D = getD ws 0 0 in
+          let b = baseAt ws in
+          let D = dimensionsAt ws in
           let n = shared b D (y .key) (c .key) in
           let rise = asc .0 in
           let positive = range .0 .0 in
@@ -259,13 +261,13 @@ module _ (ws : List ℕ) (key : ℕ) (x : Entry) (e : ℕ) (a : Entry) (f : ℕ)
           (and-then (eq-eqb (lowAt ws (y .cell)) (second .dimension) is-low)
           (and-then (lt-ltb (second .dimension) (highAt ws (y .cell)) (omega arith))
           (and-then (lt-ltb (highAt ws (y .cell)) D (omega (arith, shared-less b D (y .key) (c .key) some (λ z. omega arith))))
-          (and-then (lt-ltb (owedAt ws (y .cell)) (getD ws 2 0) (omega arith))
+          (and-then (lt-ltb (owedAt ws (y .cell)) (cellsAt ws) (omega arith))
           (all-from (λ d. eqb (linkAt ws (y .cell) d) (cond (eqb d (highAt ws (y .cell))) (owedAt ws (y .cell)) 0)) 0 D (λ d h l.
           eq-eqb (linkAt ws (y .cell) d) (cond (eqb d (highAt ws (y .cell))) (owedAt ws (y .cell)) 0)
           (t .held .link d (omega arith) ∙ link-owing pos t unowing o c rest is d
           ∙ sym (ap₂ (λ h z. cond (eqb d h) z 0) is-high is-owed)))))))))
 
-  debt-right : 0 < getD ws 3 0 → 0 < getD ws 0 0 → Shown ws key first → Shown ws key second →
+  debt-right : 0 < baseAt ws → 0 < dimensionsAt ws → Shown ws key first → Shown ws key second →
       debtRight ws (x .cell) (y .cell) (second .dimension) ≡ true
   debt-right pos some s t = at (y .owes) refl
     where
@@ -274,81 +276,81 @@ module _ (ws : List ℕ) (key : ℕ) (x : Entry) (e : ℕ) (a : Entry) (f : ℕ)
       at true o = debt-some pos some s t o
 
   -- where y is the position, all path words agree
-  position-agreed : 0 < getD ws 3 0 → 0 < getD ws 0 0 → Shown ws key second →
-      (not (eqb (y .cell) (positionWord ws))
-      || eqb (agreedAt ws (y .cell) (second .dimension) (shared (getD ws 3 0) (getD ws 0 0) (x .key) key)) (getD ws 0 0)) ≡ true
+  position-agreed : 0 < baseAt ws → 0 < dimensionsAt ws → Shown ws key second →
+      (not (eqb (y .cell) (positionAt ws))
+      || eqb (agreedAt ws (y .cell) (second .dimension) (shared (baseAt ws) (dimensionsAt ws) (x .key) key)) (dimensionsAt ws)) ≡ true
   position-agreed pos some t = at (ℕ-discrete (y .key) key)
     where
       b : ℕ
-      b = getD ws 3 0
+      b = baseAt ws
 
       D : ℕ
-      D = getD ws 0 0
+      D = dimensionsAt ws
 
       agreed : ℕ
       agreed = agreedAt ws (y .cell) (second .dimension) (shared b D (x .key) key)
 
-      at : Dec (y .key ≡ key) → (not (eqb (y .cell) (positionWord ws)) || eqb agreed D) ≡ true
+      at : Dec (y .key ≡ key) → (not (eqb (y .cell) (positionAt ws)) || eqb agreed D) ≡ true
       at (yes e) =
-          or-right (not (eqb (y .cell) (positionWord ws))) (eqb agreed D)
+          or-right (not (eqb (y .cell) (positionAt ws))) (eqb agreed D)
           (eq-eqb agreed D (agreed-is ws b key second (t .path) pos (x .key) refl
           ∙ ap (λ k. shared b D (y .key) k) (sym e) ∙ shared-same b D (y .key)))
       at (no ne) =
-          or-left (not (eqb (y .cell) (positionWord ws))) (eqb agreed D)
-          (ap not (ne-eqb (y .cell) (positionWord ws) (position-apart ws b key second (t .path) some ne)))
+          or-left (not (eqb (y .cell) (positionAt ws))) (eqb agreed D)
+          (ap not (ne-eqb (y .cell) (positionAt ws) (position-apart ws b key second (t .path) some ne)))
 
   -- the position has been read, up to y
-  passed-next : 0 < getD ws 0 0 → Shown ws key first → Shown ws key second → (key ≤ x .key) ⊎ (y .key ≤ key) →
-      (leb key (x .key) || eqb (y .cell) (positionWord ws)) ≡ leb key (y .key)
+  passed-next : 0 < dimensionsAt ws → Shown ws key first → Shown ws key second → (key ≤ x .key) ⊎ (y .key ≤ key) →
+      (leb key (x .key) || eqb (y .cell) (positionAt ws)) ≡ leb key (y .key)
   passed-next some s t (inl h) =
       let rise = s .ascends .0 in
-      or-left (leb key (x .key)) (eqb (y .cell) (positionWord ws)) (le-leb key (x .key) h) ∙ sym (le-leb key (y .key) (omega arith))
+      or-left (leb key (x .key)) (eqb (y .cell) (positionAt ws)) (le-leb key (x .key) h) ∙ sym (le-leb key (y .key) (omega arith))
   passed-next some s t (inr h) = at (ℕ-discrete (y .key) key)
     where
       b : ℕ
-      b = getD ws 3 0
+      b = baseAt ws
 
       D : ℕ
-      D = getD ws 0 0
+      D = dimensionsAt ws
 
       rise : x .key < y .key
       rise = s .ascends .0
 
-      at : Dec (y .key ≡ key) → (leb key (x .key) || eqb (y .cell) (positionWord ws)) ≡ leb key (y .key)
+      at : Dec (y .key ≡ key) → (leb key (x .key) || eqb (y .cell) (positionAt ws)) ≡ leb key (y .key)
       at (yes e) =
-          or-right (leb key (x .key)) (eqb (y .cell) (positionWord ws))
-          (eq-eqb (y .cell) (positionWord ws)
+          or-right (leb key (x .key)) (eqb (y .cell) (positionAt ws))
+          (eq-eqb (y .cell) (positionAt ws)
           (position-here ws b key second (t .path) some (shared-less b D (x .key) (y .key) some (λ z. omega (arith, rise))) e))
           ∙ sym (le-leb key (y .key) (omega (arith, e)))
       at (no ne) =
           rw (
             lt-leb key (x .key) (omega (arith, rise, h)),
             lt-leb key (y .key) (omega (arith, ne, h)),
-            ne-eqb (y .cell) (positionWord ws) (position-apart ws b key second (t .path) some ne),
+            ne-eqb (y .cell) (positionAt ws) (position-apart ws b key second (t .path) some ne),
           ) refl
 
-  cell-right : (free : ℕ) → 0 < getD ws 3 0 → 0 < getD ws 0 0 → Shown ws key first → Shown ws key second →
+  cell-right : (free : ℕ) → 0 < baseAt ws → 0 < dimensionsAt ws → Shown ws key first → Shown ws key second →
       (key ≤ x .key) ⊎ (y .key ≤ key) →
-      cellRight ws (y .cell) (second .dimension) (seenBefore (getD ws 3 0) (getD ws 0 0) key free second) ≡ true
+      cellRight ws (y .cell) (second .dimension) (seenBefore (baseAt ws) (dimensionsAt ws) key free second) ≡ true
   unfolding cellRight
   cell-right free pos some s t gap =
       and-then
       (and-then (lt-ltb 0 (suc (length later) + free) (omega arith))
-      (and-then (lt-ltb (y .cell) (getD ws 2 0) (t .cell))
+      (and-then (lt-ltb (y .cell) (cellsAt ws) (t .cell))
       (and-then (cell-follows pos s t)
       (and-then (writes-key ws key second pos t)
-      (and-then (entry-right ws key second t gap)
+      (and-then (node-right ws key second t gap)
       (and-then (links-below s t) (debt-right pos some s t)))))))
       (position-agreed pos some t)
 
-  pub enters-after : (free : ℕ) → 0 < getD ws 3 0 → 0 < getD ws 0 0 → Shown ws key first → Shown ws key second →
+  pub enters-after : (free : ℕ) → 0 < baseAt ws → 0 < dimensionsAt ws → Shown ws key first → Shown ws key second →
       (key ≤ x .key) ⊎ (y .key ≤ key) →
-      entered ws (y .cell) (second .dimension) (seenBefore (getD ws 3 0) (getD ws 0 0) key free second)
-      ≡ seenAt (getD ws 3 0) (getD ws 0 0) key free second
+      entered ws (y .cell) (second .dimension) (seenBefore (baseAt ws) (dimensionsAt ws) key free second)
+      ≡ seenAt (baseAt ws) (dimensionsAt ws) key free second
   unfolding entered
   enters-after free pos some s t gap =
-      let b = getD ws 3 0 in
-      let D = getD ws 0 0 in
+      let b = baseAt ws in
+      let D = dimensionsAt ws in
       let fewer : suc (length later) + free - 1 ≡ length later + free = omega arith in
       let agreed = agreed-is ws b key second (t .path) pos (x .key) refl in
       let reached = passed-next some s t gap in

@@ -10,26 +10,29 @@ use native.Mathlib.Omega.{arith}
 use lib.ListN.{length, getD, take, drop, length-drop}
 use lib.Seq.{length-take-le, getD-take, getD-drop, ext-getD}
 use Rattle.settings.specs.Numbers.{fieldsBeforeCoordinates, cellWords}
+use Rattle.lists.specs.Lists.{occurrences}
+use Rattle.lists.proofs.Occurrences.{occurrences-past, distinct-left}
+use Rattle.lists.proofs.All.{All}
 use Rattle.meaning.specs.Keys.{coordinates}
-use Rattle.meaning.specs.Row.{Entry, headEntry, Place, places}
-use Rattle.meaning.specs.State.{State, positionKey, keyOf, occurrences}
+use Rattle.meaning.specs.Row.{Node, headNode, Place, places}
+use Rattle.meaning.specs.State.{State, positionKey, keyOf}
 use Rattle.meaning.specs.Picture.{picture}
-use Rattle.meaning.specs.Words.{place}
-use Rattle.meaning.proofs.Order.{All, Asc}
+use Rattle.meaning.specs.Words.{wordIndex}
+use Rattle.meaning.proofs.Order.{Asc}
 use Rattle.meaning.proofs.Keys.{coordinates-length}
 use Rattle.meaning.proofs.State.{Debt, Sound, base-positive, base-above}
-use Rattle.meaning.proofs.Cells.{occurrences-past, distinct-left, cells-distinct, row-range}
+use Rattle.meaning.proofs.Cells.{cells-distinct, row-range}
 use Rattle.meaning.proofs.Picture.{picture-length, picture-path, places-later}
 use Rattle.meaning.proofs.Places.{keyOf-same, keyOf-other}
 use Rattle.meaning.proofs.WalkRead.{Held, all-places, places-held}
 use Rattle.meaning.proofs.SentencesRow.{places-ascend}
 use Rattle.tree.specs.Tree.{coordinateWords}
-use Rattle.tree.proofs.CompletePath.{Stands, OnPath, places-on-path}
+use Rattle.tree.proofs.CompletePath.{Stands, PlaceOnPath, places-on-path}
 use Rattle.tree.proofs.CompleteCell.{Shown}
 
 -- The position
 
-occurs-stands : (c : ℕ) (row : List Entry) → 0 < occurrences c (map (λ x. x .cell) row) → Stands (keyOf c row) row
+occurs-stands : (c : ℕ) (row : List Node) → 0 < occurrences c (map (λ x. x .cell) row) → Stands (keyOf c row) row
 occurs-stands c [] h = absurd (unfold occurrences in omega arith)
 occurs-stands c (x ∷ row) h = at (ℕ-discrete (x .cell) c) (occurs-stands c row)
   where
@@ -37,19 +40,19 @@ occurs-stands c (x ∷ row) h = at (ℕ-discrete (x .cell) c) (occurs-stands c r
     at (yes e) more = inl (sym (keyOf-same c x row e))
     at (no ne) more = inr (rw (keyOf-other c x row ne) (more (rw (occurrences-past c (x .cell) (map (λ y. y .cell) row) ne) at h)))
 
-pub position-stands : (s : State) → Sound s → Stands (positionKey s) (headEntry ∷ s .row)
-position-stands s v = occurs-stands (s .position) (headEntry ∷ s .row) (v .position)
+pub position-stands : (s : State) → Sound s → Stands (positionKey s) (headNode ∷ s .row)
+position-stands s v = occurs-stands (s .position) (headNode ∷ s .row) (v .position)
 
--- What is known of the entries
+-- What is known of the nodes
 
 -- of the head too
-record Kept (s : State) (x : Entry) : Type 0 where
+record Kept (s : State) (x : Node) : Type 0 where
   cell : x .cell < s .settings .cells
   most : x .key ≤ s .settings .largest
   worthless : x .live ≡ false → x .value ≡ 0
   dead : x .key ≤ positionKey s → x .live ≡ false
 
-kept : (s : State) (row : List Entry) → All (λ x. (0 < x .cell) × (x .cell < s .settings .cells)) row →
+kept : (s : State) (row : List Node) → All (λ x. (0 < x .cell) × (x .cell < s .settings .cells)) row →
     All (λ x. x .key ≤ s .settings .largest) row →
     All (λ x. x .live ≡ false → x .value ≡ 0) row → All (λ x. x .key ≤ positionKey s → x .live ≡ false) row → All (Kept s) row
 kept s [] range most worthless dead = tt
@@ -58,10 +61,10 @@ kept s (x ∷ row) range most worthless dead = (
   kept s row (range .1) (most .1) (worthless .1) (dead .1),
 )
 
-head-kept : (s : State) → Sound s → Kept s headEntry
+head-kept : (s : State) → Sound s → Kept s headNode
 head-kept s v = let c = v .ranges .cells-least in record { cell = omega arith; most = omega arith; worthless = λ e. refl; dead = λ h. refl }
 
-places-kept : (s : State) → Sound s → All (λ p. Kept s (p .entry)) (places (s .settings .base) (s .settings .dimensions) (s .row))
+places-kept : (s : State) → Sound s → All (λ p. Kept s (p .node)) (places (s .settings .base) (s .settings .dimensions) (s .row))
 places-kept s v =
     all-places (Kept s) (s .settings .base) (s .settings .dimensions) (s .row) (head-kept s v)
     (kept s (s .row) (row-range s v) (v .keys) (v .values) (v .dead))
@@ -69,31 +72,31 @@ places-kept s v =
 -- The words
 
 module _ (s : State) (v : Sound s) where
-  coordinates-shown : (p : Place) → p .entry .cell < s .settings .cells → Held (picture s) (s .settings .base) (s .settings .dimensions) p →
-      coordinateWords (picture s) (p .entry .cell) ≡ coordinates (s .settings .base) (s .settings .dimensions) (p .entry .key)
+  coordinates-shown : (p : Place) → p .node .cell < s .settings .cells → Held (picture s) (s .settings .base) (s .settings .dimensions) p →
+      coordinateWords (picture s) (p .node .cell) ≡ coordinates (s .settings .base) (s .settings .dimensions) (p .node .key)
   unfolding picture
   coordinates-shown p h held =
       let b = s .settings .base in
       let D = s .settings .dimensions in
       let C = s .settings .cells in
-      let c = p .entry .cell in
-      let start = place D c fieldsBeforeCoordinates in
+      let c = p .node .cell in
+      let start = wordIndex D c fieldsBeforeCoordinates in
       let room : suc c * cellWords D ≤ C * cellWords D = mul-le-mul-right (cellWords D) h in
       let inside : start + D ≤ length (picture s) = omega (arith, picture-length s) in
       let rest : D ≤ length (drop start (picture s)) = omega (arith, length-drop start (picture s)) in
       let long = length-take-le D (drop start (picture s)) rest in
-      let number = coordinates-length b D (p .entry .key) in
-      ext-getD 0 (take D (drop start (picture s))) (coordinates b D (p .entry .key)) (long ∙ sym number)
+      let number = coordinates-length b D (p .node .key) in
+      ext-getD 0 (take D (drop start (picture s))) (coordinates b D (p .node .key)) (long ∙ sym number)
       (λ i l.
       let less : i < D = omega arith in
-      let there : start + i ≡ place D c (fieldsBeforeCoordinates + i) = omega arith in
+      let there : start + i ≡ wordIndex D c (fieldsBeforeCoordinates + i) = omega arith in
       getD-take D (drop start (picture s)) i 0 less
       ∙ getD-drop start (picture s) i 0
       ∙ ap (λ n. getD (picture s) n 0) there ∙ held .coordinate i less)
 
-  shown : (p : Place) → Held (picture s) (s .settings .base) (s .settings .dimensions) p → Kept s (p .entry) →
-      (p .entry .owes ≡ true → Debt (s .settings .base) (s .settings .dimensions) p) → Asc (p .entry .key) (p .later) →
-      All (λ z. (0 < z .cell) × (z .cell < s .settings .cells)) (p .later) → OnPath (picture s) (s .settings .base) (positionKey s) p →
+  shown : (p : Place) → Held (picture s) (s .settings .base) (s .settings .dimensions) p → Kept s (p .node) →
+      (p .node .owes ≡ true → Debt (s .settings .base) (s .settings .dimensions) p) → Asc (p .node .key) (p .later) →
+      All (λ z. (0 < z .cell) × (z .cell < s .settings .cells)) (p .later) → PlaceOnPath (picture s) (s .settings .base) (positionKey s) p →
       Shown (picture s) (positionKey s) p
   unfolding picture
   shown p held kept debt ascends later path =
@@ -113,7 +116,7 @@ module _ (s : State) (v : Sound s) where
         path = path;
       }
 
-  path-shown : All (OnPath (picture s) (s .settings .base) (positionKey s)) (places (s .settings .base) (s .settings .dimensions) (s .row))
+  path-shown : All (PlaceOnPath (picture s) (s .settings .base) (positionKey s)) (places (s .settings .base) (s .settings .dimensions) (s .row))
   unfolding picture
   path-shown =
       places-on-path (picture s) (s .settings .base) (positionKey s) (s .row) (base-positive s v) (v .ascends)
@@ -133,9 +136,9 @@ module _ (s : State) (v : Sound s) where
       standing : List Place
       standing = places b D (s .row)
 
-      each : (ps : List Place) → All (Held (picture s) b D) ps → All (λ p. Kept s (p .entry)) ps →
-          All (λ p. p .entry .owes ≡ true → Debt b D p) ps → All (λ p. Asc (p .entry .key) (p .later)) ps →
-          All (λ p. All (λ z. (0 < z .cell) × (z .cell < s .settings .cells)) (p .later)) ps → All (OnPath (picture s) b (positionKey s)) ps →
+      each : (ps : List Place) → All (Held (picture s) b D) ps → All (λ p. Kept s (p .node)) ps →
+          All (λ p. p .node .owes ≡ true → Debt b D p) ps → All (λ p. Asc (p .node .key) (p .later)) ps →
+          All (λ p. All (λ z. (0 < z .cell) × (z .cell < s .settings .cells)) (p .later)) ps → All (PlaceOnPath (picture s) b (positionKey s)) ps →
           All (Shown (picture s) (positionKey s)) ps
       each [] held kept debt ascends later path = tt
       each (p ∷ ps) held kept debt ascends later path = (

@@ -2,8 +2,8 @@
 use mathlib.Core.Path.{_≡_}
 use mathlib.Core.List.{List}
 use Prim.Native.Nat.{ℕ}
+use Rattle.lists.proofs.Tests.{tests-same}
 use Rattle.meaning.specs.Reading.{isList}
-use Rattle.meaning.proofs.Order.{tests-same}
 use Rattle.tree.specs.Tree.{accepts}
 use Rattle.tree.proofs.Accepted.{accepts-list}
 use Rattle.tree.proofs.Complete.{list-accepts}

@@ -10,8 +10,9 @@ use lib.Dec.{ltb}
 use lib.ListN.{length, getD, take}
 use lib.Seq.{take-suc, take-all, length-take-le}
 use borrow.Author.Tests.{ltb-true, lt-ltb}
+use Rattle.lists.proofs.All.{All, all-append, all-left, all-right}
+use Rattle.lists.proofs.Tests.{both, and-both}
 use Rattle.meaning.specs.Keys.{coordinates}
-use Rattle.meaning.proofs.Order.{All, both, and-both, all-left, all-right, all-append}
 use Rattle.meaning.proofs.Keys.{quotient-below, quotient-is, remainder-is, below-power-zero}
 use Rattle.tree.specs.Tree.{written, allBelow}
 

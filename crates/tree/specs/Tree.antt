@@ -5,10 +5,10 @@ use mathlib.Core.Bool.{Bool, true, false, cond, _&&_, _||_, not}
 use mathlib.Core.List.{List, [], _∷_}
 use Prim.Native.Nat.{ℕ, zero, suc, _+_, _*_, _-_, _^_}
 use lib.Dec.{eqb, leb, ltb}
-use lib.ListN.{length, getD, take, drop}
-use Rattle.settings.specs.Numbers.{headerWords, fieldsBeforeCoordinates, cellWords, lengthOf, inRange}
+use lib.ListN.{length, take, drop}
+use Rattle.settings.specs.Numbers.{fieldsBeforeCoordinates, cellWords, lengthOf, inRange}
 use Rattle.meaning.specs.Row.{between}
-use Rattle.meaning.specs.Words.{place, wordAt, keyAt, valueAt, markAt, owedAt, lowAt, highAt, coordinateAt, linkAt}
+use Rattle.meaning.specs.Words.{wordIndex, wordAt, keyAt, valueAt, markAt, owedAt, lowAt, highAt, coordinateAt, linkAt, dimensionsAt, largestAt, cellsAt, baseAt, firstFreeAt, liveMark, deadMark, pathAt, positionAt}
 use Rattle.meaning.specs.Walk.{linkRead}
 use Rattle.tree.specs.declared.Seen.{Seen}
 
@@ -24,7 +24,7 @@ written b n (x ∷ xs) = written b (n * b + x) xs
 
 -- the coordinate words of a cell
 abbrev pub coordinateWords : List ℕ → ℕ → List ℕ
-coordinateWords ws x = take (getD ws 0 0) (drop (place (getD ws 0 0) x fieldsBeforeCoordinates) ws)
+coordinateWords ws x = take (dimensionsAt ws) (drop (wordIndex (dimensionsAt ws) x fieldsBeforeCoordinates) ws)
 
 unfoldable pub allBelow : ℕ → List ℕ → Bool
 allBelow b [] = true
@@ -32,7 +32,7 @@ allBelow b (x ∷ xs) = ltb x b && allBelow b xs
 
 -- coordinate words that are a key's coordinates: each below b, and together they write the key
 unfoldable pub writesKey : List ℕ → ℕ → Bool
-writesKey ws x = allBelow (getD ws 3 0) (coordinateWords ws x) && eqb (written (getD ws 3 0) 0 (coordinateWords ws x)) (keyAt ws x)
+writesKey ws x = allBelow (baseAt ws) (coordinateWords ws x) && eqb (written (baseAt ws) 0 (coordinateWords ws x)) (keyAt ws x)
 
 -- cell y comes after cell x in key order and shares exactly e coordinates with it
 unfoldable pub follows : List ℕ → ℕ → ℕ → ℕ → Bool
@@ -40,9 +40,9 @@ follows ws x y e =
     allFrom (λ d. eqb (coordinateAt ws y d) (coordinateAt ws x d)) 0 e && ltb (coordinateAt ws x e) (coordinateAt ws y e)
 
 -- key at most K; live or dead, dead as long as the position has not been read; a dead cell's value is 0
-unfoldable pub entryRight : List ℕ → ℕ → Bool → Bool
-entryRight ws y reached =
-    leb (keyAt ws y) (getD ws 1 0) && ((eqb (markAt ws y) 2 && eqb (valueAt ws y) 0) || (eqb (markAt ws y) 1 && reached))
+unfoldable pub nodeRight : List ℕ → ℕ → Bool → Bool
+nodeRight ws y reached =
+    leb (keyAt ws y) (largestAt ws) && ((eqb (markAt ws y) deadMark && eqb (valueAt ws y) 0) || (eqb (markAt ws y) liveMark && reached))
 
 -- link d of y is one that x, read before y, owes
 abbrev pub dueTo : List ℕ → ℕ → ℕ → Bool
@@ -61,38 +61,34 @@ debtRight ws x y e =
     (eqb (owedAt ws x) 0
     && (eqb (lowAt ws y) e
     && (ltb e (highAt ws y)
-    && (ltb (highAt ws y) (getD ws 0 0)
-    && (ltb (owedAt ws y) (getD ws 2 0)
-    && allFrom (λ d. eqb (linkAt ws y d) (cond (eqb d (highAt ws y)) (owedAt ws y) 0)) 0 (getD ws 0 0))))))
+    && (ltb (highAt ws y) (dimensionsAt ws)
+    && (ltb (owedAt ws y) (cellsAt ws)
+    && allFrom (λ d. eqb (linkAt ws y d) (cond (eqb d (highAt ws y)) (owedAt ws y) 0)) 0 (dimensionsAt ws))))))
 
 -- how many path words from number d on, of n, are cell y
 unfoldable pub pathRun : List ℕ → ℕ → ℕ → ℕ → ℕ
 pathRun ws y d zero = d
-pathRun ws y d (suc n) = cond (eqb (getD ws (headerWords + d) 0) y) (pathRun ws y (suc d) n) d
+pathRun ws y d (suc n) = cond (eqb (pathAt ws d) y) (pathRun ws y (suc d) n) d
 
 -- how many leading path words agree with the way down, once y is met by link e: from number e on the way down is y
 unfoldable pub agreedAt : List ℕ → ℕ → ℕ → ℕ → ℕ
-agreedAt ws y e agreed = cond (ltb agreed e) agreed (pathRun ws y e (getD ws 0 0 - e))
-
--- the last path word
-abbrev pub positionWord : List ℕ → ℕ
-positionWord ws = getD ws (headerWords + getD ws 0 0 - 1) 0
+agreedAt ws y e agreed = cond (ltb agreed e) agreed (pathRun ws y e (dimensionsAt ws - e))
 
 -- cell y, met by link e, is right after what has been seen, but for the path
 abbrev pub cellAloneRight : List ℕ → ℕ → ℕ → Seen → Bool
 cellAloneRight ws y e s =
     ltb 0 (s .left)
-    && (ltb y (getD ws 2 0)
+    && (ltb y (cellsAt ws)
     && (follows ws (s .last) y e
     && (writesKey ws y
-    && (entryRight ws y (s .reached)
+    && (nodeRight ws y (s .reached)
     && (linksBelow ws (s .last) y e
     && debtRight ws (s .last) y e)))))
 
 -- .. and where it is the position, all path words agree
 unfoldable pub cellRight : List ℕ → ℕ → ℕ → Seen → Bool
 cellRight ws y e s =
-    cellAloneRight ws y e s && (not (eqb y (positionWord ws)) || eqb (agreedAt ws y e (s .agreed)) (getD ws 0 0))
+    cellAloneRight ws y e s && (not (eqb y (positionAt ws)) || eqb (agreedAt ws y e (s .agreed)) (dimensionsAt ws))
 
 abbrev pub wrong : Seen → Seen
 wrong s = record { right = false; left = s .left; last = s .last; agreed = s .agreed; reached = s .reached }
@@ -101,7 +97,7 @@ wrong s = record { right = false; left = s .left; last = s .last; agreed = s .ag
 unfoldable pub entered : List ℕ → ℕ → ℕ → Seen → Seen
 entered ws y e s =
     cond (cellRight ws y e s)
-    (record { right = true; left = s .left - 1; last = y; agreed = agreedAt ws y e (s .agreed); reached = s .reached || eqb y (positionWord ws) })
+    (record { right = true; left = s .left - 1; last = y; agreed = agreedAt ws y e (s .agreed); reached = s .reached || eqb y (positionAt ws) })
     (wrong s)
 
 -- The cells that hang from x by links of number e, one from the other, each after the children by higher links (`higher`) of the one
@@ -117,34 +113,34 @@ along higher ws e (suc fuel) x s =
 -- the children of x by links D-1 down to D-n, each child's own children in turn
 unfoldable pub children : ℕ → List ℕ → ℕ → ℕ → Seen → Seen
 children fuel ws zero x s = s
-children fuel ws (suc n) x s = along (children fuel ws n) ws (getD ws 0 0 - suc n) fuel x s
+children fuel ws (suc n) x s = along (children fuel ws n) ws (dimensionsAt ws - suc n) fuel x s
 
 -- "Cell 0 is the head: key 0, value 0, dead", with coordinates 0, owing nothing
 unfoldable pub headRight : List ℕ → Bool
 headRight ws =
     eqb (keyAt ws 0) 0
     && (eqb (valueAt ws 0) 0
-    && (eqb (markAt ws 0) 2
+    && (eqb (markAt ws 0) deadMark
     && (eqb (owedAt ws 0) 0
     && (eqb (lowAt ws 0) 0
     && (eqb (highAt ws 0) 0
-    && allFrom (λ d. eqb (coordinateAt ws 0 d) 0) 0 (getD ws 0 0))))))
+    && allFrom (λ d. eqb (coordinateAt ws 0 d) 0) 0 (dimensionsAt ws))))))
 
 -- what has been seen at the head: where it is the position, all path words are 0
 unfoldable pub atHead : List ℕ → Seen
 atHead ws =
-    let agreed = pathRun ws 0 0 (getD ws 0 0) in
+    let agreed = pathRun ws 0 0 (dimensionsAt ws) in
     record {
-      right = not (eqb (positionWord ws) 0) || eqb agreed (getD ws 0 0);
-      left = getD ws 2 0 - 1;
+      right = not (eqb (positionAt ws) 0) || eqb agreed (dimensionsAt ws);
+      left = cellsAt ws - 1;
       last = 0;
       agreed = agreed;
-      reached = eqb (positionWord ws) 0;
+      reached = eqb (positionAt ws) 0;
     }
 
 -- a free cell's words after the first are 0
 unfoldable pub freeRight : List ℕ → ℕ → Bool
-freeRight ws c = ltb c (getD ws 2 0) && allFrom (λ j. eqb (wordAt ws c j) 0) 1 (cellWords (getD ws 0 0) - 1)
+freeRight ws c = ltb c (cellsAt ws) && allFrom (λ j. eqb (wordAt ws c j) 0) 1 (cellWords (dimensionsAt ws) - 1)
 
 -- the chain from c has n cells, each free, and then ends in 0
 unfoldable pub chainRight : List ℕ → ℕ → ℕ → Bool
@@ -154,20 +150,20 @@ chainRight ws (suc n) c = cond (freeRight ws c) (chainRight ws n (wordAt ws c 0)
 -- D, K and C in range, the exact length, and b the least number whose power D is above K
 unfoldable pub headerRight : List ℕ → Bool
 headerRight ws =
-    inRange (getD ws 0 0) (getD ws 1 0) (getD ws 2 0)
-    && (eqb (length ws) (lengthOf (getD ws 0 0) (getD ws 2 0))
-    && (ltb 0 (getD ws 3 0)
-    && (ltb (getD ws 1 0) (getD ws 3 0 ^ getD ws 0 0)
-    && not (ltb (getD ws 1 0) ((getD ws 3 0 - 1) ^ getD ws 0 0)))))
+    inRange (dimensionsAt ws) (largestAt ws) (cellsAt ws)
+    && (eqb (length ws) (lengthOf (dimensionsAt ws) (cellsAt ws))
+    && (ltb 0 (baseAt ws)
+    && (ltb (largestAt ws) (baseAt ws ^ dimensionsAt ws)
+    && not (ltb (largestAt ws) ((baseAt ws - 1) ^ dimensionsAt ws)))))
 
 -- what has been seen when all children of the head have been read
 abbrev pub seenAll : List ℕ → Seen
-seenAll ws = children (getD ws 2 0) ws (getD ws 0 0) 0 (atHead ws)
+seenAll ws = children (cellsAt ws) ws (dimensionsAt ws) 0 (atHead ws)
 
 -- The check: header, head, the tree of standing cells, the position among them, and the free chain over all cells left.
 unfoldable pub accepts : List ℕ → Bool
 accepts ws =
     elim (headerRight ws) [
-      | true ↦ headRight ws && ((atHead ws .right && seenAll ws .right) && (seenAll ws .reached && chainRight ws (seenAll ws .left) (getD ws 4 0)))
+      | true ↦ headRight ws && ((atHead ws .right && seenAll ws .right) && (seenAll ws .reached && chainRight ws (seenAll ws .left) (firstFreeAt ws)))
       | false ↦ false
     ]

@@ -1,3 +1,3 @@
 -- What the shape of a list's words gives to whoever reads and writes them, and what a list gives.
-pub mod Laws
+pub mod Shaped
 pub mod Listed

@@ -8,13 +8,14 @@ use Rattle.settings.specs.Numbers.{mostDimensions}
 use Rattle.settings.specs.declared.Settings.{Settings}
 use Rattle.meaning.specs.State.{State}
 use Rattle.meaning.specs.Picture.{picture}
-use Rattle.meaning.specs.Reading.{settingsAt, read, Listed}
+use Rattle.meaning.specs.Reading.{settingsAt, read}
 use Rattle.meaning.specs.Words.{owedAt}
 use Rattle.meaning.specs.Walk.{linkRead}
+use Rattle.meaning.specs.Layer.Listed.{Listed}
 use Rattle.meaning.proofs.State.{Sound, base-positive}
 use Rattle.meaning.proofs.Picture.{picture-length}
 use Rattle.meaning.proofs.Reading.{list-is-picture, list-sound}
-use Rattle.meaning.proofs.PathWithin.{owed-within, linkRead-within}
+use Rattle.meaning.proofs.CellsWithin.{owed-within, linkRead-within}
 use Rattle.words.specs.Shaped.{Shaped}
 
 pub picture-shaped : (t : State) → Sound t → Shaped (picture t) (t .settings)

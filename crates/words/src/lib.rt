@@ -9,7 +9,7 @@ ghost use Rattle.meaning.specs.Keys.{coordinates};
 ghost use Rattle.meaning.specs.Words.{wordAt, owedAt, coordinateAt, linkAt};
 ghost use Rattle.meaning.specs.Walk.{linkRead, stepAt};
 ghost use Rattle.meaning.specs.Words as definitions;
-ghost use Rattle.meaning.specs.Stores as stores;
+ghost use Rattle.meaning.specs.Layer.Stores as stores;
 ghost use Rattle.words.specs.Shaped.{Shaped, Within};
 use meaning::Step;
 use settings::Settings;
@@ -35,10 +35,17 @@ pub const HIGH: u32 = 5;
 
 pub const COORDINATES: u32 = 6;
 
+// "Mark: 0 free, 1 live, 2 dead."
+pub const FREE: u32 = 0;
+
+pub const LIVE: u32 = 1;
+
+pub const DEAD: u32 = 2;
+
 // Where word j of cell x stands; below 2 to the power 30, so that what callers add to it does not wrap.
-pub fn place(s: Settings, x: u32, j: u32) -> usize
+pub fn word_index(s: Settings, x: u32, j: u32) -> usize
     requires { ⌜ (s .dimensions ≤ mostDimensions) × ((s .cells ≤ mostCells) × Within s x j) ⌝ }
-    ensures { λ r. ⌜ (r ≡ definitions.place (s .dimensions) x j) × (r < 1073741824) ⌝ }
+    ensures { λ r. ⌜ (r ≡ definitions.wordIndex (s .dimensions) x j) × (r < 1073741824) ⌝ }
 {
     let d = s.dimensions as usize;
     HEADER_WORDS + d + (x as usize) * (COORDINATES as usize + 2 * d) + j as usize
@@ -49,7 +56,7 @@ pub fn word(list: &[u32], s: Settings, x: u32, j: u32) -> u32
     requires { ⌜ Shaped (now list) s × Within s x j ⌝ }
     ensures { λ r. ⌜ r ≡ wordAt (now (list .entry)) x j ⌝ }
 {
-    let i = place(s, x, j);
+    let i = word_index(s, x, j);
     list[i]
 }
 
@@ -58,19 +65,8 @@ pub fn store(list: &mut [u32], s: Settings, x: u32, j: u32, v: u32)
     requires { ⌜ Shaped (now list) s × Within s x j ⌝ }
     ensures { λ r. ⌜ (now (list .exit) ≡ stores.store (s .dimensions) (now (list .entry)) x j v) × Shaped (now (list .exit)) s ⌝ }
 {
-    let at = place(s, x, j);
+    let at = word_index(s, x, j);
     list[at] = v;
-}
-
-// Every word of a part becomes v.
-pub fn fill(part: &mut [u32], v: u32)
-    ensures { λ r. ⌜ now (part .exit) ≡ replicate (length (now (part .entry))) v ⌝ }
-{
-    let mut i = 0;
-    while i < part.len() {
-        part[i] = v;
-        i += 1;
-    }
 }
 
 // Coordinate d of cell x, as its word has it.

@@ -3,33 +3,21 @@ use mathlib.Core.Path.{_∙_}
 use native.Mathlib.Omega.{arith}
 use borrow.Author.Needs.{needs}
 use borrow.Author.Tests.{not-true, not-false}
-use Rattle.words.proofs.Laws.{field-within}
+use Rattle.words.proofs.Shaped.{field-within}
 use Rattle.words.proofs.Listed.{listed-shaped}
-use Rattle.find.proofs.Laws.{find-bad-key, find-missing, find-dead, find-live, find-cell}
+use Rattle.find.proofs.Finding.{find-bad-key, find-missing, find-dead, find-live, find-cell}
 use Rattle.find.proofs.find.Statement.{statement}
 use Rattle.find.proofs.find.Tie as tie
-
-refused-requires : tie.Need-refused-requires
-refused-requires c κs = search needs
 
 returns : tie.Need-returns
 returns c =
     let s = c .before .before .before in
     c .refused .ensures ∙ find-bad-key (s .pre) (s .args .key) (λ h. omega arith)
 
-refused-requires-2 : tie.Need-refused-requires-2
-refused-requires-2 c κs = search needs
-
 returns-2 : tie.Need-returns-2
 returns-2 c =
     let s = c .before .before .before .before .before in
     c .refused2 .ensures ∙ find-bad-key (s .pre) (s .args .key) (λ h. omega arith)
-
-search-requires : tie.Need-search-requires
-search-requires c κs = search needs
-
-not-live-requires : tie.Need-not-live-requires
-not-live-requires c κs = search needs
 
 returns-3 : tie.Need-returns-3
 returns-3 c =
@@ -45,9 +33,6 @@ word-requires c κs =
       listed-shaped (s .pre),
       field-within (find-cell (s .pre) (s .args .key) (omega arith) (omega arith) (f .ensures) (not-false (f .result .standing) (c .if3 .left))) (omega arith),
     )
-
-not-live-requires-2 : tie.Need-not-live-requires-2
-not-live-requires-2 c κs = search needs
 
 returns-4 : tie.Need-returns-4
 returns-4 c =
@@ -65,9 +50,6 @@ word-requires-2 c κs =
       field-within (find-cell (s .pre) (s .args .key) (omega arith) (omega arith) (f .ensures) (not-false (f .result .standing) (c .before .before .if3 .left))) (omega arith),
     )
 
-accepted-requires : tie.Need-accepted-requires
-accepted-requires c κs = search needs
-
 returns-5 : tie.Need-returns-5
 returns-5 c =
     let s = c .before .before .before .before .before .before .before .before .before .before .before in
@@ -79,17 +61,5 @@ returns-5 c =
 pub find-spec : {M : Type 1} → statement M
 find-spec =
     tie.close
-    (tie.spec
-    refused-requires
-    returns
-    refused-requires-2
-    returns-2
-    search-requires
-    not-live-requires
-    returns-3
-    word-requires
-    not-live-requires-2
-    returns-4
-    word-requires-2
-    accepted-requires
-    returns-5)
+    (tie.spec (λ c κs. search needs) returns (λ c κs. search needs) returns-2 (λ c κs. search needs) (λ c κs. search needs) returns-3 word-requires
+    (λ c κs. search needs) returns-4 word-requires-2 (λ c κs. search needs) returns-5)

@@ -3,11 +3,8 @@ use borrow.Author.Needs.{needs}
 use Rattle.find.proofs.not_live.Statement.{statement}
 use Rattle.find.proofs.not_live.Tie as tie
 
-refused-at-requires : tie.Need-refused-at-requires
-refused-at-requires c κs = search needs
-
 returns : tie.Need-returns
 returns c = c .refused-at .ensures
 
 pub not-live-spec : {M : Type 1} → statement M
-not-live-spec = tie.close (tie.spec refused-at-requires returns)
+not-live-spec = tie.close (tie.spec (λ c κs. search needs) returns)

@@ -1,20 +1,8 @@
 -- `finish::clear_debt` meets its contract: three stores in a row are the definition's run of three words.
 use borrow.Author.Needs.{needs}
-use Rattle.finish.proofs.Laws.{debt-cleared}
+use Rattle.finish.proofs.Finishing.{debt-cleared}
 use Rattle.finish.proofs.clear_debt.Statement.{statement}
 use Rattle.finish.proofs.clear_debt.Tie as tie
-
-store-requires : tie.Need-store-requires
-store-requires c κs = search needs
-
-store-requires-2 : tie.Need-store-requires-2
-store-requires-2 c κs = search needs
-
-store-requires-3 : tie.Need-store-requires-3
-store-requires-3 c κs = search needs
-
-same-length : tie.Need-same-length
-same-length c = search needs
 
 returns : tie.Need-returns
 returns c =
@@ -26,4 +14,4 @@ returns c =
 
 pub clear-debt-spec : {M : Type 1} → statement M
 clear-debt-spec =
-    tie.close (tie.spec store-requires store-requires-2 store-requires-3 same-length returns)
+    tie.close (tie.spec (λ c κs. search needs) (λ c κs. search needs) (λ c κs. search needs) (λ c. search needs) returns)

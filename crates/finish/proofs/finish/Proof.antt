@@ -5,7 +5,7 @@ use Prim.Native.Nat.{_-_, _≤_, _<_}
 use native.Mathlib.Omega.{arith}
 use borrow.Author.Needs.{needs}
 use borrow.Author.Tests.{not-true, not-false}
-use Rattle.words.proofs.Laws.{field-within}
+use Rattle.words.proofs.Shaped.{field-within}
 use Rattle.words.proofs.Listed.{listed-shaped}
 use Rattle.finish.proofs.Debts.{listed-payable, listed-low}
 use Rattle.finish.proofs.Call.{bad-key-meets, absent-meets, standing-cell, never-meets, standing-meets}
@@ -24,30 +24,15 @@ cell c =
     let k = asked (c .before .before .before .before) in
     standing-cell (s .pre) (s .args .key) (k .0) (k .1) (f .ensures) (not-false (f .result .standing) (c .if3 .left))
 
-refused-requires : tie.Need-refused-requires
-refused-requires c κs = search needs
-
 returns : tie.Need-returns
 returns c =
     let s = c .before .before .before in
     bad-key-meets (s .pre) (s .args .key) (λ least. omega arith) (c .refused .ensures)
 
-refused-requires-2 : tie.Need-refused-requires-2
-refused-requires-2 c κs = search needs
-
 returns-2 : tie.Need-returns-2
 returns-2 c =
     let s = c .before .before .before .before .before in
     bad-key-meets (s .pre) (s .args .key) (λ least. omega arith) (c .refused2 .ensures)
-
-search-requires : tie.Need-search-requires
-search-requires c κs = search needs
-
-refused-at-requires : tie.Need-refused-at-requires
-refused-at-requires c κs = search needs
-
-same-length : tie.Need-same-length
-same-length c = search needs
 
 returns-3 : tie.Need-returns-3
 returns-3 c =
@@ -61,12 +46,6 @@ owes-from-free-requires : tie.Need-owes-from-free-requires
 owes-from-free-requires c κs =
     let e = c .before in
     (listed-shaped (e .before .before .before .before .before .before .before .before .pre), cell e)
-
-owed-not-standing-requires : tie.Need-owed-not-standing-requires
-owed-not-standing-requires c κs = search needs
-
-same-length-2 : tie.Need-same-length-2
-same-length-2 c = search needs
 
 returns-4 : tie.Need-returns-4
 returns-4 c =
@@ -95,12 +74,6 @@ finish-cell-requires c κs =
     let h = e .before .before .before .before .before .before .before .before .pre in
     (listed-shaped h, listed-payable h (e .before .before .search .result .c) (cell e))
 
-accepted-requires : tie.Need-accepted-requires
-accepted-requires c κs = search needs
-
-same-length-3 : tie.Need-same-length-3
-same-length-3 c = search needs
-
 returns-5 : tie.Need-returns-5
 returns-5 c =
     let e = c .before .before .before .before .before .before .before .before .before .before .before .before in
@@ -115,23 +88,6 @@ returns-5 c =
 pub finish-spec : {M : Type 1} → statement M
 finish-spec =
     tie.close
-    (tie.spec
-    refused-requires
-    returns
-    refused-requires-2
-    returns-2
-    search-requires
-    refused-at-requires
-    same-length
-    returns-3
-    owes-from-free-requires
-    owed-not-standing-requires
-    same-length-2
-    returns-4
-    word-requires
-    word-requires-2
-    sub-moved
-    finish-cell-requires
-    accepted-requires
-    same-length-3
-    returns-5)
+    (tie.spec (λ c κs. search needs) returns (λ c κs. search needs) returns-2 (λ c κs. search needs) (λ c κs. search needs) (λ c. search needs)
+    returns-3 owes-from-free-requires (λ c κs. search needs) (λ c. search needs) returns-4 word-requires word-requires-2 sub-moved
+    finish-cell-requires (λ c κs. search needs) (λ c. search needs) returns-5)

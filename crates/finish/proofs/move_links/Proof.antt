@@ -5,9 +5,9 @@ use Prim.Native.Nat.{_-_}
 use native.Mathlib.Omega.{arith}
 use lib.ListN.{length}
 use borrow.Author.Needs.{needs}
-use Rattle.meaning.specs.Stores.{moveLinks}
+use Rattle.meaning.specs.Layer.Stores.{moveLinks}
 use Rattle.words.specs.Shaped.{Shaped}
-use Rattle.finish.proofs.Laws.{move-more, move-all}
+use Rattle.finish.proofs.Finishing.{move-more, move-all}
 use Rattle.finish.proofs.move_links.Statement.{statement}
 use Rattle.finish.proofs.move_links.Tie as tie
 
@@ -20,32 +20,8 @@ Inv-loop list₀ s n c low high first d₀ list d =
 abbrev μ-loop : tie.MeasureT-loop
 μ-loop list₀ s n c low high first d₀ list d = high - d
 
-add-first : tie.Need-add-first Inv-loop μ-loop
-add-first c = search needs
-
 loop-holds : tie.Need-loop-holds Inv-loop μ-loop
 loop-holds c = (c .before .before .pre .0, (refl, refl))
-
-link-requires : tie.Need-link-requires Inv-loop μ-loop
-link-requires c κs = search needs
-
-add-store : tie.Need-add-store Inv-loop μ-loop
-add-store c = search needs
-
-store-requires : tie.Need-store-requires Inv-loop μ-loop
-store-requires c κs = search needs
-
-add-store-2 : tie.Need-add-store-2 Inv-loop μ-loop
-add-store-2 c = search needs
-
-store-requires-2 : tie.Need-store-requires-2 Inv-loop μ-loop
-store-requires-2 c κs = search needs
-
-add-d : tie.Need-add-d Inv-loop μ-loop
-add-d c = search needs
-
-loop-less : tie.Need-loop-less Inv-loop μ-loop
-loop-less c = search needs
 
 loop-again : tie.Need-loop-again Inv-loop μ-loop
 loop-again c =
@@ -56,9 +32,6 @@ loop-again c =
     let y = c .before .before .before .before .before .before .before .before .link .ensures in
     (second .1, (search needs, v .inv .1 .1 ∙ rw (second .0, first .0) (move-more (v .inv .0) (a .n) (a .c) (v .d) (omega arith) y)))
 
-same-length : tie.Need-same-length Inv-loop μ-loop
-same-length c = search needs
-
 returns : tie.Need-returns Inv-loop μ-loop
 returns c =
     let v = c .before .loop in
@@ -68,18 +41,5 @@ returns c =
 pub move-links-spec : {M : Type 1} → statement M
 move-links-spec =
     tie.close
-    (tie.spec
-    Inv-loop
-    μ-loop
-    add-first
-    loop-holds
-    link-requires
-    add-store
-    store-requires
-    add-store-2
-    store-requires-2
-    add-d
-    loop-less
-    loop-again
-    same-length
-    returns)
+    (tie.spec Inv-loop μ-loop (λ c. search needs) loop-holds (λ c κs. search needs) (λ c. search needs) (λ c κs. search needs) (λ c. search needs)
+    (λ c κs. search needs) (λ c. search needs) (λ c. search needs) loop-again (λ c. search needs) returns)

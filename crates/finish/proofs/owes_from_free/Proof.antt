@@ -2,12 +2,9 @@
 -- as 0.
 use native.Mathlib.Omega.{arith}
 use borrow.Author.Needs.{needs}
-use Rattle.finish.proofs.Laws.{owes-nothing, owes-marked, owes-beyond}
+use Rattle.finish.proofs.Finishing.{owes-nothing, owes-marked, owes-beyond}
 use Rattle.finish.proofs.owes_from_free.Statement.{statement}
 use Rattle.finish.proofs.owes_from_free.Tie as tie
-
-word-requires : tie.Need-word-requires
-word-requires c κs = search needs
 
 returns : tie.Need-returns
 returns c =
@@ -19,9 +16,6 @@ returns-2 c =
     let s = c .before .before .before .before .before in
     owes-beyond (s .pre .0) (s .args .x) (c .before .before .before .word .ensures) (c .before .before .if1 .left) (omega arith)
 
-word-requires-2 : tie.Need-word-requires-2
-word-requires-2 c κs = search needs
-
 returns-3 : tie.Need-returns-3
 returns-3 c =
     let a = c .before .before .before .before .before .before .args in
@@ -30,4 +24,4 @@ returns-3 c =
 
 pub owes-from-free-spec : {M : Type 1} → statement M
 owes-from-free-spec =
-    tie.close (tie.spec word-requires returns returns-2 word-requires-2 returns-3)
+    tie.close (tie.spec (λ c κs. search needs) returns returns-2 (λ c κs. search needs) returns-3)

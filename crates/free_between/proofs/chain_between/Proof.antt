@@ -1,21 +1,15 @@
 -- `free_between::chain_between` meets its contract: the first cell after the head is the new position, or the first to be chained.
 use borrow.Author.Needs.{needs}
-use Rattle.paths.proofs.Laws.{zeros-in}
+use Rattle.paths.proofs.Paths.{zeros-in}
 use Rattle.free_between.proofs.Ways.{between-none, between-onward, between-some}
 use Rattle.free_between.proofs.chain_between.Statement.{statement}
 use Rattle.free_between.proofs.chain_between.Tie as tie
-
-head-path-requires : tie.Need-head-path-requires
-head-path-requires c κs = search needs
 
 next-requires : tie.Need-next-requires
 next-requires c κs =
     let h = c .before .before .before .pre .0 in
     let head = c .head-path .ensures in
     (h, zeros-in (h .head) (head .1) (head .0))
-
-same-length : tie.Need-same-length
-same-length c = search needs
 
 returns : tie.Need-returns
 returns c =
@@ -27,9 +21,6 @@ chain-from-requires c κs =
     let h = c .before .before .before .before .before .before .before .pre in
     let n = c .before .before .before .next .ensures in
     (h .0, (between-onward (h .0) (h .1) (c .before .before .before .before .head-path .ensures .0) n (c .before .if1 .left), (n .path-in, n .below)))
-
-same-length-2 : tie.Need-same-length-2
-same-length-2 c = search needs
 
 returns-2 : tie.Need-returns-2
 returns-2 c =
@@ -43,11 +34,4 @@ returns-2 c =
 pub chain-between-spec : {M : Type 1} → statement M
 chain-between-spec =
     tie.close
-    (tie.spec
-    head-path-requires
-    next-requires
-    same-length
-    returns
-    chain-from-requires
-    same-length-2
-    returns-2)
+    (tie.spec (λ c κs. search needs) next-requires (λ c. search needs) returns chain-from-requires (λ c. search needs) returns-2)

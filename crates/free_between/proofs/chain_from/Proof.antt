@@ -2,7 +2,7 @@
 -- of it in the list of the call; a cell less is left with each turn.
 use native.Mathlib.Omega.{arith}
 use lib.ListN.{length}
-use Rattle.words.proofs.Laws.{field-within}
+use Rattle.words.proofs.Shaped.{field-within}
 use Rattle.paths.specs.Paths.{pathOf}
 use Rattle.free_between.specs.Between.{cellsTo}
 use Rattle.free_between.proofs.Ways.{Chaining, chaining-start, chaining-end, chaining-onward, chaining-less}
@@ -60,14 +60,4 @@ loop-again c =
 pub chain-from-spec : {M : Type 1} → statement M
 chain-from-spec =
     tie.close
-    (tie.spec
-    Inv-loop
-    μ-loop
-    loop-holds
-    next-requires
-    same-length
-    returns
-    store-requires
-    add-count
-    loop-less
-    loop-again)
+    (tie.spec Inv-loop μ-loop loop-holds next-requires same-length returns store-requires add-count loop-less loop-again)

@@ -2,7 +2,7 @@
 -- its cells become free.
 use native.Mathlib.Omega.{arith}
 use borrow.Author.Needs.{needs}
-use Rattle.paths.proofs.Laws.{formed-own}
+use Rattle.paths.proofs.Paths.{formed-own}
 use Rattle.free_between.proofs.Chain.{chain-ready, front-dropped, head-redrawn}
 use Rattle.free_between.proofs.drop_front.Statement.{statement}
 use Rattle.free_between.proofs.drop_front.Tie as tie
@@ -50,12 +50,6 @@ onward-requires c κs =
     let zeros = c .before .before .before .before .before .before .before .before .before .before .before .before .before .before .before .before .before in
     (formed-own f, omega (arith, f .used, zeros .before .before .before .pre .differs, zeros .leading-zeros .ensures))
 
-write-path-requires : tie.Need-write-path-requires
-write-path-requires c κs = search needs
-
-same-length : tie.Need-same-length
-same-length c = search needs
-
 returns : tie.Need-returns
 returns c =
     let on = c .before .before .before .before in
@@ -77,14 +71,5 @@ returns c =
 pub drop-front-spec : {M : Type 1} → statement M
 drop-front-spec =
     tie.close
-    (tie.spec
-    leading-zeros-requires
-    chain-between-requires
-    take-links-requires
-    relink-head-requires
-    free-chained-requires
-    head-path-requires
-    onward-requires
-    write-path-requires
-    same-length
-    returns)
+    (tie.spec leading-zeros-requires chain-between-requires take-links-requires relink-head-requires free-chained-requires head-path-requires
+    onward-requires (λ c κs. search needs) (λ c. search needs) returns)

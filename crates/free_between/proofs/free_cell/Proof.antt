@@ -2,22 +2,10 @@
 -- free one.
 use native.Mathlib.Omega.{arith}
 use borrow.Author.Needs.{needs}
-use Rattle.words.proofs.Laws.{set-shaped}
-use Rattle.free_between.proofs.Laws.{freed}
+use Rattle.words.proofs.Shaped.{set-shaped}
+use Rattle.free_between.proofs.Between.{freed}
 use Rattle.free_between.proofs.free_cell.Statement.{statement}
 use Rattle.free_between.proofs.free_cell.Tie as tie
-
-slice-read-next : tie.Need-slice-read-next
-slice-read-next c = search needs
-
-store-before-zeros-requires : tie.Need-store-before-zeros-requires
-store-before-zeros-requires c κs = search needs
-
-slice-write-list : tie.Need-slice-write-list
-slice-write-list c = search needs
-
-same-length : tie.Need-same-length
-same-length c = search needs
 
 returns : tie.Need-returns
 returns c =
@@ -28,4 +16,4 @@ returns c =
 pub free-cell-spec : {M : Type 1} → statement M
 free-cell-spec =
     tie.close
-    (tie.spec slice-read-next store-before-zeros-requires slice-write-list same-length returns)
+    (tie.spec (λ c. search needs) (λ c κs. search needs) (λ c. search needs) (λ c. search needs) returns)

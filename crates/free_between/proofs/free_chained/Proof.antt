@@ -5,9 +5,9 @@ use native.Mathlib.Omega.{arith}
 use lib.ListN.{length}
 use borrow.Author.Needs.{needs}
 use Rattle.words.specs.Shaped.{Shaped}
-use Rattle.words.proofs.Laws.{field-within}
+use Rattle.words.proofs.Shaped.{field-within}
 use Rattle.free_between.specs.Between.{freeChained, ChainIn}
-use Rattle.free_between.proofs.Laws.{chain-first, chain-rest, chained-more, chained-none}
+use Rattle.free_between.proofs.Between.{chain-first, chain-rest, chained-more, chained-none}
 use Rattle.free_between.proofs.free_chained.Statement.{statement}
 use Rattle.free_between.proofs.free_chained.Tie as tie
 
@@ -33,12 +33,6 @@ free-cell-requires c κs =
     let v = c .before .before .before .before .loop in
     (v .inv .0, chain-first (v .inv .0) (v .x) (v .left) (omega arith) (v .inv .1 .1 .0))
 
-sub-left : tie.Need-sub-left Inv-loop μ-loop
-sub-left c = search needs
-
-loop-less : tie.Need-loop-less Inv-loop μ-loop
-loop-less c = search needs
-
 loop-again : tie.Need-loop-again Inv-loop μ-loop
 loop-again c =
     let v = c .before .before .before .before .before .before .before .loop in
@@ -46,9 +40,6 @@ loop-again c =
     let e = c .before .before .free-cell .ensures in
     let chained = chain-rest (v .inv .0) (v .x) (v .left) (omega arith) next (e .0) (v .inv .1 .1 .0) in
     (e .1, (search needs, (chained, v .inv .1 .1 .1 ∙ chained-more (v .inv .0) (v .x) (v .left) (omega arith) next (e .0))))
-
-same-length : tie.Need-same-length Inv-loop μ-loop
-same-length c = search needs
 
 returns : tie.Need-returns Inv-loop μ-loop
 returns c =
@@ -58,14 +49,5 @@ returns c =
 pub free-chained-spec : {M : Type 1} → statement M
 free-chained-spec =
     tie.close
-    (tie.spec
-    Inv-loop
-    μ-loop
-    loop-holds
-    word-requires
-    free-cell-requires
-    sub-left
-    loop-less
-    loop-again
-    same-length
+    (tie.spec Inv-loop μ-loop loop-holds word-requires free-cell-requires (λ c. search needs) (λ c. search needs) loop-again (λ c. search needs)
     returns)

@@ -3,7 +3,7 @@ use Prim.Native.Nat.{_-_, _≤_}
 use native.Mathlib.Omega.{arith}
 use borrow.Author.Needs.{needs}
 use Rattle.free_between.specs.Between.{zerosOf}
-use Rattle.free_between.proofs.Laws.{zero-more, zero-last, zero-all}
+use Rattle.free_between.proofs.Between.{zero-more, zero-last, zero-all}
 use Rattle.free_between.proofs.leading_zeros.Statement.{statement}
 use Rattle.free_between.proofs.leading_zeros.Tie as tie
 
@@ -13,22 +13,10 @@ Inv-loop list s x d₀ d = d ≤ zerosOf list s x
 abbrev μ-loop : tie.MeasureT-loop
 μ-loop list s x d₀ d = s .dimensions - d
 
-loop-holds : tie.Need-loop-holds Inv-loop μ-loop
-loop-holds c = search needs
-
-coordinate-requires : tie.Need-coordinate-requires Inv-loop μ-loop
-coordinate-requires c κs = search needs
-
 returns : tie.Need-returns Inv-loop μ-loop
 returns c =
     let v = c .before .before .before .before in
     zero-last (v .before .before .pre .1) (v .loop .inv) (omega arith) (c .before .coordinate .ensures) (c .if2 .taken)
-
-add-d : tie.Need-add-d Inv-loop μ-loop
-add-d c = search needs
-
-loop-less : tie.Need-loop-less Inv-loop μ-loop
-loop-less c = search needs
 
 loop-again : tie.Need-loop-again Inv-loop μ-loop
 loop-again c =
@@ -41,13 +29,4 @@ returns-2 c = zero-all (c .before .before .before .before .pre .1) (c .before .b
 pub leading-zeros-spec : {M : Type 1} → statement M
 leading-zeros-spec =
     tie.close
-    (tie.spec
-    Inv-loop
-    μ-loop
-    loop-holds
-    coordinate-requires
-    returns
-    add-d
-    loop-less
-    loop-again
-    returns-2)
+    (tie.spec Inv-loop μ-loop (λ c. search needs) (λ c κs. search needs) returns (λ c. search needs) (λ c. search needs) loop-again returns-2)

@@ -5,11 +5,11 @@ use Prim.Native.Nat.{_-_, _≤_}
 use native.Mathlib.Omega.{arith}
 use lib.ListN.{length}
 use borrow.Author.Needs.{needs}
-use Rattle.meaning.specs.SweepStores.{takeLinks}
+use Rattle.meaning.specs.Layer.SweepStores.{takeLinks}
 use Rattle.words.specs.Shaped.{Shaped}
 use Rattle.paths.specs.Paths.{pathOf}
-use Rattle.paths.proofs.Laws.{formed-own}
-use Rattle.free_between.proofs.Laws.{take-more, take-all}
+use Rattle.paths.proofs.Paths.{formed-own}
+use Rattle.free_between.proofs.Between.{take-more, take-all}
 use Rattle.free_between.proofs.take_links.Statement.{statement}
 use Rattle.free_between.proofs.take_links.Tie as tie
 
@@ -24,9 +24,6 @@ Inv-loop list₀ s t z first d₀ list d =
 abbrev μ-loop : tie.MeasureT-loop
 μ-loop list₀ s t z first d₀ list d = t .number - d
 
-add-first : tie.Need-add-first Inv-loop μ-loop
-add-first c = search needs
-
 loop-holds : tie.Need-loop-holds Inv-loop μ-loop
 loop-holds c = (c .before .before .pre .0, (omega arith, (refl, refl)))
 
@@ -40,18 +37,6 @@ link-requires c κs =
     let i = c .before .before .before .before .before .before .before .pre .1 .1 .1 in
     (c .before .before .before .before .loop .inv .0, (rw (c .before .path-word .ensures) (i .below _ (omega arith)), omega arith))
 
-add-store : tie.Need-add-store Inv-loop μ-loop
-add-store c = search needs
-
-store-requires : tie.Need-store-requires Inv-loop μ-loop
-store-requires c κs = search needs
-
-add-d : tie.Need-add-d Inv-loop μ-loop
-add-d c = search needs
-
-loop-less : tie.Need-loop-less Inv-loop μ-loop
-loop-less c = search needs
-
 loop-again : tie.Need-loop-again Inv-loop μ-loop
 loop-again c =
     let v = c .before .before .before .before .before .before .before .before .before .loop in
@@ -60,9 +45,6 @@ loop-again c =
     let from = c .before .before .before .before .before .before .path-word .ensures in
     let y = c .before .before .before .before .link .ensures in
     (e .1, (search needs, (search needs, v .inv .1 .1 .1 ∙ rw (e .0) (take-more (v .inv .0) (t .cell) (pathOf (t .path)) (v .d) (omega arith) from y))))
-
-same-length : tie.Need-same-length Inv-loop μ-loop
-same-length c = search needs
 
 returns : tie.Need-returns Inv-loop μ-loop
 returns c =
@@ -73,17 +55,5 @@ returns c =
 pub take-links-spec : {M : Type 1} → statement M
 take-links-spec =
     tie.close
-    (tie.spec
-    Inv-loop
-    μ-loop
-    add-first
-    loop-holds
-    path-word-requires
-    link-requires
-    add-store
-    store-requires
-    add-d
-    loop-less
-    loop-again
-    same-length
-    returns)
+    (tie.spec Inv-loop μ-loop (λ c. search needs) loop-holds path-word-requires link-requires (λ c. search needs) (λ c κs. search needs)
+    (λ c. search needs) (λ c. search needs) loop-again (λ c. search needs) returns)

@@ -1,15 +1,12 @@
 -- `insert::add` meets its contract: the debts are finished, the first free cell is taken off its chain and written, link p of the parent
--- is set and then the path is written, which makes the words those of the state with the new entry.
+-- is set and then the path is written, which makes the words those of the state with the new node.
 use native.Mathlib.Omega.{arith}
 use borrow.Author.Needs.{needs}
-use Rattle.words.proofs.Laws.{field-within, link-within, set-shaped}
+use Rattle.words.proofs.Shaped.{field-within, link-within, set-shaped}
 use Rattle.words.proofs.Listed.{listed-shaped, listed-base}
 use Rattle.insert.proofs.Call.{leads-due, leads-words, new-written, parent-cell, p-link, new-cell, new-fits, payable-parent, payable-c, new-leads}
 use Rattle.insert.proofs.add.Statement.{statement}
 use Rattle.insert.proofs.add.Tie as tie
-
-position-key-requires : tie.Need-position-key-requires
-position-key-requires c κs = search needs
 
 finish-neighbours-requires : tie.Need-finish-neighbours-requires
 finish-neighbours-requires c κs =
@@ -21,18 +18,12 @@ word-requires c κs =
     let pre = c .before .before .before .before .before .before .before .before .pre in
     (c .before .before .before .finish-neighbours .ensures .1, field-within (new-cell (pre .0) (pre .1 .0) (pre .1 .1 .0) (pre .1 .1 .1)) (omega arith))
 
-slice-write-list : tie.Need-slice-write-list
-slice-write-list c = search needs
-
 write-cell-requires : tie.Need-write-cell-requires
 write-cell-requires c κs =
     let pre = c .before .before .before .before .before .before .before .before .before .before .pre in (
       set-shaped (c .before .before .before .before .before .finish-neighbours .ensures .1) 4 (c .before .word .result) (omega arith),
       (listed-base (pre .0 .list), new-fits (pre .0) (pre .1 .0) (pre .1 .1 .0) (pre .1 .1 .1)),
     )
-
-add-link : tie.Need-add-link
-add-link c = search needs
 
 add-link-2 : tie.Need-add-link-2
 add-link-2 c =
@@ -59,9 +50,6 @@ move-position-requires c κs =
     let leads = new-leads (s .pre .0) (s .pre .1 .0) (a .value) (s .pre .1 .1 .0) (s .pre .1 .1 .1) in
     (linked .store .ensures .1, leads-due leads written (top .position-key .ensures))
 
-same-length : tie.Need-same-length
-same-length c = search needs
-
 returns : tie.Need-returns
 returns c =
     let linked = c .before .before .before .before .before .before in
@@ -80,15 +68,5 @@ returns c =
 pub add-spec : {M : Type 1} → statement M
 add-spec =
     tie.close
-    (tie.spec
-    position-key-requires
-    finish-neighbours-requires
-    word-requires
-    slice-write-list
-    write-cell-requires
-    add-link
-    add-link-2
-    store-requires
-    move-position-requires
-    same-length
-    returns)
+    (tie.spec (λ c κs. search needs) finish-neighbours-requires word-requires (λ c. search needs) write-cell-requires (λ c. search needs) add-link-2
+    store-requires move-position-requires (λ c. search needs) returns)

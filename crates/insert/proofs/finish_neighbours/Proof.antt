@@ -1,15 +1,9 @@
 -- `insert::finish_neighbours` meets its contract: the head, for which c is 0 where there is no c, has nothing to finish.
 use mathlib.Core.Path.{_∙_}
 use borrow.Author.Needs.{needs}
-use Rattle.insert.proofs.Laws.{paid-one, paid-two}
+use Rattle.insert.proofs.Inserting.{paid-one, paid-two}
 use Rattle.insert.proofs.finish_neighbours.Statement.{statement}
 use Rattle.insert.proofs.finish_neighbours.Tie as tie
-
-finish-cell-requires : tie.Need-finish-cell-requires
-finish-cell-requires c κs = search needs
-
-same-length : tie.Need-same-length
-same-length c = search needs
 
 returns : tie.Need-returns
 returns c =
@@ -22,9 +16,6 @@ finish-cell-requires-2 c κs =
     let first = c .before .before .before .before .before .finish-cell .ensures in
     (first .1, rw (first .0) (c .before .before .before .before .before .before .before .before .pre .1 .1))
 
-same-length-2 : tie.Need-same-length-2
-same-length-2 c = search needs
-
 returns-2 : tie.Need-returns-2
 returns-2 c =
     let a = c .before .before .before .before .before .before .before .before .before .before .before .args in
@@ -35,10 +26,4 @@ returns-2 c =
 pub finish-neighbours-spec : {M : Type 1} → statement M
 finish-neighbours-spec =
     tie.close
-    (tie.spec
-    finish-cell-requires
-    same-length
-    returns
-    finish-cell-requires-2
-    same-length-2
-    returns-2)
+    (tie.spec (λ c κs. search needs) (λ c. search needs) returns finish-cell-requires-2 (λ c. search needs) returns-2)

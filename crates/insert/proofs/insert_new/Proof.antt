@@ -11,9 +11,6 @@ use Rattle.insert.proofs.insert_new.Tie as tie
 slice-read-n : tie.Need-slice-read-n
 slice-read-n c = omega (arith, listed-shaped (c .before .before .pre .0 .list) .long)
 
-refused-at-requires : tie.Need-refused-at-requires
-refused-at-requires c κs = search needs
-
 returns : tie.Need-returns
 returns c =
     let s = c .before .before .before .before in
@@ -23,12 +20,6 @@ slot-owes-from-free-requires : tie.Need-slot-owes-from-free-requires
 slot-owes-from-free-requires c κs =
     let pre = c .before .before .before .before .pre in
     (listed-shaped (pre .0 .list), (parent-cell (pre .0) (pre .1), c-cell (pre .0) (pre .1)))
-
-owed-not-standing-requires : tie.Need-owed-not-standing-requires
-owed-not-standing-requires c κs = search needs
-
-same-length : tie.Need-same-length
-same-length c = search needs
 
 returns-2 : tie.Need-returns-2
 returns-2 c =
@@ -40,12 +31,6 @@ add-requires c κs =
     let pre = c .before .before .before .before .before .before .before .pre in
     (pre .0, (pre .1, (refl, omega arith)))
 
-accepted-requires : tie.Need-accepted-requires
-accepted-requires c κs = search needs
-
-same-length-2 : tie.Need-same-length-2
-same-length-2 c = search needs
-
 returns-3 : tie.Need-returns-3
 returns-3 c =
     let s = c .before .before .before .before .before .before .before .before .before .before .before in
@@ -54,15 +39,5 @@ returns-3 c =
 pub insert-new-spec : {M : Type 1} → statement M
 insert-new-spec =
     tie.close
-    (tie.spec
-    slice-read-n
-    refused-at-requires
-    returns
-    slot-owes-from-free-requires
-    owed-not-standing-requires
-    same-length
-    returns-2
-    add-requires
-    accepted-requires
-    same-length-2
-    returns-3)
+    (tie.spec slice-read-n (λ c κs. search needs) returns slot-owes-from-free-requires (λ c κs. search needs) (λ c. search needs) returns-2
+    add-requires (λ c κs. search needs) (λ c. search needs) returns-3)

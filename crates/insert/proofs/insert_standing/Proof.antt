@@ -2,7 +2,7 @@
 use mathlib.Core.Path.{_∙_}
 use native.Mathlib.Omega.{arith}
 use borrow.Author.Needs.{needs}
-use Rattle.words.proofs.Laws.{field-within}
+use Rattle.words.proofs.Shaped.{field-within}
 use Rattle.words.proofs.Listed.{listed-shaped}
 use Rattle.insert.proofs.Call.{leads-meets, standing-cell, live-meets, dead-leads}
 use Rattle.insert.proofs.insert_standing.Statement.{statement}
@@ -13,25 +13,10 @@ word-requires c κs =
     let pre = c .before .before .pre in
     (listed-shaped (pre .0 .list), field-within (standing-cell (pre .0) (pre .1)) (omega arith))
 
-refused-at-requires : tie.Need-refused-at-requires
-refused-at-requires c κs = search needs
-
-same-length : tie.Need-same-length
-same-length c = search needs
-
 returns : tie.Need-returns
 returns c =
     let s = c .before .before .before .before .before in
     live-meets (s .pre .0) (s .pre .1) (s .args .value) (c .before .before .word .ensures) (c .before .if1 .taken) (c .refused-at .ensures)
-
-revive-requires : tie.Need-revive-requires
-revive-requires c κs = search needs
-
-accepted-requires : tie.Need-accepted-requires
-accepted-requires c κs = search needs
-
-same-length-2 : tie.Need-same-length-2
-same-length-2 c = search needs
 
 returns-2 : tie.Need-returns-2
 returns-2 c =
@@ -42,12 +27,5 @@ returns-2 c =
 pub insert-standing-spec : {M : Type 1} → statement M
 insert-standing-spec =
     tie.close
-    (tie.spec
-    word-requires
-    refused-at-requires
-    same-length
-    returns
-    revive-requires
-    accepted-requires
-    same-length-2
+    (tie.spec word-requires (λ c κs. search needs) (λ c. search needs) returns (λ c κs. search needs) (λ c κs. search needs) (λ c. search needs)
     returns-2)

@@ -12,15 +12,9 @@ returns c = path-kept (c .if1 .taken)
 path-of-requires : tie.Need-path-of-requires
 path-of-requires c κs = due-standing (omega arith) (c .before .before .before .pre .1)
 
-write-path-requires : tie.Need-write-path-requires
-write-path-requires c κs = search needs
-
-same-length : tie.Need-same-length
-same-length c = search needs
-
 returns-2 : tie.Need-returns-2
 returns-2 c = path-moved (omega arith) (c .before .before .before .before .path-of .ensures) (c .before .before .write-path .ensures .0)
 
 pub move-position-spec : {M : Type 1} → statement M
 move-position-spec =
-    tie.close (tie.spec returns path-of-requires write-path-requires same-length returns-2)
+    tie.close (tie.spec returns path-of-requires (λ c κs. search needs) (λ c. search needs) returns-2)

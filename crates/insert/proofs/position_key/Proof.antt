@@ -2,20 +2,11 @@
 use mathlib.Core.Path.{_∙_}
 use native.Mathlib.Omega.{arith}
 use borrow.Author.Needs.{needs}
-use Rattle.words.proofs.Laws.{field-within}
+use Rattle.words.proofs.Shaped.{field-within}
 use Rattle.words.proofs.Listed.{listed-shaped}
 use Rattle.insert.proofs.Position.{position-word}
 use Rattle.insert.proofs.position_key.Statement.{statement}
 use Rattle.insert.proofs.position_key.Tie as tie
-
-cast-i : tie.Need-cast-i
-cast-i c = search needs
-
-add-i : tie.Need-add-i
-add-i c = search needs
-
-mul-word : tie.Need-mul-word
-mul-word c = search needs
 
 shared-slice-read-word : tie.Need-shared-slice-read-word
 shared-slice-read-word c = omega (arith, listed-shaped (c .before .before .before .pre) .long)
@@ -30,4 +21,4 @@ returns c = c .word .ensures ∙ position-word (c .before .before .before .befor
 
 pub position-key-spec : {M : Type 1} → statement M
 position-key-spec =
-    tie.close (tie.spec cast-i add-i mul-word shared-slice-read-word word-requires returns)
+    tie.close (tie.spec (λ c. search needs) (λ c. search needs) (λ c. search needs) shared-slice-read-word word-requires returns)

@@ -1,15 +1,12 @@
 -- `insert::revive` meets its contract: value and mark are written and then the path, which makes the words those of the revived state.
 use native.Mathlib.Omega.{arith}
 use borrow.Author.Needs.{needs}
-use Rattle.words.proofs.Laws.{field-within}
+use Rattle.words.proofs.Shaped.{field-within}
 use Rattle.words.proofs.Listed.{listed-shaped}
-use Rattle.insert.proofs.Laws.{entry-written}
+use Rattle.insert.proofs.Inserting.{node-written}
 use Rattle.insert.proofs.Call.{leads-due, leads-words, standing-cell, dead-leads}
 use Rattle.insert.proofs.revive.Statement.{statement}
 use Rattle.insert.proofs.revive.Tie as tie
-
-position-key-requires : tie.Need-position-key-requires
-position-key-requires c κs = search needs
 
 store-requires : tie.Need-store-requires
 store-requires c κs =
@@ -28,12 +25,9 @@ move-position-requires c κs =
     let top = valued .before .before in
     let s = top .before .before .before in
     let a = s .args in
-    let written = entry-written (a .s .dimensions) (a .list .now) (a .f .c) (a .value) 1 (valued .store .ensures .0) (marked .store2 .ensures .0) in
+    let written = node-written (a .s .dimensions) (a .list .now) (a .f .c) (a .value) 1 (valued .store .ensures .0) (marked .store2 .ensures .0) in
     let leads = dead-leads (s .pre .0) (s .pre .1 .0) (a .value) (s .pre .1 .1) in
     (marked .store2 .ensures .1, leads-due leads written (top .position-key .ensures))
-
-same-length : tie.Need-same-length
-same-length c = search needs
 
 returns : tie.Need-returns
 returns c =
@@ -42,17 +36,11 @@ returns c =
     let top = valued .before .before in
     let s = top .before .before .before in
     let a = s .args in
-    let written = entry-written (a .s .dimensions) (a .list .now) (a .f .c) (a .value) 1 (valued .store .ensures .0) (marked .store2 .ensures .0) in
+    let written = node-written (a .s .dimensions) (a .list .now) (a .f .c) (a .value) 1 (valued .store .ensures .0) (marked .store2 .ensures .0) in
     let leads = dead-leads (s .pre .0) (s .pre .1 .0) (a .value) (s .pre .1 .1) in
     leads-words leads written (top .position-key .ensures) (c .before .before .move-position .ensures)
 
 pub revive-spec : {M : Type 1} → statement M
 revive-spec =
     tie.close
-    (tie.spec
-    position-key-requires
-    store-requires
-    store-requires-2
-    move-position-requires
-    same-length
-    returns)
+    (tie.spec (λ c κs. search needs) store-requires store-requires-2 move-position-requires (λ c. search needs) returns)

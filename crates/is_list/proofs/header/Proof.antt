@@ -2,29 +2,14 @@
 use native.Mathlib.Omega.{arith}
 use lib.ListN.{getD}
 use borrow.Author.Needs.{needs}
-use Rattle.settings.proofs.Laws.{ranges}
-use Rattle.cells.proofs.Laws.{holds}
+use Rattle.settings.proofs.Numbers.{ranges}
+use Rattle.cell_tests.proofs.Tests.{holds}
 use Rattle.is_list.proofs.Ends.{header-short, header-range, header-length, header-base, header-list}
 use Rattle.is_list.proofs.header.Statement.{statement}
 use Rattle.is_list.proofs.header.Tie as tie
 
 returns : tie.Need-returns
 returns c = header-short (c .before .before .args .list .now) (c .if1 .taken)
-
-shared-slice-read-t6 : tie.Need-shared-slice-read-t6
-shared-slice-read-t6 c = search needs
-
-shared-slice-read-t8 : tie.Need-shared-slice-read-t8
-shared-slice-read-t8 c = search needs
-
-shared-slice-read-t10 : tie.Need-shared-slice-read-t10
-shared-slice-read-t10 c = search needs
-
-shared-slice-read-t12 : tie.Need-shared-slice-read-t12
-shared-slice-read-t12 c = search needs
-
-in-range-requires : tie.Need-in-range-requires
-in-range-requires c κs = search needs
 
 returns-2 : tie.Need-returns-2
 returns-2 c =
@@ -43,9 +28,6 @@ returns-3 c =
     let l = c .before .before .before .before .before .before .before .before .before .before .args .list .now in
     header-length l (λ e. omega (arith, c .before .length .ensures))
 
-is-base-requires : tie.Need-is-base-requires
-is-base-requires c κs = search needs
-
 returns-4 : tie.Need-returns-4
 returns-4 c =
     let l = c .before .before .before .before .before .before .before .before .before .before .before .before .args .list .now in
@@ -62,16 +44,5 @@ returns-5 c =
 pub header-spec : {M : Type 1} → statement M
 header-spec =
     tie.close
-    (tie.spec
-    returns
-    shared-slice-read-t6
-    shared-slice-read-t8
-    shared-slice-read-t10
-    shared-slice-read-t12
-    in-range-requires
-    returns-2
-    length-requires
-    returns-3
-    is-base-requires
-    returns-4
-    returns-5)
+    (tie.spec returns (λ c. search needs) (λ c. search needs) (λ c. search needs) (λ c. search needs) (λ c κs. search needs) returns-2 length-requires
+    returns-3 (λ c κs. search needs) returns-4 returns-5)

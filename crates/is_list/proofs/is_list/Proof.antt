@@ -8,7 +8,7 @@ use borrow.Author.Needs.{needs}
 use Rattle.tree.specs.declared.Seen.{Seen}
 use Rattle.tree.specs.Tree.{headRight, chainRight, seenAll}
 use Rattle.tree.proofs.AcceptedTests.{head-right}
-use Rattle.cells.proofs.Laws.{fails, holds}
+use Rattle.cell_tests.proofs.Tests.{fails, holds}
 use Rattle.is_list.proofs.Ends.{Headed, headed, not-headed, refuse, accept, all-seen}
 use Rattle.is_list.proofs.is_list.Statement.{statement}
 use Rattle.is_list.proofs.is_list.Tie as tie
@@ -38,15 +38,6 @@ chain-at c =
     let l = c .before .before .before .before .before .before .before .before .before .before .before .before .before .before .before .before .before .args .list .now in
     let seen = seen-at (c .before .before .before .before .before .before) in
     c .chain-right .ensures ∙ ap (λ (t : Seen). chainRight l (t .left) (getD l 4 0)) seen
-
-header-requires : tie.Need-header-requires
-header-requires c κs = search needs
-
-enum-known-s : tie.Need-enum-known-s
-enum-known-s c = search needs
-
-enum-told : tie.Need-enum-told
-enum-told c = search needs
 
 returns : tie.Need-returns
 returns c =
@@ -117,19 +108,5 @@ returns-7 c =
 pub is-list-spec : {M : Type 1} → statement M
 is-list-spec =
     tie.close
-    (tie.spec
-    header-requires
-    enum-known-s
-    enum-told
-    returns
-    head-right-requires
-    returns-2
-    at-head-requires
-    returns-3
-    along-requires
-    returns-4
-    returns-5
-    shared-slice-read-chain-right
-    chain-right-requires
-    returns-6
-    returns-7)
+    (tie.spec (λ c κs. search needs) (λ c. search needs) (λ c. search needs) returns head-right-requires returns-2 at-head-requires returns-3
+    along-requires returns-4 returns-5 shared-slice-read-chain-right chain-right-requires returns-6 returns-7)

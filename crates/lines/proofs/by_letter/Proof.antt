@@ -2,41 +2,26 @@
 use mathlib.Core.Path.{refl}
 use borrow.Author.Tests.{ne-eqb}
 use borrow.Author.Needs.{needs}
-use Rattle.meaning.specs.Reading.{same}
+use Rattle.lists.specs.Lists.{same}
 use Rattle.lines.specs.Grammar.{kindOf}
 use Rattle.lines.proofs.by_letter.Statement.{statement}
 use Rattle.lines.proofs.by_letter.Tie as tie
-
-insert-line-requires : tie.Need-insert-line-requires
-insert-line-requires c κs = search needs
 
 returns : tie.Need-returns
 unfolding kindOf same
 returns c = rw (c .before .if1 .taken) (c .insert-line .ensures)
 
-find-line-requires : tie.Need-find-line-requires
-find-line-requires c κs = search needs
-
 returns-2 : tie.Need-returns-2
 unfolding kindOf same
 returns-2 c = rw (c .before .if2 .taken) (c .find-line .ensures)
-
-finish-line-requires : tie.Need-finish-line-requires
-finish-line-requires c κs = search needs
 
 returns-3 : tie.Need-returns-3
 unfolding kindOf same
 returns-3 c = rw (c .before .if3 .taken) (c .finish-line .ensures)
 
-ended-requires : tie.Need-ended-requires
-ended-requires c κs = search needs
-
 returns-4 : tie.Need-returns-4
 unfolding kindOf same
 returns-4 c = rw (c .before .if4 .taken) (c .ended .ensures)
-
-ended-requires-2 : tie.Need-ended-requires-2
-ended-requires-2 c κs = search needs
 
 returns-5 : tie.Need-returns-5
 unfolding kindOf same
@@ -58,15 +43,5 @@ returns-6 c =
 pub by-letter-spec : {M : Type 1} → statement M
 by-letter-spec =
     tie.close
-    (tie.spec
-    insert-line-requires
-    returns
-    find-line-requires
-    returns-2
-    finish-line-requires
-    returns-3
-    ended-requires
-    returns-4
-    ended-requires-2
-    returns-5
-    returns-6)
+    (tie.spec (λ c κs. search needs) returns (λ c κs. search needs) returns-2 (λ c κs. search needs) returns-3 (λ c κs. search needs) returns-4
+    (λ c κs. search needs) returns-5 returns-6)

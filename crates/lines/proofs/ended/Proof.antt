@@ -1,6 +1,6 @@
 -- `lines::ended` meets its contract: no field is left exactly where the line has ended.
 use native.Mathlib.Omega.{arith}
-use Rattle.lines.proofs.Laws.{line-ends, line-goes-on}
+use Rattle.lines.proofs.Grammar.{line-ends, line-goes-on}
 use Rattle.lines.proofs.ended.Statement.{statement}
 use Rattle.lines.proofs.ended.Tie as tie
 

@@ -1,42 +1,18 @@
 -- `lines::number_after` meets its contract: a field follows behind a space, and it is a number as `text` reads it.
 use mathlib.Core.Path.{sym, _∙_}
 use borrow.Author.Needs.{needs}
-use Rattle.lines.proofs.Laws.{number-missing, number-read, number-none}
+use Rattle.lines.proofs.Grammar.{number-missing, number-read, number-none}
 use Rattle.lines.proofs.number_after.Statement.{statement}
 use Rattle.lines.proofs.number_after.Tie as tie
 
 returns : tie.Need-returns
 returns c = let a = c .before .before .args in number-missing (a .least) (a .most) (search needs)
 
-add-start : tie.Need-add-start
-add-start c = search needs
-
-field-end-requires : tie.Need-field-end-requires
-field-end-requires c κs = search needs
-
-sub-number : tie.Need-sub-number
-sub-number c = search needs
-
-part-number-start : tie.Need-part-number-start
-part-number-start c = search needs
-
-part-number-end : tie.Need-part-number-end
-part-number-end c = search needs
-
-number-requires : tie.Need-number-requires
-number-requires c κs = search needs
-
-enum-known-numeral : tie.Need-enum-known-numeral
-enum-known-numeral c = search needs
-
 returns-2 : tie.Need-returns-2
 returns-2 c =
     let a = c .before .before .before .before .before .before .before .before .args in
     let ends = c .before .before .before .before .before .field-end .ensures in
     number-read (a .least) (a .most) (search needs) ends (sym (c .before .before .before .number .ensures) ∙ c .before .numeral .given .1)
-
-enum-told : tie.Need-enum-told
-enum-told c = search needs
 
 returns-3 : tie.Need-returns-3
 returns-3 c =
@@ -47,15 +23,5 @@ returns-3 c =
 pub number-after-spec : {M : Type 1} → statement M
 number-after-spec =
     tie.close
-    (tie.spec
-    returns
-    add-start
-    field-end-requires
-    sub-number
-    part-number-start
-    part-number-end
-    number-requires
-    enum-known-numeral
-    returns-2
-    enum-told
-    returns-3)
+    (tie.spec returns (λ c. search needs) (λ c κs. search needs) (λ c. search needs) (λ c. search needs) (λ c. search needs) (λ c κs. search needs)
+    (λ c. search needs) returns-2 (λ c. search needs) returns-3)

@@ -2,7 +2,7 @@
 use mathlib.Core.Path.{_∙_}
 use native.Mathlib.Omega.{arith}
 use borrow.Author.Needs.{needs}
-use Rattle.lines.proofs.Laws.{parsed-empty, parsed-long, parsed-no-letter, parsed-letter}
+use Rattle.lines.proofs.Grammar.{parsed-empty, parsed-long, parsed-no-letter, parsed-letter}
 use Rattle.lines.proofs.parse.Statement.{statement}
 use Rattle.lines.proofs.parse.Tie as tie
 
@@ -12,19 +12,10 @@ returns c = parsed-empty (c .before .before .args .line .now) (omega arith)
 returns-2 : tie.Need-returns-2
 returns-2 c = parsed-long (c .before .before .before .args .line .now) (omega arith)
 
-field-end-requires : tie.Need-field-end-requires
-field-end-requires c κs = search needs
-
 returns-3 : tie.Need-returns-3
 returns-3 c =
     let line = c .before .before .before .before .before .args .line .now in
     parsed-no-letter line (omega arith) (omega arith) (c .before .field-end .ensures) (λ e. omega arith)
-
-shared-slice-read-by-letter : tie.Need-shared-slice-read-by-letter
-shared-slice-read-by-letter c = search needs
-
-by-letter-requires : tie.Need-by-letter-requires
-by-letter-requires c κs = search needs
 
 returns-4 : tie.Need-returns-4
 returns-4 c =
@@ -35,11 +26,4 @@ returns-4 c =
 pub parse-spec : {M : Type 1} → statement M
 parse-spec =
     tie.close
-    (tie.spec
-    returns
-    returns-2
-    field-end-requires
-    returns-3
-    shared-slice-read-by-letter
-    by-letter-requires
-    returns-4)
+    (tie.spec returns returns-2 (λ c κs. search needs) returns-3 (λ c. search needs) (λ c κs. search needs) returns-4)

@@ -2,22 +2,10 @@
 use mathlib.Core.Path.{_∙_, sym}
 use borrow.Author.Needs.{needs}
 use Rattle.meaning.proofs.Outcomes.{find-outcome-not-a-list}
-use Rattle.is_list.proofs.Laws.{reading-listed, reading-none}
-use Rattle.mdlist.proofs.Laws.{refused-meets, find-meets}
+use Rattle.is_list.proofs.Answered.{reading-listed, reading-none}
+use Rattle.mdlist.proofs.Exported.{refused-meets, find-meets}
 use Rattle.mdlist.proofs.mdlist_find.Statement.{statement}
 use Rattle.mdlist.proofs.mdlist_find.Tie as tie
-
-is-list-requires : tie.Need-is-list-requires
-is-list-requires c κs = search needs
-
-enum-known-s : tie.Need-enum-known-s
-enum-known-s c = search needs
-
-enum-told : tie.Need-enum-told
-enum-told c = search needs
-
-refused-requires : tie.Need-refused-requires
-refused-requires c κs = search needs
 
 returns : tie.Need-returns
 returns c =
@@ -36,11 +24,4 @@ returns-2 c =
 pub mdlist-find-spec : {M : Type 1} → statement M
 mdlist-find-spec =
     tie.close
-    (tie.spec
-    is-list-requires
-    enum-known-s
-    enum-told
-    refused-requires
-    returns
-    find-requires
-    returns-2)
+    (tie.spec (λ c κs. search needs) (λ c. search needs) (λ c. search needs) (λ c κs. search needs) returns find-requires returns-2)

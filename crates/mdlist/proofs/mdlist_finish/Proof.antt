@@ -2,25 +2,10 @@
 use mathlib.Core.Path.{_∙_, sym}
 use borrow.Author.Needs.{needs}
 use Rattle.meaning.proofs.Outcomes.{finish-outcome-not-a-list}
-use Rattle.is_list.proofs.Laws.{reading-listed, reading-none}
-use Rattle.mdlist.proofs.Laws.{refused-meets}
+use Rattle.is_list.proofs.Answered.{reading-listed, reading-none}
+use Rattle.mdlist.proofs.Exported.{refused-meets}
 use Rattle.mdlist.proofs.mdlist_finish.Statement.{statement}
 use Rattle.mdlist.proofs.mdlist_finish.Tie as tie
-
-is-list-requires : tie.Need-is-list-requires
-is-list-requires c κs = search needs
-
-enum-known-s : tie.Need-enum-known-s
-enum-known-s c = search needs
-
-enum-told : tie.Need-enum-told
-enum-told c = search needs
-
-refused-requires : tie.Need-refused-requires
-refused-requires c κs = search needs
-
-same-length : tie.Need-same-length
-same-length c = search needs
 
 returns : tie.Need-returns
 returns c =
@@ -31,22 +16,8 @@ returns c =
 finish-requires : tie.Need-finish-requires
 finish-requires c κs = reading-listed (sym (c .before .before .before .before .is-list .ensures) ∙ c .before .before .s .given .1)
 
-same-length-2 : tie.Need-same-length-2
-same-length-2 c = search needs
-
-returns-2 : tie.Need-returns-2
-returns-2 c = search needs
-
 pub mdlist-finish-spec : {M : Type 1} → statement M
 mdlist-finish-spec =
     tie.close
-    (tie.spec
-    is-list-requires
-    enum-known-s
-    enum-told
-    refused-requires
-    same-length
-    returns
-    finish-requires
-    same-length-2
-    returns-2)
+    (tie.spec (λ c κs. search needs) (λ c. search needs) (λ c. search needs) (λ c κs. search needs) (λ c. search needs) returns finish-requires
+    (λ c. search needs) (λ c. search needs))

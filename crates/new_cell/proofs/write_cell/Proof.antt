@@ -1,20 +1,8 @@
--- `new_cell::write_cell` meets its contract: entry, coordinates and links, one after the other, are one run of words, those of a new cell.
+-- `new_cell::write_cell` meets its contract: node, coordinates and links, one after the other, are one run of words, those of a new cell.
 use borrow.Author.Needs.{needs}
-use Rattle.new_cell.proofs.Laws.{cell-written}
+use Rattle.new_cell.proofs.NewWords.{cell-written}
 use Rattle.new_cell.proofs.write_cell.Statement.{statement}
 use Rattle.new_cell.proofs.write_cell.Tie as tie
-
-write-fields-requires : tie.Need-write-fields-requires
-write-fields-requires c κs = search needs
-
-put-coordinates-requires : tie.Need-put-coordinates-requires
-put-coordinates-requires c κs = search needs
-
-put-links-requires : tie.Need-put-links-requires
-put-links-requires c κs = search needs
-
-same-length : tie.Need-same-length
-same-length c = search needs
 
 returns : tie.Need-returns
 returns c =
@@ -29,4 +17,4 @@ returns c =
 pub write-cell-spec : {M : Type 1} → statement M
 write-cell-spec =
     tie.close
-    (tie.spec write-fields-requires put-coordinates-requires put-links-requires same-length returns)
+    (tie.spec (λ c κs. search needs) (λ c κs. search needs) (λ c κs. search needs) (λ c. search needs) returns)

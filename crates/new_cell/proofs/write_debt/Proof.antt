@@ -1,20 +1,8 @@
 -- `new_cell::write_debt` meets its contract: three stores in a row are a run of three words.
 use borrow.Author.Needs.{needs}
-use Rattle.new_cell.proofs.Laws.{debt-written}
+use Rattle.new_cell.proofs.NewWords.{debt-written}
 use Rattle.new_cell.proofs.write_debt.Statement.{statement}
 use Rattle.new_cell.proofs.write_debt.Tie as tie
-
-store-requires : tie.Need-store-requires
-store-requires c κs = search needs
-
-store-requires-2 : tie.Need-store-requires-2
-store-requires-2 c κs = search needs
-
-store-requires-3 : tie.Need-store-requires-3
-store-requires-3 c κs = search needs
-
-same-length : tie.Need-same-length
-same-length c = search needs
 
 returns : tie.Need-returns
 returns c =
@@ -26,4 +14,4 @@ returns c =
 
 pub write-debt-spec : {M : Type 1} → statement M
 write-debt-spec =
-    tie.close (tie.spec store-requires store-requires-2 store-requires-3 same-length returns)
+    tie.close (tie.spec (λ c κs. search needs) (λ c κs. search needs) (λ c κs. search needs) (λ c. search needs) returns)

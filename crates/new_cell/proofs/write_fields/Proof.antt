@@ -1,24 +1,9 @@
 -- `new_cell::write_fields` meets its contract: three stores and the debt in a row are a run of six words, with the debt by p and q.
 use native.Mathlib.Omega.{arith}
 use borrow.Author.Needs.{needs}
-use Rattle.new_cell.proofs.Laws.{owing-written, settled-written}
+use Rattle.new_cell.proofs.NewWords.{owing-written, settled-written}
 use Rattle.new_cell.proofs.write_fields.Statement.{statement}
 use Rattle.new_cell.proofs.write_fields.Tie as tie
-
-store-requires : tie.Need-store-requires
-store-requires c κs = search needs
-
-store-requires-2 : tie.Need-store-requires-2
-store-requires-2 c κs = search needs
-
-store-requires-3 : tie.Need-store-requires-3
-store-requires-3 c κs = search needs
-
-write-debt-requires : tie.Need-write-debt-requires
-write-debt-requires c κs = search needs
-
-same-length : tie.Need-same-length
-same-length c = search needs
 
 returns : tie.Need-returns
 returns c =
@@ -28,12 +13,6 @@ returns c =
     let second = c .before .before .before .before .before .before .before .before .before .before .before .before .store2 .ensures in
     let first = c .before .before .before .before .before .before .before .before .before .before .before .before .before .before .before .before .store .ensures in
     (rw (debt .0, third .0, second .0, first .0) (owing-written (a .s .dimensions) (a .list .now) (a .n) (a .key) (a .value) (a .f) (c .before .before .before .before .if1 .taken)), debt .1)
-
-write-debt-requires-2 : tie.Need-write-debt-requires-2
-write-debt-requires-2 c κs = search needs
-
-same-length-2 : tie.Need-same-length-2
-same-length-2 c = search needs
 
 returns-2 : tie.Need-returns-2
 returns-2 c =
@@ -47,13 +26,5 @@ returns-2 c =
 pub write-fields-spec : {M : Type 1} → statement M
 write-fields-spec =
     tie.close
-    (tie.spec
-    store-requires
-    store-requires-2
-    store-requires-3
-    write-debt-requires
-    same-length
-    returns
-    write-debt-requires-2
-    same-length-2
-    returns-2)
+    (tie.spec (λ c κs. search needs) (λ c κs. search needs) (λ c κs. search needs) (λ c κs. search needs) (λ c. search needs) returns
+    (λ c κs. search needs) (λ c. search needs) returns-2)

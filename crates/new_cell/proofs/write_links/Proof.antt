@@ -3,31 +3,19 @@ use mathlib.Core.Path.{_∙_}
 use native.Mathlib.Omega.{arith}
 use lib.ListN.{length}
 use borrow.Author.Needs.{needs}
-use Rattle.new_cell.proofs.Laws.{links-none, links-one}
+use Rattle.new_cell.proofs.NewWords.{links-none, links-one}
 use Rattle.new_cell.proofs.write_links.Statement.{statement}
 use Rattle.new_cell.proofs.write_links.Tie as tie
-
-fill-requires : tie.Need-fill-requires
-fill-requires c κs = search needs
-
-same-length : tie.Need-same-length
-same-length c = search needs
 
 returns : tie.Need-returns
 returns c =
     let a = c .before .before .before .before .before .before .args in
     c .before .before .before .fill .ensures ∙ links-none (length (a .part .now)) (a .q) (a .c) (c .if1 .taken)
 
-mul-part : tie.Need-mul-part
-mul-part c = search needs
-
 slice-write-part : tie.Need-slice-write-part
 slice-write-part c =
     let inside = c .before .before .before .before .before .before .pre (c .if1 .left) in
     omega arith
-
-same-length-2 : tie.Need-same-length-2
-same-length-2 c = search needs
 
 returns-2 : tie.Need-returns-2
 returns-2 c =
@@ -37,4 +25,4 @@ returns-2 c =
 pub write-links-spec : {M : Type 1} → statement M
 write-links-spec =
     tie.close
-    (tie.spec fill-requires same-length returns mul-part slice-write-part same-length-2 returns-2)
+    (tie.spec (λ c κs. search needs) (λ c. search needs) returns (λ c. search needs) slice-write-part (λ c. search needs) returns-2)

@@ -1,28 +1,19 @@
 -- `order::take_last` meets its contract: the line begun at the end of the input stands in the buffer, and is what the end hands on.
 use native.Mathlib.Omega.{arith}
 use borrow.Author.Needs.{needs}
-use Rattle.order.proofs.Laws.{end-words}
+use Rattle.order.proofs.Input.{end-words}
 use Rattle.order.proofs.take_last.Statement.{statement}
 use Rattle.order.proofs.take_last.Tie as tie
-
-finish-requires : tie.Need-finish-requires
-finish-requires c κs = search needs
 
 take-line-requires : tie.Need-take-line-requires
 take-line-requires c κs =
     let last = c .before .finish .ensures in
     record { fits = λ n e. omega (arith, last .line-fits n e, c .before .before .before .before .pre .long) }
 
-same-length : tie.Need-same-length
-same-length c = search needs
-
 returns : tie.Need-returns
 returns c =
     let a = c .before .before .before .before .before .before .before .before .args in
     end-words (a .line .now) (a .words .now) (c .before .before .before .before .before .before .before .before .pre .long) (c .before .before .before .before .before .finish .ensures) (c .before .before .before .take-line .ensures)
-
-same-length-2 : tie.Need-same-length-2
-same-length-2 c = search needs
 
 returns-2 : tie.Need-returns-2
 returns-2 c =
@@ -32,4 +23,4 @@ returns-2 c =
 pub take-last-spec : {M : Type 1} → statement M
 take-last-spec =
     tie.close
-    (tie.spec finish-requires take-line-requires same-length returns same-length-2 returns-2)
+    (tie.spec (λ c κs. search needs) take-line-requires (λ c. search needs) returns (λ c. search needs) returns-2)

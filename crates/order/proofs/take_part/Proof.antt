@@ -4,13 +4,13 @@ use Prim.Native.Nat.{_+_, _-_, _≤_}
 use lib.ListN.{length, take}
 use borrow.Author.Needs.{needs}
 use Rattle.text.specs.Feeding.{begunIn}
-use Rattle.order.specs.Input.{Taken}
-use Rattle.order.proofs.Laws.{none-taken, one-more-taken, not-written}
+use Rattle.order.specs.Input.{BytesTaken}
+use Rattle.order.proofs.Input.{none-taken, one-more-taken, not-written}
 use Rattle.order.proofs.take_part.Statement.{statement}
 use Rattle.order.proofs.take_part.Tie as tie
 
 abbrev Inv-loop : tie.InvT-loop
-Inv-loop words₀ line₀ part s₀ i₀ words line s i = (i ≤ length part) × ((length words ≡ length words₀) × Taken (take i part) (begunIn line₀ (s₀ .feed)) words₀ line (s .feed) words)
+Inv-loop words₀ line₀ part s₀ i₀ words line s i = (i ≤ length part) × ((length words ≡ length words₀) × BytesTaken (take i part) (begunIn line₀ (s₀ .feed)) words₀ line (s .feed) words)
 
 abbrev μ-loop : tie.MeasureT-loop
 μ-loop words₀ line₀ part s₀ i₀ words line s i = length part - i
@@ -18,17 +18,8 @@ abbrev μ-loop : tie.MeasureT-loop
 loop-holds : tie.Need-loop-holds Inv-loop μ-loop
 loop-holds c = (search needs, (refl, none-taken (c .before .before .before .pre)))
 
-shared-slice-read-take-byte : tie.Need-shared-slice-read-take-byte Inv-loop μ-loop
-shared-slice-read-take-byte c = search needs
-
 take-byte-requires : tie.Need-take-byte-requires Inv-loop μ-loop
 take-byte-requires c κs = c .before .before .before .before .loop .inv .1 .1 .ready
-
-same-length : tie.Need-same-length Inv-loop μ-loop
-same-length c = search needs
-
-same-length-2 : tie.Need-same-length-2 Inv-loop μ-loop
-same-length-2 c = search needs
 
 returns : tie.Need-returns Inv-loop μ-loop
 returns c =
@@ -40,23 +31,11 @@ returns c =
       whole = λ e. not-written _ (c .if1 .taken) e;
     }
 
-add-i : tie.Need-add-i Inv-loop μ-loop
-add-i c = search needs
-
-loop-less : tie.Need-loop-less Inv-loop μ-loop
-loop-less c = search needs
-
 loop-again : tie.Need-loop-again Inv-loop μ-loop
 loop-again c =
     let a = c .before .before .before .before .before .before .before .before .before .before .before .before .before .before .before .args in
     let v = c .before .before .before .before .before .before .before .before .before .before .before .loop in
     (search needs, (search needs, one-more-taken (a .part .now) (v .i) (search needs) (v .inv .1 .1) (c .before .before .before .before .before .before .take-byte .ensures)))
-
-same-length-3 : tie.Need-same-length-3 Inv-loop μ-loop
-same-length-3 c = search needs
-
-same-length-4 : tie.Need-same-length-4 Inv-loop μ-loop
-same-length-4 c = search needs
 
 returns-2 : tie.Need-returns-2 Inv-loop μ-loop
 returns-2 c =
@@ -66,18 +45,5 @@ returns-2 c =
 pub take-part-spec : {M : Type 1} → statement M
 take-part-spec =
     tie.close
-    (tie.spec
-    Inv-loop
-    μ-loop
-    loop-holds
-    shared-slice-read-take-byte
-    take-byte-requires
-    same-length
-    same-length-2
-    returns
-    add-i
-    loop-less
-    loop-again
-    same-length-3
-    same-length-4
-    returns-2)
+    (tie.spec Inv-loop μ-loop loop-holds (λ c. search needs) take-byte-requires (λ c. search needs) (λ c. search needs) returns (λ c. search needs)
+    (λ c. search needs) loop-again (λ c. search needs) (λ c. search needs) returns-2)

@@ -1,6 +1,6 @@
 -- `paths::head_path` meets its contract: the first of sixteen zeros.
 use Rattle.settings.specs.Numbers.{mostDimensions}
-use Rattle.paths.proofs.Laws.{zeros-taken, zeros-formed}
+use Rattle.paths.proofs.Paths.{zeros-taken, zeros-formed}
 use Rattle.paths.proofs.head_path.Statement.{statement}
 use Rattle.paths.proofs.head_path.Tie as tie
 

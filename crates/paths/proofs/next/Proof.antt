@@ -3,7 +3,7 @@
 use Prim.Native.Nat.{_-_}
 use native.Mathlib.Omega.{arith}
 use borrow.Author.Needs.{needs}
-use Rattle.paths.proofs.Laws.{formed-own, Seeking, seeking-start, cell-below, seeking-down, next-found, next-nowhere}
+use Rattle.paths.proofs.Paths.{formed-own, Seeking, seeking-start, cell-below, seeking-down, next-found, next-nowhere}
 use Rattle.paths.proofs.next.Statement.{statement}
 use Rattle.paths.proofs.next.Tie as tie
 
@@ -15,9 +15,6 @@ abbrev μ-loop : tie.MeasureT-loop
 
 loop-holds : tie.Need-loop-holds Inv-loop μ-loop
 loop-holds c = seeking-start (c .before .args .list .now)
-
-sub-d : tie.Need-sub-d Inv-loop μ-loop
-sub-d c = search needs
 
 link-on-requires : tie.Need-link-on-requires Inv-loop μ-loop
 link-on-requires c κs =
@@ -38,9 +35,6 @@ returns c =
     next-found (p .1) (v .loop .inv) (omega arith) (c .before .before .link-on .ensures) (p .0) (c .before .if1 .taken)
     (c .onward .ensures .0) (c .onward .ensures .1)
 
-loop-less : tie.Need-loop-less Inv-loop μ-loop
-loop-less c = search needs
-
 loop-again : tie.Need-loop-again Inv-loop μ-loop
 loop-again c =
     let v = c .before .before .before in
@@ -54,14 +48,4 @@ returns-2 c =
 pub next-spec : {M : Type 1} → statement M
 next-spec =
     tie.close
-    (tie.spec
-    Inv-loop
-    μ-loop
-    loop-holds
-    sub-d
-    link-on-requires
-    onward-requires
-    returns
-    loop-less
-    loop-again
-    returns-2)
+    (tie.spec Inv-loop μ-loop loop-holds (λ c. search needs) link-on-requires onward-requires returns (λ c. search needs) loop-again returns-2)

@@ -2,7 +2,7 @@
 use native.Mathlib.Omega.{arith}
 use Prim.Native.Nat.{_-_}
 use borrow.Author.Needs.{needs}
-use Rattle.paths.proofs.Laws.{Going, going-start, going-more, going-end}
+use Rattle.paths.proofs.Paths.{Going, going-start, going-more, going-end}
 use Rattle.paths.proofs.onward.Statement.{statement}
 use Rattle.paths.proofs.onward.Tie as tie
 
@@ -15,21 +15,6 @@ abbrev μ-loop : tie.MeasureT-loop
 loop-holds : tie.Need-loop-holds Inv-loop μ-loop
 loop-holds c = going-start (c .pre .0) (c .args .d) (c .args .y) (c .pre .1)
 
-cast-if1 : tie.Need-cast-if1 Inv-loop μ-loop
-cast-if1 c = search needs
-
-mul-next : tie.Need-mul-next Inv-loop μ-loop
-mul-next c = search needs
-
-element-write-next : tie.Need-element-write-next Inv-loop μ-loop
-element-write-next c = search needs
-
-add-i : tie.Need-add-i Inv-loop μ-loop
-add-i c = search needs
-
-loop-less : tie.Need-loop-less Inv-loop μ-loop
-loop-less c = search needs
-
 loop-again : tie.Need-loop-again Inv-loop μ-loop
 loop-again c = going-more (c .before .before .loop .inv) (omega arith)
 
@@ -39,14 +24,5 @@ returns c = (going-end (c .before .before .before .pre .0) (c .before .before .l
 pub onward-spec : {M : Type 1} → statement M
 onward-spec =
     tie.close
-    (tie.spec
-    Inv-loop
-    μ-loop
-    loop-holds
-    cast-if1
-    mul-next
-    element-write-next
-    add-i
-    loop-less
-    loop-again
-    returns)
+    (tie.spec Inv-loop μ-loop loop-holds (λ c. search needs) (λ c. search needs) (λ c. search needs) (λ c. search needs) (λ c. search needs)
+    loop-again returns)

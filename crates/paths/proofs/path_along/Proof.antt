@@ -2,7 +2,7 @@
 -- turn.
 use native.Mathlib.Omega.{arith}
 use borrow.Author.Needs.{needs}
-use Rattle.paths.proofs.Laws.{formed-own}
+use Rattle.paths.proofs.Paths.{formed-own}
 use Rattle.meaning.proofs.WalkSteps.{stepsLeft}
 use Rattle.paths.proofs.Steps.{enough, Walking, walking-start, walking-go, walking-up, walking-end, left-go, left-up}
 use Rattle.paths.proofs.path_along.Statement.{statement}
@@ -28,9 +28,6 @@ step-requires c κs =
     let w = c .loop .inv in
     (p .0 .shaped, (p .1 .0, (w .cell, (w .inside, p .0 .owed (c .loop .at) (w .cell)))))
 
-enum-known-next : tie.Need-enum-known-next Inv-loop μ-loop
-enum-known-next c = search needs
-
 onward-requires : tie.Need-onward-requires Inv-loop μ-loop
 onward-requires c κs =
     let w = c .before .before .before .before .loop .inv in
@@ -49,12 +46,6 @@ loop-again c =
     walking-go (v .before .before .before .before .pre .0) (v .loop .inv) (step .step .ensures) (c .before .before .next .given .1)
     (c .onward .ensures .0) (c .onward .ensures .1)
 
-enum-told : tie.Need-enum-told Inv-loop μ-loop
-enum-told c = search needs
-
-add-d : tie.Need-add-d Inv-loop μ-loop
-add-d c = search needs
-
 loop-less-2 : tie.Need-loop-less-2 Inv-loop μ-loop
 loop-less-2 c =
     let v = c .before .before .before in
@@ -65,9 +56,6 @@ loop-again-2 c =
     let v = c .before .before .before in
     walking-up (v .before .before .before .before .pre .0) (v .loop .inv) (c .before .before .step .ensures) (c .enum-told .given .1)
 
-enum-told-2 : tie.Need-enum-told-2 Inv-loop μ-loop
-enum-told-2 c = search needs
-
 returns : tie.Need-returns Inv-loop μ-loop
 returns c =
     let v = c .before .before .before in
@@ -77,19 +65,5 @@ returns c =
 pub path-along-spec : {M : Type 1} → statement M
 path-along-spec =
     tie.close
-    (tie.spec
-    Inv-loop
-    μ-loop
-    head-path-requires
-    loop-holds
-    step-requires
-    enum-known-next
-    onward-requires
-    loop-less
-    loop-again
-    enum-told
-    add-d
-    loop-less-2
-    loop-again-2
-    enum-told-2
-    returns)
+    (tie.spec Inv-loop μ-loop head-path-requires loop-holds step-requires (λ c. search needs) onward-requires loop-less loop-again (λ c. search needs)
+    (λ c. search needs) loop-less-2 loop-again-2 (λ c. search needs) returns)

@@ -4,7 +4,7 @@ use Prim.Native.Nat.{_≤_}
 use native.Mathlib.Omega.{arith}
 use lib.ListN.{length}
 use lib.Seq.{length-take-le}
-use Rattle.words.proofs.Laws.{field-within}
+use Rattle.words.proofs.Shaped.{field-within}
 use Rattle.paths.proofs.Listed.{stands-walkable, stands-base, stands-below, stands-ends, cell-path-head, cell-path-other}
 use borrow.Author.Needs.{needs}
 use Rattle.paths.proofs.path_of.Statement.{statement}
@@ -27,9 +27,6 @@ coordinates-of-requires : tie.Need-coordinates-of-requires
 coordinates-of-requires c κs =
     let h = c .before .before .before .pre .in-it in
     (stands-walkable h .shaped .dimensions-most, stands-base h)
-
-cast-n : tie.Need-cast-n
-cast-n c = search needs
 
 array-share-prefix-sought : tie.Need-array-share-prefix-sought
 array-share-prefix-sought c =
@@ -60,13 +57,5 @@ returns-2 c =
 pub path-of-spec : {M : Type 1} → statement M
 path-of-spec =
     tie.close
-    (tie.spec
-    head-path-requires
-    returns
-    word-requires
-    coordinates-of-requires
-    cast-n
-    array-share-prefix-sought
-    slice-aggregate-path-along
-    path-along-requires
-    returns-2)
+    (tie.spec head-path-requires returns word-requires coordinates-of-requires (λ c. search needs) array-share-prefix-sought
+    slice-aggregate-path-along path-along-requires returns-2)

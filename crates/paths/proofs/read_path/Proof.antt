@@ -2,7 +2,7 @@
 use Prim.Native.Nat.{_-_}
 use native.Mathlib.Omega.{arith}
 use borrow.Author.Needs.{needs}
-use Rattle.paths.proofs.Laws.{path-inside, ReadUpto, read-start, read-more, read-end}
+use Rattle.paths.proofs.Paths.{path-inside, ReadUpto, read-start, read-more, read-end}
 use Rattle.paths.proofs.read_path.Statement.{statement}
 use Rattle.paths.proofs.read_path.Tie as tie
 
@@ -18,30 +18,9 @@ head-path-requires c κs = c .before .pre .dimensions-most
 loop-holds : tie.Need-loop-holds Inv-loop μ-loop
 loop-holds c = read-start (c .before .before .args .list .now) (c .head-path .ensures .1)
 
-cast-if1 : tie.Need-cast-if1 Inv-loop μ-loop
-cast-if1 c = search needs
-
-add-path : tie.Need-add-path Inv-loop μ-loop
-add-path c = search needs
-
-mul-path : tie.Need-mul-path Inv-loop μ-loop
-mul-path c = search needs
-
 shared-slice-read-path : tie.Need-shared-slice-read-path Inv-loop μ-loop
 shared-slice-read-path c =
     omega (arith, path-inside (c .before .before .before .before .before .before .pre) (c .before .before .before .loop .i) (omega arith))
-
-mul-path-2 : tie.Need-mul-path-2 Inv-loop μ-loop
-mul-path-2 c = search needs
-
-element-write-path : tie.Need-element-write-path Inv-loop μ-loop
-element-write-path c = search needs
-
-add-i : tie.Need-add-i Inv-loop μ-loop
-add-i c = search needs
-
-loop-less : tie.Need-loop-less Inv-loop μ-loop
-loop-less c = search needs
 
 loop-again : tie.Need-loop-again Inv-loop μ-loop
 loop-again c =
@@ -54,18 +33,5 @@ returns c = (read-end (c .before .before .loop .inv) (omega arith), c .before .b
 pub read-path-spec : {M : Type 1} → statement M
 read-path-spec =
     tie.close
-    (tie.spec
-    Inv-loop
-    μ-loop
-    head-path-requires
-    loop-holds
-    cast-if1
-    add-path
-    mul-path
-    shared-slice-read-path
-    mul-path-2
-    element-write-path
-    add-i
-    loop-less
-    loop-again
-    returns)
+    (tie.spec Inv-loop μ-loop head-path-requires loop-holds (λ c. search needs) (λ c. search needs) (λ c. search needs) shared-slice-read-path
+    (λ c. search needs) (λ c. search needs) (λ c. search needs) (λ c. search needs) loop-again returns)

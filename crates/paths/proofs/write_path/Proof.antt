@@ -2,7 +2,7 @@
 use native.Mathlib.Omega.{arith}
 use Prim.Native.Nat.{_-_}
 use borrow.Author.Needs.{needs}
-use Rattle.paths.proofs.Laws.{path-inside, WrittenUpto, write-start, write-more, write-end}
+use Rattle.paths.proofs.Paths.{path-inside, WrittenUpto, write-start, write-more, write-end}
 use Rattle.paths.proofs.write_path.Statement.{statement}
 use Rattle.paths.proofs.write_path.Tie as tie
 
@@ -15,37 +15,13 @@ abbrev μ-loop : tie.MeasureT-loop
 loop-holds : tie.Need-loop-holds Inv-loop μ-loop
 loop-holds c = write-start (c .pre .0)
 
-cast-if1 : tie.Need-cast-if1 Inv-loop μ-loop
-cast-if1 c = search needs
-
-mul-list : tie.Need-mul-list Inv-loop μ-loop
-mul-list c = search needs
-
-element-copy-out-list : tie.Need-element-copy-out-list Inv-loop μ-loop
-element-copy-out-list c = search needs
-
-add-list : tie.Need-add-list Inv-loop μ-loop
-add-list c = search needs
-
-mul-list-2 : tie.Need-mul-list-2 Inv-loop μ-loop
-mul-list-2 c = search needs
-
 slice-write-list : tie.Need-slice-write-list Inv-loop μ-loop
 slice-write-list c =
     let v = c .before .before .before .loop in
     omega (arith, path-inside (v .inv .shaped) (v .i) (omega arith))
 
-add-i : tie.Need-add-i Inv-loop μ-loop
-add-i c = search needs
-
-loop-less : tie.Need-loop-less Inv-loop μ-loop
-loop-less c = search needs
-
 loop-again : tie.Need-loop-again Inv-loop μ-loop
 loop-again c = write-more (c .before .before .before .loop .inv) (c .before .before .before .before .pre .1) (omega arith)
-
-same-length : tie.Need-same-length Inv-loop μ-loop
-same-length c = search needs
 
 returns : tie.Need-returns Inv-loop μ-loop
 returns c = (write-end (c .before .before .loop .inv) (c .before .before .before .pre .1) (omega arith), c .before .before .loop .inv .shaped)
@@ -53,18 +29,5 @@ returns c = (write-end (c .before .before .loop .inv) (c .before .before .before
 pub write-path-spec : {M : Type 1} → statement M
 write-path-spec =
     tie.close
-    (tie.spec
-    Inv-loop
-    μ-loop
-    loop-holds
-    cast-if1
-    mul-list
-    element-copy-out-list
-    add-list
-    mul-list-2
-    slice-write-list
-    add-i
-    loop-less
-    loop-again
-    same-length
-    returns)
+    (tie.spec Inv-loop μ-loop loop-holds (λ c. search needs) (λ c. search needs) (λ c. search needs) (λ c. search needs) (λ c. search needs)
+    slice-write-list (λ c. search needs) (λ c. search needs) loop-again (λ c. search needs) returns)

@@ -9,36 +9,6 @@ use Rattle.trace.specs.Calling.{afterCall}
 use Rattle.replay.proofs.reply.Statement.{statement}
 use Rattle.replay.proofs.reply.Tie as tie
 
-altered-requires : tie.Need-altered-requires
-altered-requires c κs = search needs
-
-sub-call : tie.Need-sub-call
-sub-call c = search needs
-
-part-call-start : tie.Need-part-call-start
-part-call-start c = search needs
-
-part-call-end : tie.Need-part-call-end
-part-call-end c = search needs
-
-call-requires : tie.Need-call-requires
-call-requires c κs = search needs
-
-sub-print : tie.Need-sub-print
-sub-print c = search needs
-
-part-print-start : tie.Need-part-print-start
-part-print-start c = search needs
-
-part-print-end : tie.Need-part-print-end
-part-print-end c = search needs
-
-print-requires : tie.Need-print-requires
-print-requires c κs = search needs
-
-same-length : tie.Need-same-length
-same-length c = search needs
-
 returns : tie.Need-returns
 returns c =
     let done = c .before .before .before .before .before .call in
@@ -53,15 +23,5 @@ returns c =
 pub reply-spec : {M : Type 1} → statement M
 reply-spec =
     tie.close
-    (tie.spec
-    altered-requires
-    sub-call
-    part-call-start
-    part-call-end
-    call-requires
-    sub-print
-    part-print-start
-    part-print-end
-    print-requires
-    same-length
-    returns)
+    (tie.spec (λ c κs. search needs) (λ c. search needs) (λ c. search needs) (λ c. search needs) (λ c κs. search needs) (λ c. search needs)
+    (λ c. search needs) (λ c. search needs) (λ c κs. search needs) (λ c. search needs) returns)

@@ -20,12 +20,6 @@ abbrev μ-loop : tie.MeasureT-loop
 loop-holds : tie.Need-loop-holds Inv-loop μ-loop
 loop-holds c = (search needs, (search needs, checksum-start (c .args .part .now)))
 
-mul-word : tie.Need-mul-word Inv-loop μ-loop
-mul-word c = search needs
-
-shared-slice-read-word : tie.Need-shared-slice-read-word Inv-loop μ-loop
-shared-slice-read-word c = search needs
-
 cast-word : tie.Need-cast-word Inv-loop μ-loop
 cast-word c = omega (arith, c .shared-slice-known .given (c .before .before .loop .i))
 
@@ -34,12 +28,6 @@ mul-h c = omega (arith, c .shared-slice-known .given (c .before .before .loop .i
 
 add-h : tie.Need-add-h Inv-loop μ-loop
 add-h c = omega (arith, c .shared-slice-known .given (c .before .before .loop .i))
-
-add-i : tie.Need-add-i Inv-loop μ-loop
-add-i c = search needs
-
-loop-less : tie.Need-loop-less Inv-loop μ-loop
-loop-less c = search needs
 
 loop-again : tie.Need-loop-again Inv-loop μ-loop
 loop-again c =
@@ -54,16 +42,5 @@ returns c =
 pub checksum-spec : {M : Type 1} → statement M
 checksum-spec =
     tie.close
-    (tie.spec
-    Inv-loop
-    μ-loop
-    loop-holds
-    mul-word
-    shared-slice-read-word
-    cast-word
-    mul-h
-    add-h
-    add-i
-    loop-less
-    loop-again
-    returns)
+    (tie.spec Inv-loop μ-loop loop-holds (λ c. search needs) (λ c. search needs) cast-word mul-h add-h (λ c. search needs) (λ c. search needs)
+    loop-again returns)

@@ -4,7 +4,7 @@ use native.Mathlib.Omega.{arith}
 use borrow.Author.Needs.{needs}
 use Rattle.meaning.proofs.WalkSteps.{stepsLeft}
 use Rattle.words.proofs.Listed.{listed-shaped, listed-owed}
-use Rattle.search.proofs.Laws.{enough, Walking, walking-start, looked-fits, walking-go, walking-up, walking-end, left-go, left-up}
+use Rattle.search.proofs.Walking.{enough, Walking, walking-start, looked-fits, walking-go, walking-up, walking-end, left-go, left-up}
 use Rattle.search.proofs.rest_of.Statement.{statement}
 use Rattle.search.proofs.rest_of.Tie as tie
 
@@ -25,9 +25,6 @@ step-requires c κs =
     let w = c .loop .inv in
     (listed-shaped (s .pre .0), (s .pre .1 .1 .1, (w .cell, (w .inside, listed-owed (s .pre .0) (c .loop .at) (w .cell)))))
 
-enum-known-next : tie.Need-enum-known-next Inv-loop μ-loop
-enum-known-next c = search needs
-
 add-looked : tie.Need-add-looked Inv-loop μ-loop
 add-looked c =
     let s = c .before .before .before .before .before .before .before in
@@ -43,12 +40,6 @@ loop-again c =
     let s = c .before .before .before .before .before .before .before in
     walking-go (s .pre .0) (c .before .before .before .before .loop .inv) (c .before .before .before .step .ensures) (c .before .next .given .1)
 
-enum-told : tie.Need-enum-told Inv-loop μ-loop
-enum-told c = search needs
-
-add-d : tie.Need-add-d Inv-loop μ-loop
-add-d c = search needs
-
 loop-less-2 : tie.Need-loop-less-2 Inv-loop μ-loop
 loop-less-2 c =
     let s = c .before .before .before .before .before .before in
@@ -59,9 +50,6 @@ loop-again-2 c =
     let s = c .before .before .before .before .before .before in
     walking-up (s .pre .0) (c .before .before .before .loop .inv) (c .before .before .step .ensures) (c .enum-told .given .1)
 
-enum-told-2 : tie.Need-enum-told-2 Inv-loop μ-loop
-enum-told-2 c = search needs
-
 returns : tie.Need-returns Inv-loop μ-loop
 returns c =
     let s = c .before .before .before .before .before .before in
@@ -70,18 +58,5 @@ returns c =
 pub rest-of-spec : {M : Type 1} → statement M
 rest-of-spec =
     tie.close
-    (tie.spec
-    Inv-loop
-    μ-loop
-    loop-holds
-    step-requires
-    enum-known-next
-    add-looked
-    loop-less
-    loop-again
-    enum-told
-    add-d
-    loop-less-2
-    loop-again-2
-    enum-told-2
-    returns)
+    (tie.spec Inv-loop μ-loop loop-holds step-requires (λ c. search needs) add-looked loop-less loop-again (λ c. search needs) (λ c. search needs)
+    loop-less-2 loop-again-2 (λ c. search needs) returns)

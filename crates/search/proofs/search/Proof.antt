@@ -4,7 +4,7 @@ use mathlib.Core.Path.{sym, _∙_}
 use native.Mathlib.Omega.{arith}
 use lib.Seq.{length-take-le}
 use borrow.Author.Needs.{needs}
-use Rattle.words.proofs.Laws.{field-within}
+use Rattle.words.proofs.Shaped.{field-within}
 use Rattle.words.proofs.Listed.{listed-shaped, listed-base, listed-sought}
 use Rattle.search.proofs.Resting.{found-below, found-above, found-here, found-cell}
 use Rattle.search.proofs.search.Statement.{statement}
@@ -15,9 +15,6 @@ coordinates-of-requires c κs =
     let h = c .before .pre .0 in
     (listed-shaped h .dimensions-most, listed-base h)
 
-cast-n : tie.Need-cast-n
-cast-n c = search needs
-
 array-share-prefix-sought : tie.Need-array-share-prefix-sought
 array-share-prefix-sought c = listed-sought (c .before .before .before .pre .0) (c .before .coordinates-of .ensures .1)
 
@@ -26,9 +23,6 @@ slice-aggregate-rest-of c =
     let s = c .before .before .before .before in
     let sought = c .before .before .coordinates-of in
     sym (length-take-le (s .args .s .dimensions) (sought .result) (listed-sought (s .pre .0) (sought .ensures .1)))
-
-rest-of-requires : tie.Need-rest-of-requires
-rest-of-requires c κs = search needs
 
 word-requires : tie.Need-word-requires
 word-requires c κs =
@@ -43,18 +37,12 @@ returns c =
     found-below (s .pre .0) (s .args .k) (s .pre .1 .0) (s .pre .1 .1) (c .before .before .rest-of .ensures) (c .before .word .ensures)
     (c .if1 .taken)
 
-moved-requires : tie.Need-moved-requires
-moved-requires c κs = search needs
-
 returns-2 : tie.Need-returns-2
 returns-2 c =
     let s = c .before .before .before .before .before .before .before .before .before in
     c .moved .ensures
     ∙ found-above (s .pre .0) (s .args .k) (s .pre .1 .0) (s .pre .1 .1) (c .before .before .before .before .rest-of .ensures)
     (c .before .before .before .word .ensures) (c .before .if2 .taken)
-
-moved-requires-2 : tie.Need-moved-requires-2
-moved-requires-2 c κs = search needs
 
 returns-3 : tie.Need-returns-3
 returns-3 c =
@@ -66,15 +54,5 @@ returns-3 c =
 pub search-spec : {M : Type 1} → statement M
 search-spec =
     tie.close
-    (tie.spec
-    coordinates-of-requires
-    cast-n
-    array-share-prefix-sought
-    slice-aggregate-rest-of
-    rest-of-requires
-    word-requires
-    returns
-    moved-requires
-    returns-2
-    moved-requires-2
-    returns-3)
+    (tie.spec coordinates-of-requires (λ c. search needs) array-share-prefix-sought slice-aggregate-rest-of (λ c κs. search needs) word-requires
+    returns (λ c κs. search needs) returns-2 (λ c κs. search needs) returns-3)

@@ -9,19 +9,13 @@ returns : tie.Need-returns
 unfolding freshFirst
 returns c = simp (eq-eqb _ _ (c .if1 .taken))
 
-add-if2 : tie.Need-add-if2
-add-if2 c = search needs
-
 returns-2 : tie.Need-returns-2
 unfolding freshFirst
 returns-2 c = simp (ne-eqb _ _ (c .before .if1 .left), eq-eqb _ _ (c .if2 .taken))
-
-add-result : tie.Need-add-result
-add-result c = search needs
 
 returns-3 : tie.Need-returns-3
 unfolding freshFirst
 returns-3 c = simp (ne-eqb _ _ (c .before .if1 .left), ne-eqb _ _ (c .if2 .left))
 
 pub first-word-spec : {M : Type 1} → statement M
-first-word-spec = tie.close (tie.spec returns add-if2 returns-2 add-result returns-3)
+first-word-spec = tie.close (tie.spec returns (λ c. search needs) returns-2 (λ c. search needs) returns-3)

@@ -6,18 +6,6 @@ use Rattle.set_up.proofs.Call.{limits, out-of-range-meets, wrong-length
 use Rattle.set_up.proofs.set_up.Statement.{statement}
 use Rattle.set_up.proofs.set_up.Tie as tie
 
-new-requires : tie.Need-new-requires
-new-requires c κs = search needs
-
-enum-known-checked : tie.Need-enum-known-checked
-enum-known-checked c = search needs
-
-enum-told : tie.Need-enum-told
-enum-told c = search needs
-
-refused-requires : tie.Need-refused-requires
-refused-requires c κs = search needs
-
 returns : tie.Need-returns
 returns c =
     let a = c .before .before .before .before .before .args in
@@ -31,9 +19,6 @@ length-requires c κs =
     let n = c .before .before .before .new in
     limits (a .d) (a .k) (a .c) (n .result) (n .ensures) (c .before .checked .given .1)
 
-refused-requires-2 : tie.Need-refused-requires-2
-refused-requires-2 c κs = search needs
-
 returns-2 : tie.Need-returns-2
 returns-2 c =
     let a = c .before .before .before .before .before .before .before .before .args in
@@ -41,15 +26,6 @@ returns-2 c =
     let s = c .before .before .before .before .checked .given in
     wrong-length-meets (a .d) (a .k) (a .c) (n .result) (n .ensures) (a .list .now) (c .refused2 .result) (s .1) (λ e. omega arith)
     (c .refused2 .ensures)
-
-draw-requires : tie.Need-draw-requires
-draw-requires c κs = search needs
-
-accepted-requires : tie.Need-accepted-requires
-accepted-requires c κs = search needs
-
-same-length : tie.Need-same-length
-same-length c = search needs
 
 returns-3 : tie.Need-returns-3
 returns-3 c =
@@ -63,16 +39,5 @@ returns-3 c =
 pub set-up-spec : {M : Type 1} → statement M
 set-up-spec =
     tie.close
-    (tie.spec
-    new-requires
-    enum-known-checked
-    enum-told
-    refused-requires
-    returns
-    length-requires
-    refused-requires-2
-    returns-2
-    draw-requires
-    accepted-requires
-    same-length
-    returns-3)
+    (tie.spec (λ c κs. search needs) (λ c. search needs) (λ c. search needs) (λ c κs. search needs) returns length-requires (λ c κs. search needs)
+    returns-2 (λ c κs. search needs) (λ c κs. search needs) (λ c. search needs) returns-3)

@@ -1,20 +1,8 @@
 -- `set_up::write_cell` meets its contract: zeros with two words set.
 use borrow.Author.Needs.{needs}
-use Rattle.set_up.proofs.Laws.{cell-written}
+use Rattle.set_up.proofs.Drawing.{cell-written}
 use Rattle.set_up.proofs.write_cell.Statement.{statement}
 use Rattle.set_up.proofs.write_cell.Tie as tie
-
-fill-requires : tie.Need-fill-requires
-fill-requires c κs = search needs
-
-slice-write-part : tie.Need-slice-write-part
-slice-write-part c = search needs
-
-slice-write-part-2 : tie.Need-slice-write-part-2
-slice-write-part-2 c = search needs
-
-same-length : tie.Need-same-length
-same-length c = search needs
 
 returns : tie.Need-returns
 returns c =
@@ -23,4 +11,4 @@ returns c =
 
 pub write-cell-spec : {M : Type 1} → statement M
 write-cell-spec =
-    tie.close (tie.spec fill-requires slice-write-part slice-write-part-2 same-length returns)
+    tie.close (tie.spec (λ c κs. search needs) (λ c. search needs) (λ c. search needs) (λ c. search needs) returns)

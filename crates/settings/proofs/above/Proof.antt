@@ -5,7 +5,7 @@ use native.Mathlib.Nat.{pow-zero}
 use native.Mathlib.Omega.{arith}
 use borrow.Author.Tests.{lt-ltb}
 use borrow.Author.Needs.{needs}
-use Rattle.settings.proofs.Laws.{product-fits, power-more, stays-above}
+use Rattle.settings.proofs.Numbers.{product-fits, power-more, stays-above}
 use Rattle.settings.proofs.above.Statement.{statement}
 use Rattle.settings.proofs.above.Tie as tie
 
@@ -21,18 +21,12 @@ loop-holds c = (search needs, (sym (pow-zero (c .args .b)), search needs))
 mul-power : tie.Need-mul-power Inv-loop μ-loop
 mul-power c = record { fits = product-fits (c .before .loop .inv .1 .1) (search needs) (search needs) }
 
-add-i : tie.Need-add-i Inv-loop μ-loop
-add-i c = search needs
-
 returns : tie.Need-returns Inv-loop μ-loop
 returns c =
     let v = c .before .before .loop in
     let a = c .before .before .before .args in
     let p = power-more (a .b) (v .i) (v .inv .1 .0) in
     sym (lt-ltb (a .k) (a .b ^ a .d) (stays-above (a .b) (v .i + 1) (a .d) (search needs) (search needs) (omega arith)))
-
-loop-less : tie.Need-loop-less Inv-loop μ-loop
-loop-less c = search needs
 
 loop-again : tie.Need-loop-again Inv-loop μ-loop
 loop-again c =
@@ -50,4 +44,4 @@ returns-2 c =
 pub above-spec : {M : Type 1} → statement M
 above-spec =
     tie.close
-    (tie.spec Inv-loop μ-loop loop-holds mul-power add-i returns loop-less loop-again returns-2)
+    (tie.spec Inv-loop μ-loop loop-holds mul-power (λ c. search needs) returns (λ c. search needs) loop-again returns-2)

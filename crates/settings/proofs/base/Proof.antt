@@ -5,7 +5,7 @@ use Prim.Native.Nat.{_-_, _^_, _≤_, _<_}
 use native.Mathlib.Omega.{arith}
 use borrow.Author.Tests.{ltb-true, ltb-false}
 use borrow.Author.Needs.{needs}
-use Rattle.settings.proofs.Laws.{one-power, is-base, base-is, base-unique, base-at-least-two, base-at-most}
+use Rattle.settings.proofs.Numbers.{one-power, is-base, base-is, base-unique, base-at-least-two, base-at-most}
 use Rattle.settings.proofs.base.Statement.{statement}
 use Rattle.settings.proofs.base.Tie as tie
 
@@ -15,36 +15,15 @@ Inv-loop d k low₀ high₀ low high = (1 ≤ low) × ((low < high) × ((low ^ d
 abbrev μ-loop : tie.MeasureT-loop
 μ-loop d k low₀ high₀ low high = high - low
 
-full-base-requires : tie.Need-full-base-requires Inv-loop μ-loop
-full-base-requires c κs = search needs
-
 loop-holds : tie.Need-loop-holds Inv-loop μ-loop
 loop-holds c =
     let e = c .full-base .ensures in
     let one : 1 ^ c .before .args .d ≤ c .before .args .k = rw one-power (c .before .pre .1 .1) in
     (search needs, (base-at-least-two (search needs) e, (one, (omega (arith, e .above), base-at-most (c .before .pre .0) (search needs) e))))
 
-add-loop : tie.Need-add-loop Inv-loop μ-loop
-add-loop c = search needs
-
-sub-middle : tie.Need-sub-middle Inv-loop μ-loop
-sub-middle c = search needs
-
-add-middle : tie.Need-add-middle Inv-loop μ-loop
-add-middle c = search needs
-
-above-requires : tie.Need-above-requires Inv-loop μ-loop
-above-requires c κs = search needs
-
-loop-less : tie.Need-loop-less Inv-loop μ-loop
-loop-less c = search needs
-
 loop-again : tie.Need-loop-again Inv-loop μ-loop
 loop-again c =
     (search needs, (search needs, (search needs, (ltb-true _ _ (sym (c .before .above .ensures) ∙ c .if1 .taken), search needs))))
-
-loop-less-2 : tie.Need-loop-less-2 Inv-loop μ-loop
-loop-less-2 c = search needs
 
 loop-again-2 : tie.Need-loop-again-2 Inv-loop μ-loop
 loop-again-2 c =
@@ -60,17 +39,5 @@ returns c =
 pub base-spec : {M : Type 1} → statement M
 base-spec =
     tie.close
-    (tie.spec
-    Inv-loop
-    μ-loop
-    full-base-requires
-    loop-holds
-    add-loop
-    sub-middle
-    add-middle
-    above-requires
-    loop-less
-    loop-again
-    loop-less-2
-    loop-again-2
-    returns)
+    (tie.spec Inv-loop μ-loop (λ c κs. search needs) loop-holds (λ c. search needs) (λ c. search needs) (λ c. search needs) (λ c κs. search needs)
+    (λ c. search needs) loop-again (λ c. search needs) loop-again-2 returns)

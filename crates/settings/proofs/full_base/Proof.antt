@@ -1,4 +1,4 @@
--- `settings::full_base` meets its contract: each entry of the table passes one computed test, whose two halves make it the base.
+-- `settings::full_base` meets its contract: each node of the table passes one computed test, whose two halves make it the base.
 use mathlib.Core.Bool.{Bool, _&&_}
 use mathlib.Core.List.{List, [], _∷_}
 use mathlib.Core.Path.{_≡_, refl, subst}
@@ -10,7 +10,7 @@ use borrow.Author.Needs.{needs}
 use borrow.Author.Tests.{ltb-true, leb-true}
 use Rattle.settings.specs.Numbers.{leastDimensions, mostLargest}
 use Rattle.settings.specs.Base.{IsBase}
-use Rattle.settings.proofs.Laws.{and-left, and-right, is-base}
+use Rattle.settings.proofs.Numbers.{and-left, and-right, is-base}
 use Rattle.settings.proofs.Table.{at}
 use Rattle.settings.proofs.full_base.Statement.{statement}
 use Rattle.settings.proofs.full_base.Tie as tie
@@ -18,7 +18,7 @@ use Rattle.settings.proofs.full_base.Tie as tie
 bases : List ℕ
 bases = 65536 ∷ 1626 ∷ 256 ∷ 85 ∷ 41 ∷ 24 ∷ 16 ∷ 12 ∷ 10 ∷ 8 ∷ 7 ∷ 6 ∷ 5 ∷ 5 ∷ 4 ∷ []
 
--- Entry i is for D = i + 2: its power is above the largest K, and that of the number before it is not.
+-- Node i is for D = i + 2: its power is above the largest K, and that of the number before it is not.
 abbrev high : ℕ → ℕ → Bool
 high i b = ltb mostLargest (b ^ (i + leastDimensions))
 
@@ -27,18 +27,6 @@ low i b = leb ((b - 1) ^ (i + leastDimensions)) mostLargest
 
 right : ℕ → ℕ → Bool
 right i b = high i b && low i b
-
-sub-i : tie.Need-sub-i
-sub-i c = search needs
-
-cast-i : tie.Need-cast-i
-cast-i c = search needs
-
-mul-result : tie.Need-mul-result
-mul-result c = search needs
-
-array-read-result : tie.Need-array-read-result
-array-read-result c = search needs
 
 returns : tie.Need-returns
 unfolding bases right
@@ -53,4 +41,4 @@ returns c =
     (leb-true ((b - 1) ^ D) mostLargest (and-right (high i b) (low i b) t)))
 
 pub full-base-spec : {M : Type 1} → statement M
-full-base-spec = tie.close (tie.spec sub-i cast-i mul-result array-read-result returns)
+full-base-spec = tie.close (tie.spec (λ c. search needs) (λ c. search needs) (λ c. search needs) (λ c. search needs) returns)

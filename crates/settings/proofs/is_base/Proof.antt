@@ -11,9 +11,6 @@ returns : tie.Need-returns
 unfolding isBase
 returns c = rw (le-ltb 0 (c .before .args .b) (omega arith)) refl
 
-above-requires : tie.Need-above-requires
-above-requires c κs = search needs
-
 returns-2 : tie.Need-returns-2
 unfolding isBase
 returns-2 c =
@@ -23,12 +20,6 @@ returns-2 c =
       not-true (c .before .above .result) (c .if2 .taken),
     )
     refl
-
-sub-above : tie.Need-sub-above
-sub-above c = search needs
-
-above-requires-2 : tie.Need-above-requires-2
-above-requires-2 c κs = search needs
 
 returns-3 : tie.Need-returns-3
 unfolding isBase
@@ -43,4 +34,4 @@ returns-3 c =
 
 pub is-base-spec : {M : Type 1} → statement M
 is-base-spec =
-    tie.close (tie.spec returns above-requires returns-2 sub-above above-requires-2 returns-3)
+    tie.close (tie.spec returns (λ c κs. search needs) returns-2 (λ c. search needs) (λ c κs. search needs) returns-3)

@@ -5,11 +5,11 @@ use Prim.Native.Nat.{_-_}
 use native.Mathlib.Omega.{arith}
 use lib.ListN.{length}
 use borrow.Author.Needs.{needs}
-use Rattle.meaning.specs.Reading.{Listed}
-use Rattle.meaning.specs.SweepStores.{finishAll}
+use Rattle.meaning.specs.Layer.SweepStores.{finishAll}
+use Rattle.meaning.specs.Layer.Listed.{Listed}
 use Rattle.finish.proofs.Debts.{listed-payable}
 use Rattle.words.proofs.Listed.{listed-shaped}
-use Rattle.sweep.proofs.Laws.{finish-more, finish-none}
+use Rattle.sweep.proofs.Sweeping.{finish-more, finish-none}
 use Rattle.sweep.proofs.Lists.{finish-listed, all-paid}
 use Rattle.sweep.proofs.finish_all.Statement.{statement}
 use Rattle.sweep.proofs.finish_all.Tie as tie
@@ -31,21 +31,12 @@ finish-cell-requires c κs =
     let v = c .before .before .before .loop in
     (listed-shaped (v .inv .0), listed-payable (v .inv .0) (v .n) (omega arith))
 
-add-n : tie.Need-add-n Inv-loop μ-loop
-add-n c = search needs
-
-loop-less : tie.Need-loop-less Inv-loop μ-loop
-loop-less c = search needs
-
 loop-again : tie.Need-loop-again Inv-loop μ-loop
 loop-again c =
     let v = c .before .before .before .before .before .before .loop in
     let D = c .before .before .before .before .before .before .before .before .args .s .dimensions in
     let e = c .before .before .finish-cell .ensures .0 in
     (rw e (finish-listed (v .inv .0) (v .n) (omega arith)), (search needs, v .inv .1 .1 ∙ rw e (finish-more D (v .list) (v .n) (omega arith))))
-
-same-length : tie.Need-same-length Inv-loop μ-loop
-same-length c = search needs
 
 returns : tie.Need-returns Inv-loop μ-loop
 returns c =
@@ -57,13 +48,4 @@ returns c =
 pub finish-all-spec : {M : Type 1} → statement M
 finish-all-spec =
     tie.close
-    (tie.spec
-    Inv-loop
-    μ-loop
-    loop-holds
-    finish-cell-requires
-    add-n
-    loop-less
-    loop-again
-    same-length
-    returns)
+    (tie.spec Inv-loop μ-loop loop-holds finish-cell-requires (λ c. search needs) (λ c. search needs) loop-again (λ c. search needs) returns)

@@ -2,9 +2,9 @@
 -- it with each turn.
 use native.Mathlib.Omega.{arith}
 use lib.ListN.{length}
-use Rattle.words.proofs.Laws.{field-within}
+use Rattle.words.proofs.Shaped.{field-within}
 use Rattle.paths.specs.Paths.{pathOf}
-use Rattle.paths.proofs.Laws.{zeros-in}
+use Rattle.paths.proofs.Paths.{zeros-in}
 use Rattle.words.proofs.Listed.{listed-shaped}
 use Rattle.paths.proofs.Listed.{listed-walkable}
 use Rattle.free_between.specs.Between.{cellsTo}
@@ -64,14 +64,4 @@ loop-again c =
 pub seek-target-spec : {M : Type 1} → statement M
 seek-target-spec =
     tie.close
-    (tie.spec
-    Inv-loop
-    μ-loop
-    head-path-requires
-    loop-holds
-    next-requires
-    returns
-    word-requires
-    returns-2
-    loop-less
-    loop-again)
+    (tie.spec Inv-loop μ-loop head-path-requires loop-holds next-requires returns word-requires returns-2 loop-less loop-again)

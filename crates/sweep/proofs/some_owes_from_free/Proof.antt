@@ -4,7 +4,7 @@ use Prim.Native.Nat.{_-_}
 use native.Mathlib.Omega.{arith}
 use borrow.Author.Needs.{needs}
 use Rattle.sweep.specs.Sweeping.{someOwesFrom}
-use Rattle.sweep.proofs.Laws.{owes-found, owes-past, owes-none}
+use Rattle.sweep.proofs.Sweeping.{owes-found, owes-past, owes-none}
 use Rattle.sweep.proofs.some_owes_from_free.Statement.{statement}
 use Rattle.sweep.proofs.some_owes_from_free.Tie as tie
 
@@ -17,20 +17,11 @@ abbrev μ-loop : tie.MeasureT-loop
 loop-holds : tie.Need-loop-holds Inv-loop μ-loop
 loop-holds c = refl
 
-owes-from-free-requires : tie.Need-owes-from-free-requires Inv-loop μ-loop
-owes-from-free-requires c κs = search needs
-
 returns : tie.Need-returns Inv-loop μ-loop
 returns c =
     let v = c .before .before .before .before .loop in
     let a = c .before .before .before .before .before .before .args in
     owes-found (a .list .now) (v .x) (omega arith) (c .before .owes-from-free .ensures) (c .if2 .taken) ∙ sym (v .inv)
-
-add-x : tie.Need-add-x Inv-loop μ-loop
-add-x c = search needs
-
-loop-less : tie.Need-loop-less Inv-loop μ-loop
-loop-less c = search needs
 
 loop-again : tie.Need-loop-again Inv-loop μ-loop
 loop-again c =
@@ -47,13 +38,4 @@ returns-2 c =
 pub some-owes-from-free-spec : {M : Type 1} → statement M
 some-owes-from-free-spec =
     tie.close
-    (tie.spec
-    Inv-loop
-    μ-loop
-    loop-holds
-    owes-from-free-requires
-    returns
-    add-x
-    loop-less
-    loop-again
-    returns-2)
+    (tie.spec Inv-loop μ-loop loop-holds (λ c κs. search needs) returns (λ c. search needs) (λ c. search needs) loop-again returns-2)

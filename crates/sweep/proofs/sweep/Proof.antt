@@ -10,26 +10,8 @@ use Rattle.sweep.proofs.sweep.Tie as tie
 some-owes-from-free-requires : tie.Need-some-owes-from-free-requires
 some-owes-from-free-requires c κs = listed-shaped (c .before .before .pre)
 
-owed-not-standing-requires : tie.Need-owed-not-standing-requires
-owed-not-standing-requires c κs = search needs
-
-same-length : tie.Need-same-length
-same-length c = search needs
-
 returns : tie.Need-returns
 returns c = never-meets (c .before .before .before .before .before .pre) (c .before .before .some-owes-from-free .ensures) (c .before .if1 .taken)
-
-finish-all-requires : tie.Need-finish-all-requires
-finish-all-requires c κs = search needs
-
-seek-target-requires : tie.Need-seek-target-requires
-seek-target-requires c κs = search needs
-
-accepted-requires : tie.Need-accepted-requires
-accepted-requires c κs = search needs
-
-same-length-2 : tie.Need-same-length-2
-same-length-2 c = search needs
 
 returns-2 : tie.Need-returns-2
 returns-2 c =
@@ -47,12 +29,6 @@ drop-front-requires c κs =
     let paid = seeks .before .before .before .before .finish-all .ensures .1 in
     moves-droppable (record { paid = paid; target = t .0; other = other .if2 .left; path-in = t .1 })
 
-accepted-requires-2 : tie.Need-accepted-requires-2
-accepted-requires-2 c κs = search needs
-
-same-length-3 : tie.Need-same-length-3
-same-length-3 c = search needs
-
 returns-3 : tie.Need-returns-3
 returns-3 c =
     let drops = c .before .before .before in
@@ -68,17 +44,5 @@ returns-3 c =
 pub sweep-spec : {M : Type 1} → statement M
 sweep-spec =
     tie.close
-    (tie.spec
-    some-owes-from-free-requires
-    owed-not-standing-requires
-    same-length
-    returns
-    finish-all-requires
-    seek-target-requires
-    accepted-requires
-    same-length-2
-    returns-2
-    drop-front-requires
-    accepted-requires-2
-    same-length-3
-    returns-3)
+    (tie.spec some-owes-from-free-requires (λ c κs. search needs) (λ c. search needs) returns (λ c κs. search needs) (λ c κs. search needs)
+    (λ c κs. search needs) (λ c. search needs) returns-2 drop-front-requires (λ c κs. search needs) (λ c. search needs) returns-3)

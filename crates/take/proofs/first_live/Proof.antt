@@ -3,10 +3,10 @@
 use Prim.Native.Nat.{_-_}
 use native.Mathlib.Omega.{arith}
 use Rattle.meaning.specs.Reading.{read}
-use Rattle.words.proofs.Laws.{field-within}
+use Rattle.words.proofs.Shaped.{field-within}
 use Rattle.words.proofs.Listed.{listed-shaped}
 use Rattle.paths.proofs.Listed.{listed-walkable}
-use Rattle.take.proofs.Laws.{Passing, passing-start, passing-end, passing-here, passing-past}
+use Rattle.take.proofs.Taking.{Passing, passing-start, passing-end, passing-here, passing-past}
 use Rattle.take.proofs.first_live.Statement.{statement}
 use Rattle.take.proofs.first_live.Tie as tie
 
@@ -60,15 +60,4 @@ loop-again c =
 pub first-live-spec : {M : Type 1} → statement M
 first-live-spec =
     tie.close
-    (tie.spec
-    Inv-loop
-    μ-loop
-    read-path-requires
-    loop-holds
-    next-requires
-    returns
-    add-passed
-    word-requires
-    returns-2
-    loop-less
-    loop-again)
+    (tie.spec Inv-loop μ-loop read-path-requires loop-holds next-requires returns add-passed word-requires returns-2 loop-less loop-again)

@@ -1,21 +1,12 @@
 -- `take::take` meets its contract: with no live cell ahead it refuses, and else the two words stored and the path are what a take
 -- writes.
 use native.Mathlib.Omega.{arith}
-use Rattle.words.proofs.Laws.{field-within}
+use Rattle.words.proofs.Shaped.{field-within}
 use Rattle.words.proofs.Listed.{listed-shaped}
-use Rattle.take.proofs.Laws.{take-none-meets, take-meets}
+use Rattle.take.proofs.Taking.{take-none-meets, take-meets}
 use borrow.Author.Needs.{needs}
 use Rattle.take.proofs.take.Statement.{statement}
 use Rattle.take.proofs.take.Tie as tie
-
-first-live-requires : tie.Need-first-live-requires
-first-live-requires c κs = search needs
-
-refused-at-requires : tie.Need-refused-at-requires
-refused-at-requires c κs = search needs
-
-same-length : tie.Need-same-length
-same-length c = search needs
 
 returns : tie.Need-returns
 returns c =
@@ -37,18 +28,6 @@ store-requires c κs =
     let found = c .before .before .before .before .before .before .before in
     (listed-shaped (found .before .before .before .pre), field-within (found .first-live .ensures .below) (omega arith))
 
-store-requires-2 : tie.Need-store-requires-2
-store-requires-2 c κs = search needs
-
-write-path-requires : tie.Need-write-path-requires
-write-path-requires c κs = search needs
-
-accepted-requires : tie.Need-accepted-requires
-accepted-requires c κs = search needs
-
-same-length-2 : tie.Need-same-length-2
-same-length-2 c = search needs
-
 returns-2 : tie.Need-returns-2
 returns-2 c =
     let path = c .before .before .before in
@@ -64,16 +43,5 @@ returns-2 c =
 pub take-spec : {M : Type 1} → statement M
 take-spec =
     tie.close
-    (tie.spec
-    first-live-requires
-    refused-at-requires
-    same-length
-    returns
-    word-requires
-    word-requires-2
-    store-requires
-    store-requires-2
-    write-path-requires
-    accepted-requires
-    same-length-2
-    returns-2)
+    (tie.spec (λ c κs. search needs) (λ c κs. search needs) (λ c. search needs) returns word-requires word-requires-2 store-requires
+    (λ c κs. search needs) (λ c κs. search needs) (λ c κs. search needs) (λ c. search needs) returns-2)

@@ -4,22 +4,13 @@ use lib.ListN.{replicate}
 use lib.Seq.{length-take-le}
 use borrow.Author.Needs.{needs}
 use Rattle.settings.specs.Numbers.{mostDimensions}
-use Rattle.words.proofs.Laws.{coordinates-first}
+use Rattle.words.proofs.Shaped.{coordinates-first}
 use Rattle.words.proofs.coordinates_of.Statement.{statement}
 use Rattle.words.proofs.coordinates_of.Tie as tie
-
-cast-d : tie.Need-cast-d
-cast-d c = search needs
-
-array-borrow-prefix-sought : tie.Need-array-borrow-prefix-sought
-array-borrow-prefix-sought c = search needs
 
 slice-aggregate-write-coordinates : tie.Need-slice-aggregate-write-coordinates
 slice-aggregate-write-coordinates c =
     sym (length-take-le (c .before .before .args .s .dimensions) (replicate mostDimensions 0) (c .before .before .pre .0))
-
-write-coordinates-requires : tie.Need-write-coordinates-requires
-write-coordinates-requires c κs = search needs
 
 returns : tie.Need-returns
 returns c =
@@ -30,9 +21,4 @@ returns c =
 pub coordinates-of-spec : {M : Type 1} → statement M
 coordinates-of-spec =
     tie.close
-    (tie.spec
-    cast-d
-    array-borrow-prefix-sought
-    slice-aggregate-write-coordinates
-    write-coordinates-requires
-    returns)
+    (tie.spec (λ c. search needs) (λ c. search needs) slice-aggregate-write-coordinates (λ c κs. search needs) returns)

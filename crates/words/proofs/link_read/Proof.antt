@@ -8,33 +8,15 @@ use Rattle.meaning.proofs.WalkRead.{read-unowing, read-below, read-above, read-
 use Rattle.words.proofs.link_read.Statement.{statement}
 use Rattle.words.proofs.link_read.Tie as tie
 
-word-requires : tie.Need-word-requires
-word-requires c κs = search needs
-
-link-requires : tie.Need-link-requires
-link-requires c κs = search needs
-
 returns : tie.Need-returns
 returns c =
     let a = c .before .before .before .before .args in
     c .link .ensures ∙ sym (read-unowing (a .list .now) (a .x) (a .d) (omega (arith, c .before .before .word .ensures)))
 
-word-requires-2 : tie.Need-word-requires-2
-word-requires-2 c κs = search needs
-
-link-requires-2 : tie.Need-link-requires-2
-link-requires-2 c κs = search needs
-
 returns-2 : tie.Need-returns-2
 returns-2 c =
     let a = c .before .before .before .before .before .before .args in
     c .link2 .ensures ∙ sym (read-below (a .list .now) (a .x) (a .d) (omega (arith, c .before .before .word2 .ensures)))
-
-word-requires-3 : tie.Need-word-requires-3
-word-requires-3 c κs = search needs
-
-link-requires-3 : tie.Need-link-requires-3
-link-requires-3 c κs = search needs
 
 returns-3 : tie.Need-returns-3
 returns-3 c =
@@ -60,15 +42,5 @@ returns-4 c =
 pub link-read-spec : {M : Type 1} → statement M
 link-read-spec =
     tie.close
-    (tie.spec
-    word-requires
-    link-requires
-    returns
-    word-requires-2
-    link-requires-2
-    returns-2
-    word-requires-3
-    link-requires-3
-    returns-3
-    link-requires-4
-    returns-4)
+    (tie.spec (λ c κs. search needs) (λ c κs. search needs) returns (λ c κs. search needs) (λ c κs. search needs) returns-2 (λ c κs. search needs)
+    (λ c κs. search needs) returns-3 link-requires-4 returns-4)

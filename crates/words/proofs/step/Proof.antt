@@ -2,23 +2,14 @@
 use mathlib.Core.Path.{sym}
 use native.Mathlib.Omega.{arith}
 use borrow.Author.Needs.{needs}
-use Rattle.words.proofs.Laws.{step-none, step-go, step-last, step-up, step-above, sought-inside}
+use Rattle.words.proofs.Shaped.{step-none, step-go, step-last, step-up, step-above, sought-inside}
 use Rattle.words.proofs.step.Statement.{statement}
 use Rattle.words.proofs.step.Tie as tie
-
-coordinate-requires : tie.Need-coordinate-requires
-coordinate-requires c κs = search needs
-
-mul-wanted : tie.Need-mul-wanted
-mul-wanted c = search needs
 
 shared-slice-read-wanted : tie.Need-shared-slice-read-wanted
 shared-slice-read-wanted c =
     let s = c .before .before .before .before in
     sought-inside (s .args .s .base) (s .args .s .dimensions) (s .args .k) (s .pre .1 .0) (s .pre .1 .1 .1 .0)
-
-link-read-requires : tie.Need-link-read-requires
-link-read-requires c κs = search needs
 
 returns : tie.Need-returns
 returns c =
@@ -33,9 +24,6 @@ returns-2 c =
     sym
     (step-go (s .pre .0) (s .args .k) (s .args .x) (s .args .d) (s .pre .1 .0) (c .before .before .before .before .coordinate .ensures)
     (c .before .before .if1 .taken) (c .before .link-read .ensures) (c .if2 .left))
-
-add-if4 : tie.Need-add-if4
-add-if4 c = search needs
 
 returns-3 : tie.Need-returns-3
 returns-3 c =
@@ -61,14 +49,5 @@ returns-5 c =
 pub step-spec : {M : Type 1} → statement M
 step-spec =
     tie.close
-    (tie.spec
-    coordinate-requires
-    mul-wanted
-    shared-slice-read-wanted
-    link-read-requires
-    returns
-    returns-2
-    add-if4
-    returns-3
-    returns-4
-    returns-5)
+    (tie.spec (λ c κs. search needs) (λ c. search needs) shared-slice-read-wanted (λ c κs. search needs) returns returns-2 (λ c. search needs)
+    returns-3 returns-4 returns-5)

@@ -7,7 +7,7 @@ use native.Mathlib.Omega.{arith}
 use lib.ListN.{length, drop}
 use borrow.Author.Needs.{needs}
 use Rattle.meaning.specs.Keys.{coordinates}
-use Rattle.words.proofs.Laws.{coordinates-none, coordinates-more, coordinates-all}
+use Rattle.words.proofs.Shaped.{coordinates-none, coordinates-more, coordinates-all}
 use Rattle.words.proofs.write_coordinates.Statement.{statement}
 use Rattle.words.proofs.write_coordinates.Tie as tie
 
@@ -21,31 +21,10 @@ abbrev μ-loop : tie.MeasureT-loop
 loop-holds : tie.Need-loop-holds Inv-loop μ-loop
 loop-holds c = (search needs, (refl, coordinates-none (c .args .b) (c .args .key) (c .args .part .now)))
 
-sub-i : tie.Need-sub-i Inv-loop μ-loop
-sub-i c = search needs
-
-rem-part : tie.Need-rem-part Inv-loop μ-loop
-rem-part c = search needs
-
-mul-part : tie.Need-mul-part Inv-loop μ-loop
-mul-part c = search needs
-
-slice-write-part : tie.Need-slice-write-part Inv-loop μ-loop
-slice-write-part c = search needs
-
-div-rest : tie.Need-div-rest Inv-loop μ-loop
-div-rest c = search needs
-
-loop-less : tie.Need-loop-less Inv-loop μ-loop
-loop-less c = search needs
-
 loop-again : tie.Need-loop-again Inv-loop μ-loop
 loop-again c =
     let v = c .before .loop in
     (search needs, (search needs, v .inv .1 .1 ∙ coordinates-more (c .before .before .args .b) (v .rest) (v .part) (omega arith) (omega arith)))
-
-same-length : tie.Need-same-length Inv-loop μ-loop
-same-length c = search needs
 
 returns : tie.Need-returns Inv-loop μ-loop
 returns c =
@@ -55,16 +34,5 @@ returns c =
 pub write-coordinates-spec : {M : Type 1} → statement M
 write-coordinates-spec =
     tie.close
-    (tie.spec
-    Inv-loop
-    μ-loop
-    loop-holds
-    sub-i
-    rem-part
-    mul-part
-    slice-write-part
-    div-rest
-    loop-less
-    loop-again
-    same-length
-    returns)
+    (tie.spec Inv-loop μ-loop loop-holds (λ c. search needs) (λ c. search needs) (λ c. search needs) (λ c. search needs) (λ c. search needs)
+    (λ c. search needs) loop-again (λ c. search needs) returns)

@@ -3,10 +3,10 @@ use mathlib.Core.Path.{_≡_, refl, sym, _∙_}
 use mathlib.Core.Bool.{true}
 use native.Mathlib.Omega.{arith}
 use borrow.Author.Needs.{needs}
-use Rattle.words.proofs.Laws.{shaped-cells, field-within}
+use Rattle.words.proofs.Shaped.{shaped-cells, field-within}
 use Rattle.tree.specs.Tree.{chainRight, freeRight}
 use Rattle.tree.proofs.AcceptedTests.{free-right}
-use Rattle.cells.proofs.Laws.{holds, lacks}
+use Rattle.cell_tests.proofs.Tests.{holds, lacks}
 use Rattle.is_list.proofs.Ends.{chain-more, chain-broken, chain-end}
 use Rattle.is_list.proofs.free.chain_right.Statement.{statement}
 use Rattle.is_list.proofs.free.chain_right.Tie as tie
@@ -26,9 +26,6 @@ free-is c = holds (c .before .free-right .ensures) (c .if1 .left)
 loop-holds : tie.Need-loop-holds Inv-loop μ-loop
 loop-holds c = refl
 
-free-right-requires : tie.Need-free-right-requires Inv-loop μ-loop
-free-right-requires c κs = search needs
-
 returns : tie.Need-returns Inv-loop μ-loop
 returns c =
     let v = c .before .before .before .loop in
@@ -41,12 +38,6 @@ word-requires c κs =
     let s = c .before .before .before .before .before in
     let f = free-right (s .args .list .now) (c .before .before .before .loop .c) (free-is c) in
     (s .pre, field-within (omega (arith, shaped-cells (s .pre))) (omega arith))
-
-sub-left : tie.Need-sub-left Inv-loop μ-loop
-sub-left c = search needs
-
-loop-less : tie.Need-loop-less Inv-loop μ-loop
-loop-less c = search needs
 
 loop-again : tie.Need-loop-again Inv-loop μ-loop
 loop-again c =
@@ -62,14 +53,4 @@ returns-2 c =
 pub chain-right-spec : {M : Type 1} → statement M
 chain-right-spec =
     tie.close
-    (tie.spec
-    Inv-loop
-    μ-loop
-    loop-holds
-    free-right-requires
-    returns
-    word-requires
-    sub-left
-    loop-less
-    loop-again
-    returns-2)
+    (tie.spec Inv-loop μ-loop loop-holds (λ c κs. search needs) returns word-requires (λ c. search needs) (λ c. search needs) loop-again returns-2)

@@ -10,13 +10,10 @@ returns c =
     let a = c .before .before .args in
     (sym (agreed-before (a .list .now) (a .y) (c .if1 .taken)), search needs)
 
-path-run-requires : tie.Need-path-run-requires
-path-run-requires c κs = search needs
-
 returns-2 : tie.Need-returns-2
 returns-2 c =
     let s = c .before .before .before in
     (c .path-run .ensures .0 ∙ sym (agreed-run (s .pre .0) (s .args .y) (c .before .if1 .left)), c .path-run .ensures .1)
 
 pub agreed-at-spec : {M : Type 1} → statement M
-agreed-at-spec = tie.close (tie.spec returns path-run-requires returns-2)
+agreed-at-spec = tie.close (tie.spec returns (λ c κs. search needs) returns-2)

@@ -18,7 +18,7 @@ use Rattle.is_list.proofs.standing.enter.Reads as enter-reads
 use Rattle.is_list.proofs.standing.next_link.Reads as next-link-reads
 use Rattle.words.proofs.link_read.Reads as link-read-reads
 use Rattle.meaning.specs.Words.{owedAt}
-use Rattle.is_list.specs.Parts.{SeenWithin}
+use Rattle.is_list.specs.Children.{SeenWithin}
 use Rattle.is_list.proofs.InOrder.{Going, children-none, children-skip, children-along, goes-wrong, goes-out, goes-bad, goes-on}
 use Rattle.is_list.proofs.standing.+along+children.{statement}
 use Rattle.is_list.proofs.standing.+along+children.Tie.{close}

@@ -5,15 +5,6 @@ use Rattle.is_list.proofs.Ends.{head-elsewhere, head-position}
 use Rattle.is_list.proofs.standing.at_head.Statement.{statement}
 use Rattle.is_list.proofs.standing.at_head.Tie as tie
 
-path-run-requires : tie.Need-path-run-requires
-path-run-requires c κs = search needs
-
-sub-left : tie.Need-sub-left
-sub-left c = search needs
-
-position-word-requires : tie.Need-position-word-requires
-position-word-requires c κs = search needs
-
 returns : tie.Need-returns
 returns c =
     let s = c .before .before .before .before .before in
@@ -28,4 +19,4 @@ returns-2 c =
 
 pub at-head-spec : {M : Type 1} → statement M
 at-head-spec =
-    tie.close (tie.spec path-run-requires sub-left position-word-requires returns returns-2)
+    tie.close (tie.spec (λ c κs. search needs) (λ c. search needs) (λ c κs. search needs) returns returns-2)

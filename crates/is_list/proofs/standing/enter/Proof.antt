@@ -4,10 +4,10 @@ use mathlib.Core.Bool.{true}
 use mathlib.Core.Path.{_≡_}
 use native.Mathlib.Omega.{arith}
 use borrow.Author.Needs.{needs}
-use Rattle.words.proofs.Laws.{shaped-dimensions}
+use Rattle.words.proofs.Shaped.{shaped-dimensions}
 use Rattle.tree.specs.Tree.{cellAloneRight}
-use Rattle.cells.proofs.Laws.{holds, lacks}
-use Rattle.cells.proofs.OneCell.{alone}
+use Rattle.cell_tests.proofs.Tests.{holds, lacks}
+use Rattle.cell_tests.proofs.OneCell.{alone}
 use Rattle.is_list.proofs.InOrder.{enter-not, enter-lost, enter-position, enter-other, entered-wrong, entered-right}
 use Rattle.is_list.proofs.standing.enter.Statement.{statement}
 use Rattle.is_list.proofs.standing.enter.Tie as tie
@@ -15,12 +15,6 @@ use Rattle.is_list.proofs.standing.enter.Tie as tie
 -- the cell was found right
 right : (c : tie.Else1) → let a = c .before .before .before .args in cellAloneRight (a .list .now) (a .y) (a .e) (a .seen) ≡ true
 right c = holds (c .before .cell-alone-right .ensures) (c .if1 .left)
-
-cell-alone-right-requires : tie.Need-cell-alone-right-requires
-cell-alone-right-requires c κs = search needs
-
-wrong-requires : tie.Need-wrong-requires
-wrong-requires c κs = search needs
 
 returns : tie.Need-returns
 returns c =
@@ -30,19 +24,10 @@ returns c =
     entered-wrong (s .pre .0) (a .y) (a .e) (a .seen) (s .pre .1 .1 .1) (c .wrong .ensures)
     (enter-not (a .list .now) (a .y) (a .e) (a .seen) (lacks (t .ensures) (c .before .if1 .taken)))
 
-agreed-at-requires : tie.Need-agreed-at-requires
-agreed-at-requires c κs = search needs
-
 sub-left : tie.Need-sub-left
 sub-left c =
     let a = c .before .before .before .before .before .args in
     omega (arith, alone (a .list .now) (a .y) (a .e) (a .seen) (right (c .before .before)) .left)
-
-position-word-requires : tie.Need-position-word-requires
-position-word-requires c κs = search needs
-
-wrong-requires-2 : tie.Need-wrong-requires-2
-wrong-requires-2 c κs = search needs
 
 returns-2 : tie.Need-returns-2
 returns-2 c =
@@ -75,14 +60,5 @@ returns-4 c =
 pub enter-spec : {M : Type 1} → statement M
 enter-spec =
     tie.close
-    (tie.spec
-    cell-alone-right-requires
-    wrong-requires
-    returns
-    agreed-at-requires
-    sub-left
-    position-word-requires
-    wrong-requires-2
-    returns-2
-    returns-3
-    returns-4)
+    (tie.spec (λ c κs. search needs) (λ c κs. search needs) returns (λ c κs. search needs) sub-left (λ c κs. search needs) (λ c κs. search needs)
+    returns-2 returns-3 returns-4)

@@ -3,7 +3,7 @@ use mathlib.Core.Path.{_≡_, refl, sym, _∙_}
 use Prim.Native.Nat.{_-_, _≤_}
 use native.Mathlib.Omega.{arith}
 use borrow.Author.Needs.{needs}
-use Rattle.is_list.specs.Parts.{nextLink}
+use Rattle.is_list.specs.Children.{nextLink}
 use Rattle.is_list.proofs.InOrder.{link-next, link-here, link-none}
 use Rattle.is_list.proofs.standing.next_link.Statement.{statement}
 use Rattle.is_list.proofs.standing.next_link.Tie as tie
@@ -18,21 +18,12 @@ abbrev μ-loop : tie.MeasureT-loop
 loop-holds : tie.Need-loop-holds Inv-loop μ-loop
 loop-holds c = (search needs, (search needs, refl))
 
-link-read-requires : tie.Need-link-read-requires Inv-loop μ-loop
-link-read-requires c κs = search needs
-
 returns : tie.Need-returns Inv-loop μ-loop
 returns c =
     let v = c .before .before .before .before .loop in
     let a = c .before .before .before .before .before .before .args in
     let some = link-here (a .list .now) (a .x) (c .before .before .if1 .taken) (λ e. omega arith) in
     (sym (v .inv .1 .1 ∙ some), search needs)
-
-add-d : tie.Need-add-d Inv-loop μ-loop
-add-d c = search needs
-
-loop-less : tie.Need-loop-less Inv-loop μ-loop
-loop-less c = search needs
 
 loop-again : tie.Need-loop-again Inv-loop μ-loop
 loop-again c =
@@ -49,13 +40,4 @@ returns-2 c =
 pub next-link-spec : {M : Type 1} → statement M
 next-link-spec =
     tie.close
-    (tie.spec
-    Inv-loop
-    μ-loop
-    loop-holds
-    link-read-requires
-    returns
-    add-d
-    loop-less
-    loop-again
-    returns-2)
+    (tie.spec Inv-loop μ-loop loop-holds (λ c κs. search needs) returns (λ c. search needs) (λ c. search needs) loop-again returns-2)

@@ -4,12 +4,9 @@ use native.Mathlib.Omega.{arith}
 use borrow.Author.Needs.{needs}
 use borrow.Author.Tests.{not-true, not-false}
 use Rattle.settings.specs.Checked.{checkedOf}
-use Rattle.settings.proofs.Laws.{ranges}
+use Rattle.settings.proofs.Numbers.{ranges}
 use Rattle.settings.proofs.Settings.new.Statement.{statement}
 use Rattle.settings.proofs.Settings.new.Tie as tie
-
-in-range-requires : tie.Need-in-range-requires
-in-range-requires c κs = search needs
 
 returns : tie.Need-returns
 unfolding checkedOf
@@ -29,4 +26,4 @@ returns-2 c =
     rw (← r .ensures, not-false (r .result) (c .before .if1 .left), ← c .base .ensures) refl
 
 pub new-spec : {M : Type 1} → statement M
-new-spec = tie.close (tie.spec in-range-requires returns base-requires returns-2)
+new-spec = tie.close (tie.spec (λ c κs. search needs) returns base-requires returns-2)

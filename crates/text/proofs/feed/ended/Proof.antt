@@ -4,11 +4,8 @@ use borrow.Author.Needs.{needs}
 use Rattle.text.proofs.feed.ended.Statement.{statement}
 use Rattle.text.proofs.feed.ended.Tie as tie
 
-returns : tie.Need-returns
-returns c = search needs
-
 returns-2 : tie.Need-returns-2
 returns-2 c = rw (c .if1 .left) refl
 
 pub ended-spec : {M : Type 1} → statement M
-ended-spec = tie.close (tie.spec returns returns-2)
+ended-spec = tie.close (tie.spec (λ c. search needs) returns-2)

@@ -4,15 +4,6 @@ use Rattle.text.proofs.Steps.{kept-room, kept-over}
 use Rattle.text.proofs.feed.kept.Statement.{statement}
 use Rattle.text.proofs.feed.kept.Tie as tie
 
-slice-write-buffer : tie.Need-slice-write-buffer
-slice-write-buffer c = search needs
-
-add-t6 : tie.Need-add-t6
-add-t6 c = search needs
-
-same-length : tie.Need-same-length
-same-length c = search needs
-
 returns : tie.Need-returns
 returns c = let a = c .before .args in kept-room (a .buffer .now) (c .before .pre .0) (a .fill) (a .byte) (search needs)
 
@@ -20,4 +11,4 @@ returns-2 : tie.Need-returns-2
 returns-2 c = let a = c .before .args in kept-over (a .buffer .now) (c .before .pre .0) (a .fill) (a .byte) (search needs)
 
 pub kept-spec : {M : Type 1} → statement M
-kept-spec = tie.close (tie.spec slice-write-buffer add-t6 same-length returns returns-2)
+kept-spec = tie.close (tie.spec (λ c. search needs) (λ c. search needs) (λ c. search needs) returns returns-2)

@@ -5,20 +5,11 @@ use borrow.Author.Needs.{needs}
 use Rattle.text.proofs.fields.at_least.Statement.{statement}
 use Rattle.text.proofs.fields.at_least.Tie as tie
 
-enum-known-numeral : tie.Need-enum-known-numeral
-enum-known-numeral c = search needs
-
 returns : tie.Need-returns
 returns c = rw (c .before .before .numeral .given .1, lt-leb _ _ (c .if1 .taken)) refl
 
 returns-2 : tie.Need-returns-2
 returns-2 c = rw (c .before .before .numeral .given .1, le-leb _ _ (c .if1 .left)) refl
 
-enum-told : tie.Need-enum-told
-enum-told c = search needs
-
-returns-3 : tie.Need-returns-3
-returns-3 c = search needs
-
 pub at-least-spec : {M : Type 1} → statement M
-at-least-spec = tie.close (tie.spec enum-known-numeral returns returns-2 enum-told returns-3)
+at-least-spec = tie.close (tie.spec (λ c. search needs) returns returns-2 (λ c. search needs) (λ c. search needs))

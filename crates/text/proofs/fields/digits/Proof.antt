@@ -4,7 +4,7 @@ use Prim.Native.Nat.{_+_, _-_, _≤_}
 use lib.ListN.{length, drop}
 use borrow.Author.Needs.{needs}
 use Rattle.text.specs.Answers.{digitsFrom}
-use Rattle.text.proofs.Laws.{digits-end, digits-more, digits-below, digits-above, digits-over}
+use Rattle.text.proofs.Numerals.{digits-end, digits-more, digits-below, digits-above, digits-over}
 use Rattle.text.proofs.fields.digits.Statement.{statement}
 use Rattle.text.proofs.fields.digits.Tie as tie
 
@@ -18,9 +18,6 @@ abbrev μ-loop : tie.MeasureT-loop
 loop-holds : tie.Need-loop-holds Inv-loop μ-loop
 loop-holds c = (search needs, (search needs, refl))
 
-shared-slice-read-byte : tie.Need-shared-slice-read-byte Inv-loop μ-loop
-shared-slice-read-byte c = search needs
-
 returns : tie.Need-returns Inv-loop μ-loop
 returns c =
     let v = c .before .before .before .loop in
@@ -33,15 +30,6 @@ returns-2 c =
     let a = c .before .before .before .before .before .args in
     sym (v .inv .1 .1 ∙ digits-above (a .most) (v .value) (a .field .now) (v .i) (search needs) (search needs))
 
-mul-value : tie.Need-mul-value Inv-loop μ-loop
-mul-value c = search needs
-
-cast-value : tie.Need-cast-value Inv-loop μ-loop
-cast-value c = search needs
-
-add-value : tie.Need-add-value Inv-loop μ-loop
-add-value c = search needs
-
 returns-3 : tie.Need-returns-3 Inv-loop μ-loop
 returns-3 c =
     let v = c .before .before .before .before .before .loop in
@@ -49,21 +37,12 @@ returns-3 c =
     let more = digits-more (a .most) (v .value) (a .field .now) (v .i) (search needs) (search needs) (search needs) in
     sym (v .inv .1 .1 ∙ (more ∙ digits-over (a .most) _ (drop (v .i + 1) (a .field .now)) (search needs)))
 
-add-i : tie.Need-add-i Inv-loop μ-loop
-add-i c = search needs
-
-loop-less : tie.Need-loop-less Inv-loop μ-loop
-loop-less c = search needs
-
 loop-again : tie.Need-loop-again Inv-loop μ-loop
 loop-again c =
     let v = c .before .before .before .before .before .loop in
     let a = c .before .before .before .before .before .before .args in
     let more = digits-more (a .most) (v .value) (a .field .now) (v .i) (search needs) (search needs) (search needs) in
     (search needs, (search needs, v .inv .1 .1 ∙ more))
-
-cast-t13 : tie.Need-cast-t13 Inv-loop μ-loop
-cast-t13 c = search needs
 
 returns-4 : tie.Need-returns-4 Inv-loop μ-loop
 returns-4 c =
@@ -74,19 +53,5 @@ returns-4 c =
 pub digits-spec : {M : Type 1} → statement M
 digits-spec =
     tie.close
-    (tie.spec
-    Inv-loop
-    μ-loop
-    loop-holds
-    shared-slice-read-byte
-    returns
-    returns-2
-    mul-value
-    cast-value
-    add-value
-    returns-3
-    add-i
-    loop-less
-    loop-again
-    cast-t13
-    returns-4)
+    (tie.spec Inv-loop μ-loop loop-holds (λ c. search needs) returns returns-2 (λ c. search needs) (λ c. search needs) (λ c. search needs) returns-3
+    (λ c. search needs) (λ c. search needs) loop-again (λ c. search needs) returns-4)

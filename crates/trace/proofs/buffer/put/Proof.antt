@@ -1,18 +1,9 @@
 -- `trace::buffer::put` meets its contract: a word is put among the buffer's, or none where the index is past its end.
 use lib.Seq.{take-set-lt}
 use borrow.Author.Needs.{needs}
-use Rattle.trace.proofs.Laws.{put-out}
+use Rattle.trace.proofs.BufferWords.{put-out}
 use Rattle.trace.proofs.buffer.put.Statement.{statement}
 use Rattle.trace.proofs.buffer.put.Tie as tie
-
-mul-words : tie.Need-mul-words
-mul-words c = search needs
-
-slice-write-words : tie.Need-slice-write-words
-slice-write-words c = search needs
-
-same-length : tie.Need-same-length
-same-length c = search needs
 
 returns : tie.Need-returns
 returns c =
@@ -25,4 +16,4 @@ returns-2 c =
     record { held = s .pre; is = put-out (s .pre) (s .args .index) (s .args .value) (c .if1 .left) }
 
 pub put-spec : {M : Type 1} → statement M
-put-spec = tie.close (tie.spec mul-words slice-write-words same-length returns returns-2)
+put-spec = tie.close (tie.spec (λ c. search needs) (λ c. search needs) (λ c. search needs) returns returns-2)

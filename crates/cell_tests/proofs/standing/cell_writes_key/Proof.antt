@@ -1,0 +1,30 @@
+-- `cell_tests::standing::cell_writes_key` meets its contract: the part that is lent is the cell's coordinate words.
+use mathlib.Core.Path.{refl, _∙_}
+use native.Mathlib.Omega.{arith}
+use borrow.Author.Needs.{needs}
+use Rattle.settings.specs.Numbers.{fieldsBeforeCoordinates}
+use Rattle.words.proofs.Shaped.{part-inside}
+use Rattle.cell_tests.proofs.OneCell.{key-written}
+use Rattle.cell_tests.proofs.standing.cell_writes_key.Statement.{statement}
+use Rattle.cell_tests.proofs.standing.cell_writes_key.Tie as tie
+
+part-writes-key-end : tie.Need-part-writes-key-end
+part-writes-key-end c =
+    let s = c .before .before .before .before in
+    omega (
+      arith,
+      c .before .before .word-index .ensures,
+      part-inside (s .pre .0) (s .pre .1 .0) fieldsBeforeCoordinates (s .args .s .dimensions) (omega arith),
+    )
+
+returns : tie.Need-returns
+returns c =
+    let s = c .before .before .before .before .before .before in
+    c .writes-key .ensures
+    ∙ key-written (s .pre .0) (s .args .y) (c .before .before .before .before .word-index .ensures .0) refl (c .before .before .word .ensures)
+
+pub cell-writes-key-spec : {M : Type 1} → statement M
+cell-writes-key-spec =
+    tie.close
+    (tie.spec (λ c κs. search needs) (λ c. search needs) (λ c. search needs) (λ c κs. search needs) (λ c. search needs) (λ c. search needs)
+    (λ c. search needs) part-writes-key-end (λ c κs. search needs) returns)

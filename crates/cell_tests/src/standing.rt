@@ -1,0 +1,184 @@
+// Whether one standing cell is right, met by a link after the cell that was read before it.
+ghost use mathlib.Core.Path.{_≡_};
+ghost use mathlib.Core.Bool.{_&&_};
+ghost use Prim.Native.Nat.{_<_};
+ghost use lib.Dec.{eqb};
+ghost use Rattle.words.specs.Shaped.{Shaped};
+ghost use Rattle.tree.specs.Tree.{allBelow, written, writesKey, follows, nodeRight, linksBelow, debtRight, cellAloneRight};
+ghost use Rattle.cell_tests.specs.Tests.{linkBelow, onlyLink};
+use settings::Settings;
+use tree::Seen;
+
+// Whether a cell's coordinate words, lent as a part, are each below b and write the key. The number read so far stops as soon as it is
+// above the key, so it fits.
+fn writes_key(part: &[u32], b: u32, key: u32) -> bool
+    requires { ⌜ 0 < b ⌝ }
+    ensures { λ r. ⌜ r ≡ (allBelow b (now (part .entry)) && eqb (written b 0 (now (part .entry))) key) ⌝ }
+{
+    let top = key as u64;
+    let base = b as u64;
+    let mut n: u64 = 0;
+    let mut i = 0;
+    while i < part.len() {
+        let digit = part[i];
+        if b <= digit {
+            return false;
+        }
+        n = n * base + digit as u64;
+        if top < n {
+            return false;
+        }
+        i += 1;
+    }
+    n == top
+}
+
+// Whether the coordinate words of cell y are its key's coordinates.
+fn cell_writes_key(list: &[u32], s: Settings, y: u32) -> bool
+    requires { ⌜ Shaped (now list) s × ((y < s .cells) × (0 < s .base)) ⌝ }
+    ensures { λ r. ⌜ r ≡ writesKey (now (list .entry)) y ⌝ }
+{
+    let start = words::word_index(s, y, words::COORDINATES);
+    let end = start + s.dimensions as usize;
+    let key = words::word(list, s, y, words::KEY);
+    writes_key(&list[start..end], s.base, key)
+}
+
+// Whether cell y comes after cell x in key order and shares exactly e coordinates with it.
+fn cell_follows(list: &[u32], s: Settings, x: u32, y: u32, e: u32) -> bool
+    requires { ⌜ Shaped (now list) s × ((x < s .cells) × ((y < s .cells) × (e < s .dimensions))) ⌝ }
+    ensures { λ r. ⌜ r ≡ follows (now (list .entry)) x y e ⌝ }
+{
+    let mut d: u32 = 0;
+    while d < e {
+        if words::coordinate(list, s, y, d) != words::coordinate(list, s, x, d) {
+            return false;
+        }
+        d += 1;
+    }
+    words::coordinate(list, s, x, e) < words::coordinate(list, s, y, e)
+}
+
+// Whether the key of cell y is at most K, and its mark and value are right: dead as long as the position has not been read.
+fn node_right(list: &[u32], s: Settings, y: u32, reached: bool) -> bool
+    requires { ⌜ Shaped (now list) s × (y < s .cells) ⌝ }
+    ensures { λ r. ⌜ r ≡ nodeRight (now (list .entry)) y reached ⌝ }
+{
+    if s.largest < words::word(list, s, y, words::KEY) {
+        return false;
+    }
+    let mark = words::word(list, s, y, words::MARK);
+    if mark == 2 {
+        return words::word(list, s, y, words::VALUE) == 0;
+    }
+    if mark == 1 {
+        return reached;
+    }
+    false
+}
+
+// Whether link d of cell y is 0 or one that cell x owes.
+fn link_below(list: &[u32], s: Settings, x: u32, y: u32, d: u32) -> bool
+    requires { ⌜ Shaped (now list) s × ((x < s .cells) × ((y < s .cells) × (d < s .dimensions))) ⌝ }
+    ensures { λ r. ⌜ r ≡ linkBelow (now (list .entry)) x y d ⌝ }
+{
+    if words::link(list, s, y, d) == 0 {
+        return true;
+    }
+    if words::word(list, s, x, words::OWED) == 0 {
+        return false;
+    }
+    if d < words::word(list, s, x, words::LOW) {
+        return false;
+    }
+    d < words::word(list, s, x, words::HIGH)
+}
+
+// Whether the links of cell y below e are 0, but for those that cell x, read before it, owes.
+fn links_below(list: &[u32], s: Settings, x: u32, y: u32, e: u32) -> bool
+    requires { ⌜ Shaped (now list) s × ((x < s .cells) × ((y < s .cells) × (e < s .dimensions))) ⌝ }
+    ensures { λ r. ⌜ r ≡ linksBelow (now (list .entry)) x y e ⌝ }
+{
+    let mut d: u32 = 0;
+    while d < e {
+        if !link_below(list, s, x, y, d) {
+            return false;
+        }
+        d += 1;
+    }
+    true
+}
+
+// Whether link number `high` of cell y is c and every other link of y is 0.
+fn only_link(list: &[u32], s: Settings, y: u32, high: u32, c: u32) -> bool
+    requires { ⌜ Shaped (now list) s × (y < s .cells) ⌝ }
+    ensures { λ r. ⌜ r ≡ onlyLink (now (list .entry)) y high c ⌝ }
+{
+    let mut d: u32 = 0;
+    while d < s.dimensions {
+        let expected = if d == high { c } else { 0 };
+        if words::link(list, s, y, d) != expected {
+            return false;
+        }
+        d += 1;
+    }
+    true
+}
+
+// Whether the debt of cell y, met by link e after cell x, is one that a list may have.
+fn debt_right(list: &[u32], s: Settings, x: u32, y: u32, e: u32) -> bool
+    requires { ⌜ Shaped (now list) s × ((x < s .cells) × ((y < s .cells) × (e < s .dimensions))) ⌝ }
+    ensures { λ r. ⌜ r ≡ debtRight (now (list .entry)) x y e ⌝ }
+{
+    let owed = words::word(list, s, y, words::OWED);
+    let low = words::word(list, s, y, words::LOW);
+    let high = words::word(list, s, y, words::HIGH);
+    if owed == 0 {
+        if low != 0 {
+            return false;
+        }
+        return high == 0;
+    }
+    if words::word(list, s, x, words::OWED) != 0 {
+        return false;
+    }
+    if low != e {
+        return false;
+    }
+    if high <= e {
+        return false;
+    }
+    if s.dimensions <= high {
+        return false;
+    }
+    if s.cells <= owed {
+        return false;
+    }
+    only_link(list, s, y, high, owed)
+}
+
+// Whether cell y, met by link e, is right after what has been seen, but for the path.
+pub fn cell_alone_right(list: &[u32], s: Settings, y: u32, e: u32, seen: Seen) -> bool
+    requires { ⌜ Shaped (now list) s × ((0 < s .base) × ((e < s .dimensions) × (seen .last < s .cells))) ⌝ }
+    ensures { λ r. ⌜ r ≡ cellAloneRight (now (list .entry)) y e seen ⌝ }
+{
+    if seen.left == 0 {
+        return false;
+    }
+    if s.cells <= y {
+        return false;
+    }
+    if !cell_follows(list, s, seen.last, y, e) {
+        return false;
+    }
+    if !cell_writes_key(list, s, y) {
+        return false;
+    }
+    if !node_right(list, s, y, seen.reached) {
+        return false;
+    }
+    if !links_below(list, s, seen.last, y, e) {
+        return false;
+    }
+    debt_right(list, s, seen.last, y, e)
+}

@@ -1,3 +1,0 @@
--- The laws that the proofs of a cell's tests rest on, and those that is_list cites.
-pub mod Laws
-pub mod OneCell

@@ -1,2 +1,0 @@
--- The parts of the account on the words (crate tree) that have a function of their own.
-pub mod Parts

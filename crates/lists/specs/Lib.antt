@@ -1,0 +1,2 @@
+-- Lists of any members and of numbers: what the other definitions say of them.
+pub mod Lists

@@ -1,0 +1,229 @@
+-- What a call leaves alone, carried from states to lists.
+use mathlib.Core.Path.{_≡_, refl, _∙_, sym, ap, ap₂, subst, subst₂}
+use mathlib.Core.Bool.{true, false, cond, true≢false}
+use mathlib.Core.List.{List, [], _∷_, map, map-append}
+use mathlib.Core.Option.{none, some}
+use Prim.Native.Nat.{ℕ, _≤_, _<_}
+use native.Mathlib.Omega.{arith}
+use lib.ListN.{getD}
+use borrow.Author.Tests.{le-leb}
+use Rattle.lists.specs.Lists.{occurrences}
+use Rattle.lists.proofs.All.{All, all-map, all-append, all-at}
+use Rattle.meaning.specs.Row.{Node, headNode, nodeAt, placeOf}
+use Rattle.meaning.specs.State.{State, positionKey, placesOf}
+use Rattle.meaning.specs.Picture.{mark, picture, path}
+use Rattle.meaning.specs.Refusals.{Outcome, refused, badKey, keyLive, nothingLive, keyNotStanding}
+use Rattle.meaning.specs.Words.{keyAt, markAt, positionAt}
+use Rattle.meaning.specs.Operations.{looked, insertOut, finishOut, takeOut, sweepOut, deadFront, fromLive, taken, revived, revivedNode, parentIn, positionAfter, slotFor, finished, withRow, linksMoved, keysAbove}
+use Rattle.meaning.specs.Calls.{outcome}
+use Rattle.meaning.specs.Writes.{Parent, Inserted, Taken, Revived, Swept}
+use Rattle.meaning.specs.Layer.SweepStores.{sweepWords}
+use Rattle.meaning.specs.Sentences.{Standing, Settled}
+use Rattle.meaning.specs.Promises.{FindWritesNothing, TakeWrites, ReviveWrites, InsertWrites, Finishes, FinishWrites, SweepWrites}
+use Rattle.meaning.proofs.Order.{Asc, asc-above}
+use Rattle.meaning.proofs.State.{Sound, base-positive}
+use Rattle.meaning.proofs.Picture.{path-length}
+use Rattle.meaning.proofs.Reading.{read-of-picture}
+use Rattle.meaning.proofs.Changed.{picture-path-word}
+use Rattle.meaning.proofs.Places.{asc-right, Located, onCell}
+use Rattle.meaning.proofs.Parent.{dimensionAfter, parentAfter, Apart, parent-is}
+use Rattle.meaning.proofs.Slot.{sound-apart, dimensions-positive}
+use Rattle.meaning.proofs.InsertSlot.{parent-leads}
+use Rattle.meaning.proofs.KeepsState.{live-split, deadFront-dead, fromLive-live, cell-stands}
+use Rattle.meaning.proofs.KeepsTake.{taken-sound}
+use Rattle.meaning.proofs.Placed.{placed-node, cell-standing, place-key, place-mark, place-standing}
+use Rattle.meaning.proofs.SentencesShape.{HasPlace, row-placed}
+use Rattle.meaning.proofs.Sentences.{position-is, position-key-is, position-standing}
+use Rattle.meaning.proofs.WalkRead.{row-key-read}
+use Rattle.meaning.proofs.BookRow.{node-has, node-key}
+use Rattle.meaning.proofs.KeepsInsert.{node-split, revived-keeping, revived-sound}
+use Rattle.meaning.proofs.FinishWords.{finish-moved, finish-own, finish-others, finish-nothing, finish-finished}
+use Rattle.meaning.proofs.TakeWords.{taken-words, revived-words, revived-path}
+use Rattle.meaning.proofs.InsertWords.{added-inserted}
+use Rattle.meaning.proofs.Outcomes.{on-read-lists, find-writes-nothing, take-outcome-none, take-outcome-first, insert-outcome-bad-key, insert-outcome-live, insert-outcome-dead, insert-outcome-new, finish-outcome-bad-key, finish-outcome-absent, finish-outcome-standing, sweep-outcome, key-cases, live-cases}
+use Rattle.meaning.proofs.SweepTarget.{sweep-words}
+use Rattle.meaning.proofs.SweepSentences.{live-marked, swept-leaves}
+use Rattle.meaning.proofs.Serves.{refused-not, new-accepted}
+
+pub find-writes : FindWritesNothing
+unfolding outcome
+find-writes = find-writes-nothing
+
+-- a fact of all nodes of a row at the first live one
+at-live : (P : Node → Type 0) (row : List Node) (x : Node) (later : List Node) → fromLive row ≡ x ∷ later → All P row → P x
+at-live P row x later e a = all-at P (deadFront row) x later (subst (All P) (live-split row x later e) a)
+
+-- the first live node has the least live key
+live-least : (s : State) → Sound s → (x : Node) (later : List Node) → fromLive (s .row) ≡ x ∷ later → All (λ y. y .live ≡ true → x .key ≤ y .key) (s .row)
+live-least s v x later e =
+    let front = deadFront (s .row) in
+    let split = live-split (s .row) x later e in
+    let up = asc-right 0 front (x ∷ later) (subst (Asc 0) split (v .ascends)) in
+    subst (All (λ y. y .live ≡ true → x .key ≤ y .key)) (sym split)
+    (all-append (λ y. y .live ≡ true → x .key ≤ y .key) front (x ∷ later)
+    (all-map (λ y dead live. absurd (true≢false (sym live ∙ dead))) front (deadFront-dead (s .row)))
+    (λ live. omega arith, all-map (λ y above live. omega arith) later (asc-above (x .key) later (up .1))))
+
+words-least : (s : State) → Sound s → (x : Node) (later : List Node) → fromLive (s .row) ≡ x ∷ later → (y : ℕ) → Standing (picture s) y → markAt (picture s) y ≡ 1 → x .key ≤ keyAt (picture s) y
+words-least s v x later e y stands live =
+    let (p, here) = cell-standing s y stands in
+    let least =
+    placed-node here (λ z. z .live ≡ true → x .key ≤ z .key) (λ l. absurd (true≢false (sym l))) (live-least s v x later e)
+    (live-marked (p .node .live) (sym (place-mark v here) ∙ live)) in
+    omega (arith, least, place-key v here)
+
+take-taken : (s : State) → Sound s → takeOut (picture s) .answered .refusal ≡ 0 → Taken (picture s) (takeOut (picture s) .words) (takeOut (picture s) .answered .key)
+unfolding picture taken
+take-taken s v z = go (fromLive (s .row)) refl
+  where
+    go : (row : List Node) → fromLive (s .row) ≡ row → Taken (picture s) (takeOut (picture s) .words) (takeOut (picture s) .answered .key)
+    go [] e = absurd (refused-not (takeOut (picture s)) (refused (nothingLive (keysAbove _ (s .row))) (picture s)) 6 (take-outcome-none s v e) refl z)
+    go (x ∷ later) e =
+        let o = take-outcome-first s v x later e in
+        let here = at-live (HasPlace s) (s .row) x later e (row-placed v) in
+        record {
+          marked =
+              record {
+                cell = x .cell;
+                standing = place-standing v (here .placed);
+                same = at-live (λ y. keyAt (picture s) (y .cell) ≡ y .key) (s .row) x later e (row-key-read s v) ∙ ap (λ (p : Outcome). p .answered .key) (sym o);
+                path = path (taken s x);
+                long = path-length (taken s x);
+                words = ap (λ (p : Outcome). p .words) o ∙ taken-words s x later v e;
+              };
+          live = place-mark v (here .placed) ∙ ap (λ (y : Node). mark (y .live)) (here .node) ∙ ap mark (fromLive-live (s .row) x later e);
+          least = λ y stands live. subst (λ (k : ℕ). k ≤ keyAt (picture s) y) (ap (λ (p : Outcome). p .answered .key) (sym o)) (words-least s v x later e y stands live);
+          position = ap (λ (p : Outcome). positionAt (p .words)) o ∙ position-is (taken-sound s x later v e);
+        }
+
+pub take-writes : TakeWrites
+unfolding outcome
+take-writes =
+    on-read-lists (λ s ws. takeOut ws .answered .refusal ≡ 0 → Taken ws (takeOut ws .words) (takeOut ws .answered .key)) take-taken
+
+-- a standing cell's parent, where it is the position, on the words
+parent-found : (s : State) → Sound s → (c : ℕ) → Located c (s .row) → positionAt (picture s) ≡ parentIn s c (s .row) → Parent (picture s) c (positionAt (picture s))
+parent-found s v c t e =
+    let b = s .settings .base in
+    let D = s .settings .dimensions in
+    let x = t .node in
+    let d = dimensionAfter b D headNode (t .front) (x .key) in
+    let parent : positionAt (picture s) ≡ parentAfter b D headNode (t .front) (x .key) =
+    e ∙ ap₂ (parentIn s) (sym (t .cell)) (t .split)
+    ∙ parent-is s (t .front) x (t .later) (base-positive s v) (dimensions-positive s v) (subst (Asc 0) (t .split) (v .ascends)) (subst (λ (r : List Node). Apart (headNode ∷ r)) (t .split) (sound-apart s v)) in
+    record {
+      standing = position-standing v;
+      number = d;
+      leads = subst₂ (λ (y n : ℕ). Settled (picture s) y d n) (sym parent) (t .cell) (parent-leads s v (t .front) x (t .later) (t .split));
+    }
+
+-- the words of a revival
+revived-leaves : (s : State) (x : Node) (value : ℕ) → Sound s → nodeAt (x .key) (s .row) ≡ some x → x .live ≡ false → Revived (picture s) (picture (revived s x value)) (x .key) value
+unfolding picture revived positionAfter parentIn
+revived-leaves s x value v a dead =
+    let after = revived s x value in
+    let sound = revived-sound s x value v a dead in
+    let here = node-has (HasPlace s) (x .key) x (s .row) a (row-placed v) in
+    let lowered : x .key ≤ keyAt (picture s) (positionAt (picture s)) → positionAt (picture after) ≡ parentIn after (x .cell) (after .row) =
+    λ low. position-is sound ∙ ap (λ t. cond t (parentIn s (x .cell) (after .row)) (s .position)) (le-leb (x .key) (positionKey s) (subst (λ (n : ℕ). x .key ≤ n) (position-key-is v) low)) in
+    record {
+      marked =
+          record {
+            cell = x .cell;
+            standing = place-standing v (here .placed);
+            same = place-key v (here .placed) ∙ ap (λ (y : Node). y .key) (here .node);
+            path = path after;
+            long = path-length after;
+            words = revived-words s x value v a;
+          };
+      dead = place-mark v (here .placed) ∙ ap (λ (y : Node). mark (y .live)) (here .node) ∙ ap mark dead;
+      path-kept = λ above d h.
+          let kept = revived-path s x value v a (subst (λ (n : ℕ). n < x .key) (position-key-is v) above) in
+          picture-path-word after d h ∙ ap (λ (words : List ℕ). getD words d 0) kept ∙ sym (picture-path-word s d h);
+      position-lowered = λ low. lowered low ∙ ap (λ (t : State). parentIn t (x .cell) (t .row)) (sym (read-of-picture after sound));
+      position-parent = λ low.
+          let (pre, post, split) = node-split (x .key) x (s .row) a in
+          let revive = onCell (x .cell) (revivedNode value) in
+          let found : Located (x .cell) (after .row) =
+          record {
+            front = map revive pre;
+            node = revive x;
+            later = map revive post;
+            split = ap (map revive) split ∙ map-append revive pre (x ∷ post);
+            cell = revived-keeping s x value v pre post split .cell x;
+          } in
+          parent-found after sound (x .cell) found (lowered low);
+    }
+
+revive-revived : (s : State) → Sound s → (key value : ℕ) → (nodeAt key (s .row) ≡ none → ⊥) → insertOut (picture s) key value .answered .refusal ≡ 0 → Revived (picture s) (insertOut (picture s) key value .words) key value
+revive-revived s v key value stands z =
+    key-cases s key
+    (λ n. absurd (refused-not (insertOut (picture s) key value) (refused badKey (picture s)) 3 (insert-outcome-bad-key s v key value n) refl z))
+    (λ h l a. absurd (stands a))
+    (λ h l x a. live-cases x
+    (λ q. absurd (refused-not (insertOut (picture s) key value) (refused (keyLive key (looked s key)) (picture s)) 4 (insert-outcome-live s v key value h l x a q) refl z))
+    (λ q.
+    let k = node-key key x (s .row) a in
+    let o = ap (λ (p : Outcome). p .words) (insert-outcome-dead s v key value h l x a q) in
+    subst₂ (λ (us : List ℕ) (m : ℕ). Revived (picture s) us m value) (sym o) k
+    (revived-leaves s x value v (subst (λ (m : ℕ). nodeAt m (s .row) ≡ some x) (sym k) a) q)))
+
+pub revive-writes : ReviveWrites
+unfolding outcome
+revive-writes =
+    on-read-lists
+    (λ s ws. (key value : ℕ) → (nodeAt key (s .row) ≡ none → ⊥) → insertOut ws key value .answered .refusal ≡ 0 → Revived ws (insertOut ws key value .words) key value)
+    revive-revived
+
+insert-inserted : (s : State) → Sound s → (key value : ℕ) → nodeAt key (s .row) ≡ none → insertOut (picture s) key value .answered .refusal ≡ 0 → Inserted (picture s) (insertOut (picture s) key value .words) key value (slotFor s key)
+insert-inserted s v key value a z =
+    let (h, l, f) = new-accepted s v key value a z in
+    subst (λ (us : List ℕ). Inserted (picture s) us key value (slotFor s key)) (ap (λ (p : Outcome). p .words) (sym (insert-outcome-new s v key value h l a f))) (added-inserted s v key value h l a f)
+
+pub insert-writes : InsertWrites
+unfolding outcome
+insert-writes =
+    on-read-lists
+    (λ s ws. (key value : ℕ) → nodeAt key (s .row) ≡ none → insertOut ws key value .answered .refusal ≡ 0 → Inserted ws (insertOut ws key value .words) key value (slotFor s key))
+    insert-inserted
+
+-- the cell of a standing key is one of the row's
+node-stands : (s : State) (key : ℕ) (x : Node) → nodeAt key (s .row) ≡ some x → 0 < occurrences (x .cell) (0 ∷ map (λ y. y .cell) (s .row))
+node-stands s key x a = let t = node-split key x (s .row) a in cell-stands s (t .0) x (t .1) (t .2)
+
+finish-finishes : (s : State) → Sound s → (key : ℕ) → finishOut (picture s) key .answered .refusal ≡ 0 → Finishes (picture s) (finishOut (picture s) key .words) key (finishOut (picture s) key .answered .count)
+finish-finishes s v key z =
+    key-cases s key
+    (λ n. absurd (refused-not (finishOut (picture s) key) (refused badKey (picture s)) 3 (finish-outcome-bad-key s v key n) refl z))
+    (λ h l a. absurd (refused-not (finishOut (picture s) key) (refused (keyNotStanding key) (picture s)) 7 (finish-outcome-absent s v key h l a) refl z))
+    (λ h l x a. subst (λ (p : Outcome). Finishes (picture s) (p .words) key (p .answered .count)) (sym (finish-outcome-standing s v key h l x a)) (done x a))
+  where
+    done : (x : Node) → nodeAt key (s .row) ≡ some x → Finishes (picture s) (picture (withRow s (finished (x .cell) (s .row)))) key (linksMoved s (placeOf (x .cell) (placesOf s (s .row))))
+    done x a =
+        let n = node-stands s key x a in
+        record {
+          cell = x .cell;
+          standing = place-standing v (node-has (HasPlace s) key x (s .row) a (row-placed v) .placed);
+          same = node-has (λ y. keyAt (picture s) (y .cell) ≡ y .key) key x (s .row) a (row-key-read s v) ∙ node-key key x (s .row) a;
+          moved = finish-moved s v (x .cell) n;
+          paid = finish-own s v (x .cell) n;
+          others = finish-others s v (x .cell) n;
+          nothing = finish-nothing s v (x .cell) n;
+          finished = finish-finished s v (x .cell) n;
+        }
+
+pub finish-writes : FinishWrites
+unfolding outcome
+finish-writes =
+    on-read-lists
+    (λ s ws. (key : ℕ) → finishOut ws key .answered .refusal ≡ 0 → Finishes ws (finishOut ws key .words) key (finishOut ws key .answered .count))
+    finish-finishes
+
+pub sweep-writes : SweepWrites
+unfolding outcome
+sweep-writes =
+    on-read-lists
+    (λ s ws. Swept ws (sweepOut ws .words) × (sweepOut ws .words ≡ sweepWords ws))
+    (λ s v.
+    let o = ap (λ (p : Outcome). p .words) (sweep-outcome s v) in
+    (subst (Swept (picture s)) (sym o) (swept-leaves s v), o ∙ sweep-words s v))

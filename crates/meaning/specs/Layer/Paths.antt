@@ -1,0 +1,63 @@
+-- Paths: the path of any standing cell, the next standing cell in key order, the first live one after the position, and the path that the
+-- walk builds. The functions on words are the ones that the code follows.
+use mathlib.Core.Bool.{cond}
+use mathlib.Core.List.{List, _∷_, _++_, map}
+use Prim.Native.Nat.{ℕ, zero, suc, _-_}
+use lib.Dec.{eqb}
+use lib.ListN.{getD, take, replicate}
+use Rattle.lists.specs.Lists.{numbersFrom}
+use Rattle.meaning.specs.Row.{Node, headNode}
+use Rattle.meaning.specs.Picture.{firstWith}
+use Rattle.meaning.specs.Words.{markAt, dimensionsAt, liveMark}
+use Rattle.meaning.specs.Walk.{linkRead, stepAt}
+use Rattle.meaning.specs.declared.Step.{Step}
+use Rattle.meaning.specs.declared.Step.the-variants.{Go, Up, End}
+
+-- The path of the standing cell with a key: word d is "the least-key standing cell sharing the first d+1 coordinates" with it.
+unfoldable pub pathFor : ℕ → ℕ → List Node → ℕ → List ℕ
+pathFor b D row key = map (λ d. firstWith b D key (suc d) (headNode ∷ row)) (numbersFrom 0 D)
+
+-- a path of D words with cell y from word d on
+abbrev pub onward : ℕ → List ℕ → ℕ → ℕ → List ℕ
+onward D path d y = take d path ++ replicate (D - d) y
+
+-- The next standing cell in key order and the number of the link that leads to it; cell 0 if there is none.
+pub record NextCell : Type 0 where
+  pub cell : ℕ
+  pub number : ℕ
+
+-- The next key after that of a path is at the highest d with link d of path word d not 0: the first such, of links d-1 down to 0.
+unfoldable pub nextFrom : List ℕ → List ℕ → ℕ → NextCell
+nextFrom ws path zero = record { cell = 0; number = 0 }
+nextFrom ws path (suc d) =
+    let y = linkRead ws (getD path d 0) d in
+    cond (eqb y 0) (nextFrom ws path d) (record { cell = y; number = d })
+
+-- What stands after a path's cell: the first live cell with its path, and how many cells were passed up to it; cell 0 if there is none.
+pub record Ahead : Type 0 where
+  pub cell : ℕ
+  pub passed : ℕ
+  pub path : List ℕ
+
+-- onward from a path, past dead cells, over at most `fuel` cells
+unfoldable pub aheadFrom : ℕ → List ℕ → List ℕ → ℕ → Ahead
+aheadFrom zero ws path passed = record { cell = 0; passed = passed; path = path }
+aheadFrom (suc fuel) ws path passed =
+    let D = dimensionsAt ws in
+    let next = nextFrom ws path D in
+    let there = onward D path (next .number) (next .cell) in
+    let further = aheadFrom fuel ws there (suc passed) in
+    cond (eqb (next .cell) 0) (record { cell = 0; passed = passed; path = path })
+    (cond (eqb (markAt ws (next .cell)) liveMark) (record { cell = next .cell; passed = suc passed; path = there }) further)
+
+-- the path after a step from cell x and coordinate d, if the rest of the walk makes it `further`
+abbrev pub pathAfter : (List ℕ → ℕ → ℕ → List ℕ) → ℕ → List ℕ → ℕ → ℕ → Step → List ℕ
+pathAfter further D path x d (Go y) = further (onward D path d y) y d
+pathAfter further D path x d Up = further path x (suc d)
+pathAfter further D path x d End = path
+
+-- The path that the walk for k from cell x and coordinate d builds on a path, in at most `fuel` steps: where it goes to a cell, that cell
+-- from the coordinate at hand on.
+unfoldable pub pathAlong : ℕ → List ℕ → ℕ → List ℕ → ℕ → ℕ → List ℕ
+pathAlong zero ws k path x d = path
+pathAlong (suc fuel) ws k path x d = pathAfter (pathAlong fuel ws k) (dimensionsAt ws) path x d (stepAt ws k x d)

@@ -1,0 +1,61 @@
+-- What the calls write, word by word: the layer between the meaning and the code. Each function takes the words as they stand to the
+-- words afterwards; D is the number of dimensions.
+use mathlib.Core.Bool.{cond}
+use mathlib.Core.List.{List, [], _∷_, _++_}
+use Prim.Native.Nat.{ℕ, zero, suc, _+_, _-_}
+use lib.Dec.{eqb}
+use lib.ListN.{getD, set, replicate}
+use lib.Seq.{sets}
+use Rattle.settings.specs.Numbers.{headerWords}
+use Rattle.meaning.specs.Keys.{coordinates}
+use Rattle.meaning.specs.Words.{wordIndex, owedAt, lowAt, highAt, linkField}
+use Rattle.meaning.specs.Operations.{Slot, slotOwes}
+
+-- word j of cell x becomes v
+abbrev pub store : ℕ → List ℕ → ℕ → ℕ → ℕ → List ℕ
+store D ws x j v = set ws (wordIndex D x j) v
+
+-- k links from number d on move from cell c to cell n: "moves those links from c to n, puts 0 in c"
+unfoldable pub moveLinks : ℕ → List ℕ → ℕ → ℕ → ℕ → ℕ → List ℕ
+moveLinks D ws n c d zero = ws
+moveLinks D ws n c d (suc k) =
+    moveLinks D (store D (store D ws n (linkField D d) (getD ws (wordIndex D c (linkField D d)) 0)) c (linkField D d) 0) n c (suc d) k
+
+-- ".. and clears the three words": owed, low and high of cell n become 0
+abbrev pub clearDebt : ℕ → List ℕ → ℕ → List ℕ
+clearDebt D ws n = sets ws (wordIndex D n 3) (0 ∷ 0 ∷ 0 ∷ [])
+
+-- what cell n owes is finished
+unfoldable pub finishWords : ℕ → List ℕ → ℕ → List ℕ
+finishWords D ws n =
+    cond (eqb (owedAt ws n) 0) ws (clearDebt D (moveLinks D ws n (owedAt ws n) (lowAt ws n) (highAt ws n - lowAt ws n)) n)
+
+-- the D words of path
+abbrev pub writePath : List ℕ → List ℕ → List ℕ
+writePath ws path = sets ws headerWords path
+
+-- a standing cell's value and mark
+abbrev pub writeNode : ℕ → List ℕ → ℕ → ℕ → ℕ → List ℕ
+writeNode D ws x value mark = sets ws (wordIndex D x 1) (value ∷ mark ∷ [])
+
+-- the links of a new cell: "c becomes link q of n" where there is a c, every other link 0
+abbrev pub newLinks : ℕ → ℕ → ℕ → List ℕ
+newLinks D q c = cond (eqb c 0) (replicate D 0) (set (replicate D 0) q c)
+
+-- the words of a new cell: live, its key's coordinates, link q to c where there is a c, every other link 0; its debt if it owes
+unfoldable pub newWords : ℕ → ℕ → ℕ → ℕ → Slot → List ℕ
+newWords b D key value t =
+    key ∷ value ∷ 1 ∷ cond (slotOwes t) (t .c) 0 ∷ cond (slotOwes t) (t .p) 0 ∷ cond (slotOwes t) (t .q) 0
+    ∷ (coordinates b D key ++ newLinks D (t .q) (t .c))
+
+-- "an insert finishes what the parent owes, then what c owes", where there is a c
+abbrev pub paidWords : ℕ → List ℕ → ℕ → ℕ → List ℕ
+paidWords D ws parent c = cond (eqb c 0) (finishWords D ws parent) (finishWords D (finishWords D ws parent) c)
+
+-- An insert of a key that does not stand, but for the path: the parent's debt and then c's finished, the first free cell taken off its
+-- chain and written, and link p of the parent set to it.
+unfoldable pub insertWords : ℕ → ℕ → List ℕ → ℕ → ℕ → Slot → List ℕ
+insertWords b D ws key value t =
+    let paid = paidWords D ws (t .parent) (t .c) in
+    let off = set paid 4 (getD paid (wordIndex D (t .n) 0) 0) in
+    store D (sets off (wordIndex D (t .n) 0) (newWords b D key value t)) (t .parent) (linkField D (t .p)) (t .n)

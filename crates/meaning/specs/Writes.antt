@@ -1,0 +1,137 @@
+-- What a call leaves alone, which cells owe afterwards and where the position goes, on the words.
+use mathlib.Core.Path.{_≡_}
+use mathlib.Core.List.{List}
+use mathlib.Core.Logic.{_⊎_}
+use Prim.Native.Nat.{ℕ, _+_, _≤_, _<_}
+use lib.ListN.{length, getD}
+use Rattle.settings.specs.Numbers.{headerWords, fieldsBeforeCoordinates, cellWords}
+use Rattle.meaning.specs.Keys.{coordinate, shared}
+use Rattle.meaning.specs.Words.{wordAt, keyAt, valueAt, markAt, owedAt, lowAt, highAt, coordinateAt, linkAt, cellsAt, positionAt, dimensionsAt, baseAt, firstFreeAt, linkField, freeMark, liveMark, deadMark, pathAt}
+use Rattle.meaning.specs.Operations.{Slot, parentIn}
+use Rattle.meaning.specs.Reading.{read}
+use Rattle.meaning.specs.Layer.Stores.{writePath, writeNode}
+use Rattle.meaning.specs.Sentences.{Free, Standing, Settled}
+
+-- "A cell that owes nothing has owed, low and high 0."
+abbrev pub OwesNothing : List ℕ → ℕ → Type 0
+OwesNothing ws n = (owedAt ws n ≡ 0) × (lowAt ws n ≡ 0) × (highAt ws n ≡ 0)
+
+-- cell x owes in the words us what it owes in ws
+abbrev pub OwesSame : List ℕ → List ℕ → ℕ → Type 0
+OwesSame ws us x = (owedAt us x ≡ owedAt ws x) × (lowAt us x ≡ lowAt ws x) × (highAt us x ≡ highAt ws x)
+
+-- Finishing, in document 01's words: us are the words ws after cell n is finished.
+pub record Finished (ws us : List ℕ) (n : ℕ) : Type 0 where
+  -- "moves those links from c to n"
+  pub given : (d : ℕ) → lowAt ws n ≤ d → d < highAt ws n → linkAt us n d ≡ linkAt ws (owedAt ws n) d
+  -- "puts 0 in c"
+  pub cleared : (d : ℕ) → lowAt ws n ≤ d → d < highAt ws n → linkAt us (owedAt ws n) d ≡ 0
+  -- "and clears the three words"
+  pub owed : owedAt us n ≡ 0
+  pub low : lowAt us n ≡ 0
+  pub high : highAt us n ≡ 0
+  -- and every other word is as before: of header and path, and of every cell
+  pub below : (i : ℕ) → i < headerWords + dimensionsAt ws → getD us i 0 ≡ getD ws i 0
+  pub other : (x j : ℕ) → j < cellWords (dimensionsAt ws) → (x ≡ n → 3 ≤ j → j < fieldsBeforeCoordinates → ⊥) →
+      ((d : ℕ) → lowAt ws n ≤ d → d < highAt ws n → j ≡ linkField (dimensionsAt ws) d → (x ≡ n → ⊥) × (x ≡ owedAt ws n → ⊥)) → wordAt us x j ≡ wordAt ws x j
+
+-- Word j of cell x is none that finishing cell n changes: if n owes, none of its owed, low and high, and no link low to high-1 of n or of
+-- its owed cell.
+abbrev pub Unmoved : List ℕ → ℕ → ℕ → ℕ → Type 0
+Unmoved ws n x j =
+    0 < owedAt ws n → (x ≡ n → 3 ≤ j → j < fieldsBeforeCoordinates → ⊥) ×
+    ((d : ℕ) → lowAt ws n ≤ d → d < highAt ws n → j ≡ linkField (dimensionsAt ws) d → (x ≡ n → ⊥) × (x ≡ owedAt ws n → ⊥))
+
+-- y is the parent of cell x in the settled shape: one of its links leads to x there
+pub record Parent (ws : List ℕ) (x y : ℕ) : Type 0 where
+  pub standing : Standing ws y
+  pub number : ℕ
+  pub leads : Settled ws y number x
+
+-- "If the key is at or below the position's, the position becomes the parent": a key k above it changes no word of path
+abbrev pub PathKept : List ℕ → List ℕ → ℕ → Type 0
+PathKept ws us k = keyAt ws (positionAt ws) < k → (d : ℕ) → d < dimensionsAt ws → pathAt us d ≡ pathAt ws d
+
+-- An insert of a key k that does not stand, with value v, into slot t: us are the words ws afterwards.
+pub record Inserted (ws us : List ℕ) (k v : ℕ) (t : Slot) : Type 0 where
+  -- "puts a new cell n in the first free cell"
+  pub free : t .n ≡ firstFreeAt ws
+  pub next-free : firstFreeAt us ≡ wordAt ws (t .n) 0
+  pub key : keyAt us (t .n) ≡ k
+  pub value : valueAt us (t .n) ≡ v
+  pub live : markAt us (t .n) ≡ liveMark
+  pub coordinates : (d : ℕ) → d < dimensionsAt ws → coordinateAt us (t .n) d ≡ coordinate (baseAt ws) (dimensionsAt ws) k d
+  -- "as link p of its parent in the new settled shape"
+  pub standing : Standing ws (t .parent)
+  pub settled : Settled us (t .parent) (t .p) (t .n)
+  pub parent : linkAt us (t .parent) (t .p) ≡ t .n
+  -- "If a cell c had that slot in the settled shape before"; "where n and c share exactly q coordinates"
+  pub held : Settled ws (t .parent) (t .p) (t .c)
+  pub shares : (t .c ≡ 0 → ⊥) → t .q ≡ shared (baseAt ws) (dimensionsAt ws) k (keyAt ws (t .c))
+  -- "c becomes link q of n"
+  pub given : (t .c ≡ 0 → ⊥) → linkAt us (t .n) (t .q) ≡ t .c
+  pub other-links : (d : ℕ) → d < dimensionsAt ws → (d ≡ t .q → t .c ≡ 0) → linkAt us (t .n) d ≡ 0
+  -- "If p < q, then n owes: owed c, low p, high q", and only so
+  pub owes : (t .c ≡ 0 → ⊥) → t .p < t .q → (owedAt us (t .n) ≡ t .c) × (lowAt us (t .n) ≡ t .p) × (highAt us (t .n) ≡ t .q)
+  pub owes-nothing : ((t .c ≡ 0 → ⊥) → t .q ≤ t .p) → OwesNothing us (t .n)
+  -- "an insert finishes what the parent owes, then what c owes, and nothing else"
+  pub parent-paid : OwesNothing us (t .parent)
+  pub c-paid : OwesNothing us (t .c)
+  pub others-owe : (x : ℕ) → x < cellsAt ws → (x ≡ t .n → ⊥) → (x ≡ t .parent → ⊥) → (x ≡ t .c → ⊥) → OwesSame ws us x
+  -- every other word of the header and of the cells is as before
+  pub header : (i : ℕ) → i < 4 → getD us i 0 ≡ getD ws i 0
+  pub other : (x j : ℕ) → x < cellsAt ws → j < cellWords (dimensionsAt ws) → (x ≡ t .n → ⊥) → (x ≡ t .parent → j ≡ linkField (dimensionsAt ws) (t .p) → ⊥) →
+      Unmoved ws (t .parent) x j → Unmoved ws (t .c) x j → wordAt us x j ≡ wordAt ws x j
+  -- "If the key is at or below the position's, the position becomes the parent", and only so
+  pub path-kept : PathKept ws us k
+  pub position-lowered : k ≤ keyAt ws (positionAt ws) → positionAt us ≡ t .parent
+
+-- A take, or a revival, of key k: value and mark of its cell are written, and the path. "Links are untouched"; "no link changed and nothing
+-- finished".
+pub record Marked (ws us : List ℕ) (k value mark : ℕ) : Type 0 where
+  pub cell : ℕ
+  -- a free cell's first word is no key
+  pub standing : Standing ws cell
+  pub same : keyAt ws cell ≡ k
+  pub path : List ℕ
+  pub long : length path ≡ dimensionsAt ws
+  pub words : us ≡ writePath (writeNode (dimensionsAt ws) ws cell value mark) path
+
+-- A take of key k: "It becomes dead and the position. Links are untouched."
+pub record Taken (ws us : List ℕ) (k : ℕ) : Type 0 where
+  pub marked : Marked ws us k 0 2
+  -- "the least live key"
+  pub live : markAt ws (marked .cell) ≡ liveMark
+  pub least : (x : ℕ) → Standing ws x → markAt ws x ≡ liveMark → k ≤ keyAt ws x
+  -- "It becomes .. the position"
+  pub position : positionAt us ≡ marked .cell
+
+-- A revival of key k with value v: "A standing dead key gets the new value and mark 1"
+pub record Revived (ws us : List ℕ) (k v : ℕ) : Type 0 where
+  pub marked : Marked ws us k v 1
+  pub dead : markAt ws (marked .cell) ≡ deadMark
+  -- "If the key is at or below the position's, the position becomes the parent of that cell in the settled shape", and only so
+  pub path-kept : PathKept ws us k
+  pub position-lowered : k ≤ keyAt ws (positionAt ws) → positionAt us ≡ parentIn (read us) (marked .cell) (read us .row)
+  pub position-parent : k ≤ keyAt ws (positionAt ws) → Parent us (marked .cell) (positionAt us)
+
+-- A sweep, in document 01's words: us are the words ws afterwards.
+pub record Swept (ws us : List ℕ) : Type 0 where
+  -- "moves the position to the greatest dead cell below every live key (of all, if none is live; the head, if there is no other)"
+  pub position : Standing ws (positionAt us)
+  pub dead : markAt ws (positionAt us) ≡ deadMark
+  pub below-live : (x : ℕ) → Standing ws x → markAt ws x ≡ liveMark → keyAt ws (positionAt us) < keyAt ws x
+  pub greatest : (x : ℕ) → Standing ws x → markAt ws x ≡ deadMark → ((y : ℕ) → Standing ws y → markAt ws y ≡ liveMark → keyAt ws x < keyAt ws y) → keyAt ws x ≤ keyAt ws (positionAt us)
+  -- "frees every cell strictly between head and position in key order"
+  pub freed : (x : ℕ) → Standing ws x → 0 < keyAt ws x → keyAt ws x < keyAt ws (positionAt us) → markAt us x ≡ freeMark
+  -- "the rest": the head, the position and every cell of larger key
+  pub kept : (x : ℕ) → Standing ws x → (x ≡ 0) ⊎ (keyAt ws (positionAt us) ≤ keyAt ws x) →
+      (keyAt us x ≡ keyAt ws x) × ((valueAt us x ≡ valueAt ws x) × (markAt us x ≡ markAt ws x))
+  -- .. and a free cell stays free
+  pub free : (x : ℕ) → Free ws x → Free us x
+  -- "It finishes all that is owed"
+  pub owes : (x : ℕ) → x < cellsAt ws → OwesNothing us x
+  -- "and leaves the settled shape of the rest"
+  pub settled : (x d : ℕ) → Standing us x → d < dimensionsAt ws → Settled us x d (linkAt us x d)
+  -- D, K, C and b are as before
+  pub header : (i : ℕ) → i < 4 → getD us i 0 ≡ getD ws i 0

@@ -1,0 +1,114 @@
+-- The words of a new cell, written one after the other: stores in a row are a run of stores, and runs that meet are one run, which are
+-- the definition's words of a new cell.
+use mathlib.Core.Path.{_≡_, refl, ap, _∙_}
+use mathlib.Core.Bool.{Bool, true, false, cond}
+use mathlib.Core.List.{List, [], _∷_, _++_}
+use Prim.Native.Nat.{ℕ, suc, _+_, _-_, _≤_, _<_}
+use native.Mathlib.Decide.{ℕ-discrete}
+use native.Mathlib.Nat.{add-zero}
+use native.Mathlib.Omega.{arith}
+use lib.Dec.{eqb, ltb}
+use lib.ListN.{length, set, replicate, length-set, length-replicate}
+use lib.Seq.{sets}
+use borrow.Author.Tests.{eq-eqb, ne-eqb, lt-ltb, le-ltb}
+use borrow.Rule.Slice.PartMut.{midOf, putMid, mid-len}
+use Rattle.settings.specs.Numbers.{fieldsBeforeCoordinates}
+use Rattle.settings.specs.declared.Settings.{Settings}
+use Rattle.meaning.specs.Keys.{coordinates}
+use Rattle.meaning.specs.Words.{wordIndex, linkField}
+use Rattle.meaning.specs.Layer.Stores.{store, newWords, newLinks}
+use Rattle.meaning.proofs.Keys.{coordinates-length}
+use Rattle.words.specs.Shaped.{Shaped}
+use Rattle.words.proofs.Shaped.{part-inside, part-written}
+use Rattle.search.specs.declared.Found.{Found}
+use Rattle.new_cell.specs.NewCell.{slotOf, fieldWords}
+
+-- Runs of stores
+
+sets-both : (ws vs us : List ℕ) (i j : ℕ) → j ≡ i + length vs → sets (sets ws i vs) j us ≡ sets ws i (vs ++ us)
+sets-both ws [] us i j e =
+    let none : j ≡ i = omega (arith, add-zero i) in
+    rw none refl
+sets-both ws (v ∷ vs) us i j e = sets-both (set ws i v) vs us (suc i) j (omega arith)
+
+pub debt-written : (D : ℕ) (ws : List ℕ) (n owed low high : ℕ) →
+    store D (store D (store D ws n 3 owed) n 4 low) n 5 high ≡ sets ws (wordIndex D n 3) (owed ∷ low ∷ high ∷ [])
+debt-written D ws n owed low high =
+    let second : wordIndex D n 4 ≡ suc (wordIndex D n 3) = omega arith in
+    let third : wordIndex D n 5 ≡ suc (suc (wordIndex D n 3)) = omega arith in
+    rw (second, third) refl
+
+-- key, value, mark and then the debt
+six-written : (D : ℕ) (ws : List ℕ) (n key value mark owed low high : ℕ) →
+    sets (store D (store D (store D ws n 0 key) n 1 value) n 2 mark) (wordIndex D n 3) (owed ∷ low ∷ high ∷ [])
+    ≡ sets ws (wordIndex D n 0) (key ∷ value ∷ mark ∷ owed ∷ low ∷ high ∷ [])
+six-written D ws n key value mark owed low high =
+    let second : wordIndex D n 1 ≡ suc (wordIndex D n 0) = omega arith in
+    let third : wordIndex D n 2 ≡ suc (suc (wordIndex D n 0)) = omega arith in
+    let fourth : wordIndex D n 3 ≡ suc (suc (suc (wordIndex D n 0))) = omega arith in
+    rw (second, third, fourth) refl
+
+pub owing-written : (D : ℕ) (ws : List ℕ) (n key value : ℕ) (f : Found) → f .p < f .q →
+    sets (store D (store D (store D ws n 0 key) n 1 value) n 2 1) (wordIndex D n 3) (f .c ∷ f .p ∷ f .q ∷ []) ≡ sets ws (wordIndex D n 0) (fieldWords key value f)
+owing-written D ws n key value f h = rw (lt-ltb (f .p) (f .q) h) (six-written D ws n key value 1 (f .c) (f .p) (f .q))
+
+pub settled-written : (D : ℕ) (ws : List ℕ) (n key value : ℕ) (f : Found) → f .q ≤ f .p →
+    sets (store D (store D (store D ws n 0 key) n 1 value) n 2 1) (wordIndex D n 3) (0 ∷ 0 ∷ 0 ∷ []) ≡ sets ws (wordIndex D n 0) (fieldWords key value f)
+settled-written D ws n key value f h = rw (le-ltb (f .p) (f .q) h) (six-written D ws n key value 1 0 0 0)
+
+-- Links
+
+pub links-none : (D q c : ℕ) → c ≡ 0 → replicate D 0 ≡ newLinks D q c
+links-none D q c e = rw (eq-eqb c 0 e) refl
+
+pub links-one : (D q c : ℕ) → (c ≡ 0 → ⊥) → set (replicate D 0) q c ≡ newLinks D q c
+links-one D q c ne = rw (ne-eqb c 0 ne) refl
+
+newLinks-length : (D q c : ℕ) → length (newLinks D q c) ≡ D
+newLinks-length D q c = at (eqb c 0)
+  where
+    at : (r : Bool) → length (cond r (replicate D 0) (set (replicate D 0) q c)) ≡ D
+    at true = length-replicate {A = ℕ} D 0
+    at false = length-set (replicate D 0) q c ∙ length-replicate {A = ℕ} D 0
+
+-- the part from `start` to `end` that holds the links of cell n
+module _ {ws : List ℕ} {s : Settings} (h : Shaped ws s) {n : ℕ} (cell : n < s .cells) {start end : ℕ} (from : start ≡ wordIndex (s .dimensions) n (fieldsBeforeCoordinates + s .dimensions))
+    (to : end ≡ start + s .dimensions) where
+  pub links-inside : end ≤ length ws
+  links-inside = omega (arith, part-inside h cell (linkField (s .dimensions) 0) (s .dimensions) (omega arith))
+
+  pub links-long : length (midOf start (end - start) ws) ≡ s .dimensions
+  links-long = omega (arith, mid-len start end ws links-inside)
+
+  pub links-written : (q c : ℕ) {ys : List ℕ} → ys ≡ newLinks (length (midOf start (end - start) ws)) q c →
+      putMid start (end - start) ws ys ≡ sets ws (wordIndex (s .dimensions) n (linkField (s .dimensions) 0)) (newLinks (s .dimensions) q c)
+  links-written q c is =
+      let D = s .dimensions in
+      let same = is ∙ ap (λ m. newLinks m q c) links-long in
+      rw same (part-written ws (newLinks D q c) D n (linkField D 0) D (omega arith) to links-inside (newLinks-length D q c))
+
+-- A cell
+
+-- the three parts are the definition's words: without a c there is no debt either
+new-words : (b D n key value : ℕ) (f : Found) → (f .c ≡ 0 → f .q ≡ 0) →
+    fieldWords key value f ++ (coordinates b D key ++ newLinks D (f .q) (f .c)) ≡ newWords b D key value (slotOf n f)
+unfolding newWords
+new-words b D n key value f none = at (ℕ-discrete (f .c) 0)
+  where
+    at : Dec (f .c ≡ 0) → fieldWords key value f ++ (coordinates b D key ++ newLinks D (f .q) (f .c)) ≡ newWords b D key value (slotOf n f)
+    at (yes z) =
+        let settled : ltb (f .p) (f .q) ≡ false = le-ltb (f .p) (f .q) (omega (arith, none z)) in
+        rw (settled, eq-eqb (f .c) 0 z) refl
+    at (no ne) = rw (ne-eqb (f .c) 0 ne) refl
+
+pub cell-written : (b D : ℕ) (ws : List ℕ) (n key value : ℕ) (f : Found) → (f .c ≡ 0 → f .q ≡ 0) →
+    sets (sets (sets ws (wordIndex D n 0) (fieldWords key value f)) (wordIndex D n fieldsBeforeCoordinates) (coordinates b D key))
+    (wordIndex D n (linkField D 0)) (newLinks D (f .q) (f .c))
+    ≡ sets ws (wordIndex D n 0) (newWords b D key value (slotOf n f))
+cell-written b D ws n key value f none =
+    let node = fieldWords key value f in
+    let links = newLinks D (f .q) (f .c) in
+    sets-both (sets ws (wordIndex D n 0) node) (coordinates b D key) links (wordIndex D n fieldsBeforeCoordinates) (wordIndex D n (linkField D 0))
+    (omega (arith, coordinates-length b D key))
+    ∙ sets-both ws node (coordinates b D key ++ links) (wordIndex D n 0) (wordIndex D n fieldsBeforeCoordinates) (omega arith)
+    ∙ ap (sets ws (wordIndex D n 0)) (new-words b D n key value f none)

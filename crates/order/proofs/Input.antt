@@ -1,0 +1,108 @@
+-- What the functions of the order program rest on: the list that it starts with is fresh, and what is taken byte by byte, or in parts, is
+-- taken as a whole.
+use mathlib.Core.Path.{_≡_, refl, sym, _∙_, ap}
+use mathlib.Core.Bool.{Bool, true, false, not}
+use mathlib.Core.List.{List, [], _∷_, _++_, append-nil}
+use Prim.Native.Nat.{ℕ, _+_, _-_, _<_}
+use native.Mathlib.Nat.{sub-zero}
+use native.Mathlib.Numerals.{add-one}
+use native.Mathlib.Omega.{arith}
+use lib.ListN.{length, getD, take, replicate, length-replicate}
+use lib.Seq.{take-suc}
+use Rattle.text.specs.Lines.{mostBytes, Handed, line, tooLong}
+use Rattle.text.specs.Feeding.{handedBy, handedAtEnd, begunAfterPart, handedByPart, begunIn, toldIn, Ready, Stepped, FeedEnded}
+use Rattle.text.specs.declared.feed.Feed.{Feed}
+use Rattle.text.specs.declared.feed.Fed.{Fed}
+use Rattle.text.specs.declared.feed.Told.{Told}
+use Rattle.text.specs.declared.feed.Told.the-variants.{NoLine, Line, LongLine}
+use Rattle.text.proofs.Feeding.{begun-append, handed-append}
+use Rattle.meaning.specs.Refusals.{Outcome, Meets, accepted}
+use Rattle.meaning.specs.Picture.{picture}
+use Rattle.meaning.specs.Operations.{fresh, setUpOut}
+use Rattle.meaning.specs.declared.Answer.{Answer}
+use Rattle.meaning.proofs.Computing.{computing}
+use Rattle.meaning.proofs.Outcomes.{set-up-outcome}
+use Rattle.order_step.specs.Step.{lineOutcome}
+use Rattle.order.specs.Input.{wordsAfter, BytesTaken}
+
+-- The program's numbers are in range and its array has the length for them.
+numbers-accepted : (ws : List ℕ) → length ws ≡ 11277 → setUpOut 8 1048575 512 ws ≡ accepted 0 0 0 (picture (fresh 8 1048575 512))
+unfolding computing
+numbers-accepted ws long = set-up-outcome 8 1048575 512 ws refl long
+
+pub set-up-fresh :
+    {after : List ℕ} {r : Answer} → Meets (setUpOut 8 1048575 512 (replicate 11277 0)) r after → after ≡ picture (fresh 8 1048575 512)
+set-up-fresh met =
+    met .words ∙ ap (λ (o : Outcome). o .words) (numbers-accepted (replicate 11277 0) (length-replicate {A = ℕ} 11277 0))
+
+-- One line: what was told of, by its case.
+module _ (buffer ws : List ℕ) {ended : Told} where
+  pub no-line-words : ended ≡ NoLine → ws ≡ wordsAfter (toldIn buffer ended) ws
+  unfolding toldIn wordsAfter
+  no-line-words e = rw e refl
+
+  module _ {r : Answer} {after : List ℕ} where
+    -- the bytes from 0 to n, as the code lends them
+    pub line-words :
+        {n : ℕ} → ended ≡ Line n → Meets (lineOutcome (line (take (n - 0) buffer)) ws) r after →
+        after ≡ wordsAfter (toldIn buffer ended) ws
+    unfolding toldIn wordsAfter
+    line-words {n} e met = rw (e, ← sub-zero n) (met .words)
+
+    pub long-line-words : ended ≡ LongLine → Meets (lineOutcome tooLong ws) r after → after ≡ wordsAfter (toldIn buffer ended) ws
+    unfolding toldIn wordsAfter
+    long-line-words e met = rw e (met .words)
+
+-- The end of the input: what the feed tells of is what the end hands on.
+pub end-words :
+    (buffer ws : List ℕ) {after : List ℕ} {feed : Feed} {ended : Told} → length buffer ≡ mostBytes → FeedEnded feed ended →
+    after ≡ wordsAfter (toldIn buffer ended) ws → after ≡ wordsAfter (handedAtEnd (begunIn buffer feed)) ws
+end-words buffer ws long finished e = e ∙ ap (λ (hs : List Handed). wordsAfter hs ws) (finished .told buffer long)
+
+-- One byte: what the feed tells of is what the byte hands on.
+pub byte-taken :
+    (before ws : List ℕ) {buffer after : List ℕ} {feed : Feed} {byte : ℕ} {r : Fed} → Stepped before buffer feed byte r →
+    after ≡ wordsAfter (toldIn buffer (r .told)) ws → BytesTaken (byte ∷ []) (begunIn before feed) ws buffer (r .feed) after
+unfolding begunAfterPart handedByPart
+byte-taken before ws {feed = feed} {byte} step e =
+    record {
+      ready = step .ready;
+      kept = step .begun;
+      words = e ∙ ap (λ (hs : List Handed). wordsAfter hs ws) (step .told ∙ sym (append-nil (handedBy (begunIn before feed) byte)));
+    }
+
+words-append : (hs more : List Handed) (ws : List ℕ) → wordsAfter (hs ++ more) ws ≡ wordsAfter more (wordsAfter hs ws)
+unfolding wordsAfter
+words-append [] more ws = refl
+words-append (h ∷ hs) more ws = words-append hs more (lineOutcome h ws .words)
+
+-- Some bytes, and then more.
+
+pub none-taken : {buffer ws : List ℕ} {feed : Feed} → Ready buffer feed → BytesTaken [] (begunIn buffer feed) ws buffer feed ws
+unfolding begunAfterPart handedByPart wordsAfter
+none-taken ready = record { ready = ready; kept = refl; words = refl }
+
+module _ {begun : Handed} {ws before words buffer after : List ℕ} {feed next : Feed} where
+  both-taken :
+      (bytes more : List ℕ) → BytesTaken bytes begun ws before feed words → BytesTaken more (begunIn before feed) words buffer next after →
+      BytesTaken (bytes ++ more) begun ws buffer next after
+  both-taken bytes more a b =
+      record {
+        ready = b .ready;
+        kept = b .kept ∙ ap (λ (h : Handed). begunAfterPart h more) (a .kept) ∙ sym (begun-append begun bytes more);
+        words =
+            b .words ∙ ap (λ (h : Handed). wordsAfter (handedByPart h more) words) (a .kept)
+            ∙ ap (wordsAfter (handedByPart (begunAfterPart begun bytes) more)) (a .words)
+            ∙ sym (words-append (handedByPart begun bytes) (handedByPart (begunAfterPart begun bytes) more) ws)
+            ∙ ap (λ (hs : List Handed). wordsAfter hs ws) (sym (handed-append begun bytes more));
+      }
+
+  pub one-more-taken :
+      (part : List ℕ) (i : ℕ) → i < length part → BytesTaken (take i part) begun ws before feed words →
+      BytesTaken (getD part i 0 ∷ []) (begunIn before feed) words buffer next after → BytesTaken (take (i + 1) part) begun ws buffer next after
+  one-more-taken part i h a b = rw (add-one i, take-suc part i 0 h) (both-taken (take i part) (getD part i 0 ∷ []) a b)
+
+-- A part is not taken whole where an answer was not written.
+pub not-written : (written : Bool) {n m : ℕ} → not written ≡ true → written ≡ true → n ≡ m
+not-written true f e = let z : _≡_ {A = ℕ} 0 1 = cc in omega arith
+not-written false f e = let z : _≡_ {A = ℕ} 0 1 = cc in omega arith
