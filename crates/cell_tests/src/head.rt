@@ -20,6 +20,6 @@ pub fn head_right(list: &[u32], s: Settings) -> bool
         return false;
     }
     let start = words::word_index(s, 0, words::OWED);
-    let end = start + 3 + s.dimensions as usize;
+    let end = start + (words::COORDINATES - words::OWED) as usize + s.dimensions as usize;
     lists::all_zero(&list[start..end])
 }

@@ -24,7 +24,7 @@ pub bad-key-meets :
     Meets (finishOut ws key) r ws
 bad-key-meets h key {r} bad a =
     on-listed (λ t ws s. (1 ≤ key → s .largest < key) → Meets (finishOut ws key) r ws)
-    (λ t v b. rw (finish-outcome-bad-key t v key b) (record { answered = a; words = refl })) h bad
+    (λ t v b. rw (finish-outcome-bad-key t v key b) (record { answered = a; left = refl })) h bad
 
 -- a cell owed from stands
 pub never-meets :
@@ -37,7 +37,7 @@ module _ {ws : List ℕ} {s : Settings} (h : Listed ws s) (key : ℕ) (least : 1
   pub absent-meets : {r : Answer} → f .standing ≡ false → r ≡ answer 8 key 0 0 → Meets (finishOut ws key) r ws
   absent-meets {r} e a =
       on-listed (λ t ws s. key ≤ s .largest → f ≡ foundOf t key → Meets (finishOut ws key) r ws)
-      (λ t v m q. rw (finish-outcome-absent t v key least m (found-missing v least q e .node)) (record { answered = a; words = refl })) h most is
+      (λ t v m q. rw (finish-outcome-absent t v key least m (found-missing v least q e .node)) (record { answered = a; left = refl })) h most is
 
   -- the key's cell
   pub standing-cell : f .standing ≡ true → f .c < s .cells
@@ -53,6 +53,6 @@ module _ {ws : List ℕ} {s : Settings} (h : Listed ws s) (key : ℕ) (least : 1
       let (x, found) = found-standing v least q e in
       rw (finish-outcome-standing t v key least m x (found .node), ← found .c) (record {
         answered = a ∙ ap (answer 0 key 0) (n ∙ sym (finish-moved t v (f .c) (found .c-stands)));
-        words = w ∙ sym (finish-words t v (f .c) (found .c-stands));
+        left = w ∙ sym (finish-words t v (f .c) (found .c-stands));
       }))
       h most is count written

@@ -37,12 +37,11 @@ fn move_links(list: &mut [u32], s: Settings, n: u32, c: u32, low: u32, high: u32
     requires { ⌜ Shaped (now list) s × ((n < s .cells) × ((c < s .cells) × (high ≤ s .dimensions))) ⌝ }
     ensures { λ r. ⌜ (now (list .exit) ≡ moveLinks (s .dimensions) (now (list .entry)) n c low (high - low)) × Shaped (now (list .exit)) s ⌝ }
 {
-    let first = words::COORDINATES + s.dimensions;
     let mut d = low;
     while d < high {
         let y = words::link(list, s, c, d);
-        words::store(list, s, n, first + d, y);
-        words::store(list, s, c, first + d, 0);
+        words::store_link(list, s, n, d, y);
+        words::store_link(list, s, c, d, 0);
         d += 1;
     }
 }

@@ -61,7 +61,7 @@ pub bad-key-meets :
     Meets (insertOut ws key value) r ws
 bad-key-meets h key value {r} bad a =
     on-listed (λ t ws s. (1 ≤ key → s .largest < key) → Meets (insertOut ws key value) r ws)
-    (λ t v b. rw (insert-outcome-bad-key t v key value b) (record { answered = a; words = refl })) h bad
+    (λ t v b. rw (insert-outcome-bad-key t v key value b) (record { answered = a; left = refl })) h bad
 
 -- The outcome of an accepted call is the picture of a state, at which the words us end when the path is written.
 pub record Leads (ws us : List ℕ) (s : Settings) (top key value : ℕ) (f : Found) : Type 0 where
@@ -75,11 +75,11 @@ module _ {ws us : List ℕ} {s : Settings} {top key value : ℕ} {f : Found} (l 
   leads-due e h = record { state = l .state; ending = rw (e, h) (l .ending) }
 
   -- what is left after it
-  pub leads-words : {left out : List ℕ} {high : ℕ} → left ≡ us → high ≡ top → PathWritten left out s high key (f .parent) → out ≡ insertOut ws key value .words
-  leads-words e h w = w .is (l .state) (rw (e, h) (l .ending)) ∙ sym (ap (λ o. o .words) (l .outcome))
+  pub leads-words : {left out : List ℕ} {high : ℕ} → left ≡ us → high ≡ top → PathWritten left out s high key (f .parent) → out ≡ insertOut ws key value .left
+  leads-words e h w = w .is (l .state) (rw (e, h) (l .ending)) ∙ sym (ap (λ o. o .left) (l .outcome))
 
-  pub leads-meets : {out : List ℕ} {r : Answer} → out ≡ insertOut ws key value .words → r ≡ answer 0 key 0 (f .looked) → Meets (insertOut ws key value) r out
-  leads-meets w a = record { answered = a ∙ sym (ap (λ o. o .answered) (l .outcome)); words = w }
+  pub leads-meets : {out : List ℕ} {r : Answer} → out ≡ insertOut ws key value .left → r ≡ answer 0 key 0 (f .looked) → Meets (insertOut ws key value) r out
+  leads-meets w a = record { answered = a ∙ sym (ap (λ o. o .answered) (l .outcome)); left = w }
 
 -- A key that stands
 
@@ -131,7 +131,7 @@ module _ {ws : List ℕ} {s : Settings} {key : ℕ} {f : Found} (k : Sought ws s
       (λ t v most q e.
       let (x, found) = found-standing v (k .least) q stands in
       rw (insert-outcome-live t v key value (k .least) most x (found .node) (mark-told (x .live) (e ∙ present-mark v found) one))
-      (record { answered = a ∙ ap (answer 5 key 0) (found .looked); words = refl }))
+      (record { answered = a ∙ ap (answer 5 key 0) (found .looked); left = refl }))
       word
 
   pub dead-leads : (value : ℕ) → (markAt ws (f .c) ≡ 1 → ⊥) →
@@ -290,7 +290,7 @@ module _ {ws : List ℕ} {s : Settings} {key : ℕ} {f : Found} (k : Sought ws s
       let absent = found-missing v (k .least) q missing in
       let positive = all-map (λ c h. h .0) (t .free) (free-range t v) in
       rw (insert-outcome-full t v key value (k .least) most (absent .node) (free-none (t .free) positive (e ∙ picture-free t) none))
-      (record { answered = a ∙ ap (answer 6 key 0) (absent .looked); words = refl }))
+      (record { answered = a ∙ ap (answer 6 key 0) (absent .looked); left = refl }))
       word
 
   -- a cell owed from stands

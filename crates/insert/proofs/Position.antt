@@ -2,21 +2,18 @@
 use mathlib.Core.Path.{_≡_, refl, sym, ap, _∙_, subst}
 use mathlib.Core.List.{List, _∷_, map}
 use Prim.Native.Nat.{ℕ, _+_, _-_, _≤_, _<_}
-use native.Mathlib.Omega.{arith}
-use lib.ListN.{getD}
-use Rattle.settings.specs.Numbers.{headerWords}
 use Rattle.settings.specs.declared.Settings.{Settings}
 use Rattle.lists.specs.Lists.{occurrences}
 use Rattle.meaning.specs.Row.{headNode}
 use Rattle.meaning.specs.State.{State, keyOf, positionKey}
-use Rattle.meaning.specs.Picture.{path, picture}
+use Rattle.meaning.specs.Picture.{path}
 use Rattle.meaning.specs.Layer.Paths.{pathFor}
 use Rattle.meaning.specs.Reading.{read}
 use Rattle.meaning.specs.Layer.Stores.{writePath}
-use Rattle.meaning.specs.Words.{keyAt}
+use Rattle.meaning.specs.Words.{keyAt, positionAt}
 use Rattle.meaning.specs.Layer.Listed.{Listed}
+use Rattle.meaning.proofs.Sentences.{position-is}
 use Rattle.meaning.proofs.State.{valid-sound}
-use Rattle.meaning.proofs.Reading.{position-read}
 use Rattle.meaning.proofs.Placed.{placed-keyOf, placed-below, place-key, position-placed}
 use Rattle.words.proofs.Listed.{on-listed}
 use Rattle.paths.specs.Paths.{pathOf, StandsIn, StandsInSome, CellPath}
@@ -24,16 +21,12 @@ use Rattle.paths.specs.declared.Path.{Path}
 use Rattle.insert.specs.Inserting.{Ending, EndsInSome, PathWritten}
 
 -- the last word of path is a cell, and that cell's key is the position's
-pub position-word :
-    {ws : List ℕ} {s : Settings} → Listed ws s →
-    (getD ws (4 + s .dimensions) 0 < s .cells) × (keyAt ws (getD ws (4 + s .dimensions) 0) ≡ positionKey (read ws))
-position-word =
-    on-listed (λ t ws s. (getD ws (4 + s .dimensions) 0 < s .cells) × (keyAt ws (getD ws (4 + s .dimensions) 0) ≡ positionKey t))
+pub position-cell : {ws : List ℕ} {s : Settings} → Listed ws s → (positionAt ws < s .cells) × (keyAt ws (positionAt ws) ≡ positionKey (read ws))
+position-cell =
+    on-listed (λ t ws s. (positionAt ws < s .cells) × (keyAt ws (positionAt ws) ≡ positionKey t))
     (λ t v.
-    let last : 4 + t .settings .dimensions ≡ headerWords + t .settings .dimensions - 1 = omega arith in
-    let is : getD (picture t) (4 + t .settings .dimensions) 0 ≡ t .position = ap (λ i. getD (picture t) i 0) last ∙ position-read t v in
     let (p, here) = position-placed v in
-    rw is (placed-below v here, place-key v here ∙ sym (placed-keyOf here)))
+    rw (position-is v) (placed-below v here, place-key v here ∙ sym (placed-keyOf here)))
 
 module _ {ws : List ℕ} {s : Settings} {top key parent : ℕ} where
   -- a key above the position's: the path stays

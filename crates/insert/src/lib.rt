@@ -22,8 +22,7 @@ fn position_key(list: &[u32], s: Settings) -> u32
     requires { ⌜ Listed (now list) s ⌝ }
     ensures { λ r. ⌜ r ≡ positionKey (read (now (list .entry))) ⌝ }
 {
-    let i = 4 + s.dimensions as usize;
-    words::word(list, s, list[i], words::KEY)
+    words::word(list, s, words::position(list, s), words::KEY)
 }
 
 // "If the key is at or below the position's, the position becomes the parent of that cell in the settled shape." The position's key
@@ -42,7 +41,7 @@ fn move_position(list: &mut [u32], s: Settings, top: u32, key: u32, parent: u32)
 // "A standing dead key gets the new value and mark 1, with no link changed and nothing finished."
 fn revive(list: &mut [u32], s: Settings, f: Found, key: u32, value: u32)
     requires { ⌜ Sought (now list) s key f × ((f .standing ≡ true) × (markAt (now list) (f .c) ≡ 1 → ⊥)) ⌝ }
-    ensures { λ r. ⌜ now (list .exit) ≡ insertOut (now (list .entry)) key value .words ⌝ }
+    ensures { λ r. ⌜ now (list .exit) ≡ insertOut (now (list .entry)) key value .left ⌝ }
 {
     let top = position_key(list, s);
     words::store(list, s, f.c, words::VALUE, value);
@@ -65,7 +64,7 @@ fn finish_neighbours(list: &mut [u32], s: Settings, f: Found)
 // A new cell n, the first free one, in the slot that was found.
 fn add(list: &mut [u32], s: Settings, n: u32, f: Found, key: u32, value: u32)
     requires { ⌜ Sought (now list) s key f × ((f .standing ≡ false) × ((n ≡ getD (now list) 4 0) × (0 < n))) ⌝ }
-    ensures { λ r. ⌜ now (list .exit) ≡ insertOut (now (list .entry)) key value .words ⌝ }
+    ensures { λ r. ⌜ now (list .exit) ≡ insertOut (now (list .entry)) key value .left ⌝ }
 {
     let top = position_key(list, s);
     finish_neighbours(list, s, f);
@@ -73,8 +72,7 @@ fn add(list: &mut [u32], s: Settings, n: u32, f: Found, key: u32, value: u32)
     list[words::FIRST_FREE] = words::word(list, s, n, words::KEY);
     new_cell::write_cell(list, s, n, f, key, value);
     let parent = f.parent;
-    let link = words::COORDINATES + s.dimensions + f.p;
-    words::store(list, s, parent, link, n);
+    words::store_link(list, s, parent, f.p, n);
     move_position(list, s, top, key, parent);
 }
 

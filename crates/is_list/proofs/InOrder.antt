@@ -71,11 +71,6 @@ pub agreed-run :
 unfolding agreedAt
 agreed-run h y {e} {agreed} le = rw (le-ltb agreed e le, shaped-dimensions h) refl
 
-pub position-is : {ws : List ℕ} {s : Settings} → Shaped ws s → getD ws (4 + s .dimensions) 0 ≡ positionAt ws
-position-is {ws} {s} h =
-    let k : 4 + s .dimensions ≡ headerWords + dimensionsAt ws - 1 = omega (arith, shaped-dimensions h) in
-    rw k refl
-
 -- A cell is entered
 
 module _ (ws : List ℕ) (y e : ℕ) (seen : Seen) where

@@ -1,7 +1,6 @@
 // The words of path, beside the way down to the cell read last.
 ghost use mathlib.Core.Path.{_≡_};
 ghost use Prim.Native.Nat.{_-_, _≤_, _<_};
-ghost use Rattle.meaning.specs.Words.{positionAt};
 ghost use Rattle.words.specs.Shaped.{Shaped};
 ghost use Rattle.tree.specs.Tree.{pathRun, agreedAt};
 use settings::Settings;
@@ -30,13 +29,4 @@ pub fn agreed_at(list: &[u32], s: Settings, y: u32, e: u32, agreed: u32) -> u32
         return agreed;
     }
     path_run(list, s, y, e)
-}
-
-// The cell that the last path word names.
-pub fn position_word(list: &[u32], s: Settings) -> u32
-    requires { ⌜ Shaped (now list) s ⌝ }
-    ensures { λ r. ⌜ r ≡ positionAt (now (list .entry)) ⌝ }
-{
-    let i = 4 + s.dimensions as usize;
-    list[i]
 }

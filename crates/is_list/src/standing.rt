@@ -18,7 +18,7 @@ pub fn at_head(list: &[u32], s: Settings) -> Seen
 {
     let agreed = path::path_run(list, s, 0, 0);
     let left = s.cells - 1;
-    if path::position_word(list, s) != 0 {
+    if words::position(list, s) != 0 {
         return Seen {
             right: true,
             left,
@@ -59,7 +59,7 @@ fn enter(list: &[u32], s: Settings, y: u32, e: u32, seen: Seen) -> Seen
     }
     let agreed = path::agreed_at(list, s, y, e, seen.agreed);
     let left = seen.left - 1;
-    if y == path::position_word(list, s) {
+    if y == words::position(list, s) {
         if agreed != s.dimensions {
             return wrong(seen);
         }

@@ -16,7 +16,7 @@ use Rattle.text.specs.Answers.{FieldEnd, numberOf}
 use Rattle.text.specs.declared.fields.Numeral.the-variants.{Value}
 use Rattle.text.specs.declared.fields.Numeral.the-variants as numeral
 use Rattle.text.proofs.Numerals.{last-field, next-field, some-field, number-value, number-within}
-use Rattle.lines.specs.Grammar.{isClass, isUnit, isValue, entry, readable, insertFields, entryFields, noFields, kindOf, parsedOf, InRange}
+use Rattle.lines.specs.Grammar.{isClass, isUnit, isValue, entry, readable, insertFields, entryFields, noFields, kindOf, parsedOf, InRange, leastClass, mostClass, leastUnit, mostUnit, leastValue, mostValue, KindInRange}
 use Rattle.lines.specs.Answers.{fieldsAfter, firstNumber, firstEntry, NumberAfter, EntryAfter}
 use Rattle.lines.specs.declared.Entry.{Entry}
 use Rattle.lines.specs.declared.Kind.{Kind}
@@ -93,10 +93,10 @@ withUnit class (some (unit, fields)) = some (record { class = class; unit = unit
 withUnit class none = none
 
 abbrev withClass : Option (ℕ × List (List ℕ)) → Option (Entry × List (List ℕ))
-withClass (some (class, fields)) = withUnit class (firstNumber 1 65535 fields)
+withClass (some (class, fields)) = withUnit class (firstNumber leastUnit mostUnit fields)
 withClass none = none
 
-entry-steps : (fields : List (List ℕ)) → firstEntry fields ≡ withClass (firstNumber 0 15 fields)
+entry-steps : (fields : List (List ℕ)) → firstEntry fields ≡ withClass (firstNumber leastClass mostClass fields)
 unfolding firstEntry firstNumber
 entry-steps [] = refl
 entry-steps (class ∷ []) = at-class (isClass class)
@@ -120,11 +120,11 @@ entry-steps (class ∷ unit ∷ fields) = at-class (isClass class)
     at-class true = at-unit (isUnit unit)
     at-class false = refl
 
-module _ {line : List ℕ} {at : ℕ} {r : NumberRead} (first : NumberAfter line at 0 15 r) where
+module _ {line : List ℕ} {at : ℕ} {r : NumberRead} (first : NumberAfter line at leastClass mostClass r) where
   pub class-none : r ≡ NoNumber → EntryAfter line at NoEntry
   class-none e = record { is = rw (entry-steps (fieldsAfter line at), ← first .is, e) refl; within = omega arith }
 
-  module _ {class next : ℕ} {s : NumberRead} (e : r ≡ Number class next) (second : NumberAfter line next 1 65535 s) where
+  module _ {class next : ℕ} {s : NumberRead} (e : r ≡ Number class next) (second : NumberAfter line next leastUnit mostUnit s) where
     pub unit-none : s ≡ NoNumber → EntryAfter line at NoEntry
     unit-none f = record { is = rw (entry-steps (fieldsAfter line at), ← first .is, e, ← second .is, f) refl; within = omega arith }
 
@@ -164,7 +164,7 @@ ofValue e (some (value, fields)) = noFields (Insert e value) fields
 ofValue e none = Unreadable
 
 abbrev ofInsert : Option (Entry × List (List ℕ)) → Parsed
-ofInsert (some (e, fields)) = ofValue e (firstNumber 0 4294967295 fields)
+ofInsert (some (e, fields)) = ofValue e (firstNumber leastValue mostValue fields)
 ofInsert none = Unreadable
 
 insert-line-steps : (fields : List (List ℕ)) → insertFields fields ≡ ofInsert (firstEntry fields)
@@ -214,7 +214,7 @@ module _ {line : List ℕ} {r : EntryRead} (first : EntryAfter line 1 r) where
   pub insert-line-none : r ≡ NoEntry → Unreadable ≡ insertFields (fieldsAfter line 1)
   insert-line-none e = rw (insert-line-steps (fieldsAfter line 1), ← first .is, e) refl
 
-  module _ {e : Entry} {next : ℕ} {s : NumberRead} (f : r ≡ Fields e next) (third : NumberAfter line next 0 4294967295 s) where
+  module _ {e : Entry} {next : ℕ} {s : NumberRead} (f : r ≡ Fields e next) (third : NumberAfter line next leastValue mostValue s) where
     pub value-none : s ≡ NoNumber → Unreadable ≡ insertFields (fieldsAfter line 1)
     value-none g = rw (insert-line-steps (fieldsAfter line 1), ← first .is, f, ← third .is, g) refl
 
@@ -275,19 +275,11 @@ module _ (line : List ℕ) where
 entry-in-range : (class unit : List ℕ) → isClass class ≡ true → isUnit unit ≡ true → InRange (entry class unit)
 unfolding numberOf
 entry-in-range class unit c u =
-    let d : numberOf 0 15 class ≡ Value (decimalFrom 0 class) = rw c refl in
-    let e : numberOf 1 65535 unit ≡ Value (decimalFrom 0 unit) = rw u refl in
-    let p = number-within 0 15 class d in
-    let q = number-within 1 65535 unit e in
+    let d : numberOf leastClass mostClass class ≡ Value (decimalFrom 0 class) = rw c refl in
+    let e : numberOf leastUnit mostUnit unit ≡ Value (decimalFrom 0 unit) = rw u refl in
+    let p = number-within leastClass mostClass class d in
+    let q = number-within leastUnit mostUnit unit e in
     record { class-most = p .1; unit-least = q .0; unit-most = q .1 }
-
--- the entry of a kind of line, where it has one, is in range
-abbrev KindInRange : Kind → Type 0
-KindInRange (Insert e value) = InRange e
-KindInRange (Find e) = InRange e
-KindInRange (Finish e) = InRange e
-KindInRange Take = Unit {0}
-KindInRange Sweep = Unit {0}
 
 abbrev ParsedInRange : Parsed → Type 0
 ParsedInRange (Readable l) = KindInRange (l .kind)
@@ -346,13 +338,6 @@ parsed-in-range : (line : List ℕ) → ParsedInRange (parsedOf line)
 unfolding parsedOf
 parsed-in-range line = either (leb 1 (length line) && leb (length line) mostBytes) _ _ (kind-in-range (fieldsOf line)) tt
 
--- A line that `parse` reads has its entry in range, so that `key` may be asked of it.
-module _ (line : List ℕ) {l : Line} {e : Entry} (reads : parsedOf line ≡ Readable l) where
-  pub insert-in-range : {value : ℕ} → l .kind ≡ Insert e value → InRange e
-  insert-in-range is = rw (reads, is) at (parsed-in-range line)
-
-  pub find-in-range : l .kind ≡ Find e → InRange e
-  find-in-range is = rw (reads, is) at (parsed-in-range line)
-
-  pub finish-in-range : l .kind ≡ Finish e → InRange e
-  finish-in-range is = rw (reads, is) at (parsed-in-range line)
+-- A line that `parse` reads has its entry in range, so that it has a key.
+pub read-in-range : (line : List ℕ) {l : Line} → parsedOf line ≡ Readable l → KindInRange (l .kind)
+read-in-range line reads = rw reads at (parsed-in-range line)

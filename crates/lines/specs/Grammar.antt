@@ -15,24 +15,53 @@ use Rattle.lines.specs.declared.Parsed.{Parsed}
 use Rattle.lines.specs.declared.Parsed.the-variants.{Readable, Unreadable}
 
 -- "An entry has a class 0 to 15 (0 most urgent) and a unit 1 to 65,535."
+abbrev pub leastClass : ℕ
+leastClass = 0
+
+abbrev pub mostClass : ℕ
+mostClass = 15
+
+abbrev pub leastUnit : ℕ
+leastUnit = 1
+
+abbrev pub mostUnit : ℕ
+mostUnit = 65535
+
 abbrev pub isClass : List ℕ → Bool
-isClass field = isNumber 0 15 field
+isClass field = isNumber leastClass mostClass field
 
 abbrev pub isUnit : List ℕ → Bool
-isUnit field = isNumber 1 65535 field
+isUnit field = isNumber leastUnit mostUnit field
 
 -- "values: 32 bits"
+abbrev pub leastValue : ℕ
+leastValue = 0
+
+abbrev pub mostValue : ℕ
+mostValue = 4294967295
+
 abbrev pub isValue : List ℕ → Bool
-isValue field = isNumber 0 4294967295 field
+isValue field = isNumber leastValue mostValue field
 
 pub record InRange (e : Entry) : Type 0 where
-  pub class-most : e .class ≤ 15
-  pub unit-least : 1 ≤ e .unit
-  pub unit-most : e .unit ≤ 65535
+  pub class-most : e .class ≤ mostClass
+  pub unit-least : leastUnit ≤ e .unit
+  pub unit-most : e .unit ≤ mostUnit
+
+-- the entry of a kind of line, where it has one, is in range
+abbrev pub KindInRange : Kind → Type 0
+KindInRange (Insert e value) = InRange e
+KindInRange (Find e) = InRange e
+KindInRange (Finish e) = InRange e
+KindInRange Take = Unit {0}
+KindInRange Sweep = Unit {0}
 
 -- "Its key is class x 65,536 + unit."
+abbrev pub keysPerClass : ℕ
+keysPerClass = 65536
+
 abbrev pub entryKey : Entry → ℕ
-entryKey e = e .class * 65536 + e .unit
+entryKey e = e .class * keysPerClass + e .unit
 
 abbrev pub entry : List ℕ → List ℕ → Entry
 entry class unit = record { class = decimalFrom 0 class; unit = decimalFrom 0 unit }

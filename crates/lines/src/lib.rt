@@ -58,6 +58,8 @@ const LEAST_UNIT: u32 = 1;
 
 const MOST_UNIT: u32 = 65535;
 
+const KEYS_PER_CLASS: u32 = 65536;
+
 // "values: 32 bits"
 const LEAST_VALUE: u32 = 0;
 
@@ -81,7 +83,7 @@ pub fn entry_key(e: Entry) -> u32
     requires { ⌜ InRange e ⌝ }
     ensures { λ r. ⌜ r ≡ entryKey e ⌝ }
 {
-    e.class * 65536 + e.unit
+    e.class * KEYS_PER_CLASS + e.unit
 }
 
 // The number from `least` to `most` that is the field after the one that ends at `at`.

@@ -3,8 +3,10 @@
 // `requires`, and each contract is the whole outcome that document 01 gives the call: the four numbers and every word.
 ghost use Rattle.meaning.specs.Refusals.{Meets};
 ghost use Rattle.meaning.specs.Operations.{setUpOut, insertOut, findOut, finishOut, takeOut, sweepOut};
+ghost use Rattle.meaning.specs.Calls.{outcome};
 use is_list::Reading;
 use meaning::Answer;
+use meaning::Call;
 
 // Makes the lent words a fresh list with D dimensions, largest key K and C cells.
 #[no_mangle]
@@ -67,4 +69,18 @@ pub extern "C" fn mdlist_sweep(list: &mut [u32]) -> Answer
         return meaning::refused(meaning::NOT_A_LIST);
     };
     sweep::sweep(list, s)
+}
+
+// Makes a call: for programs that read calls and make them one after the other.
+pub fn make(list: &mut [u32], call: Call) -> Answer
+    ensures { λ r. ⌜ Meets (outcome call (now (list .entry))) r (now (list .exit)) ⌝ }
+{
+    match call {
+        Call::SetUp(d, k, c) => return mdlist_set_up(d, k, c, list),
+        Call::Insert(key, value) => return mdlist_insert(list, key, value),
+        Call::Find(key) => return mdlist_find(list, key),
+        Call::Finish(key) => return mdlist_finish(list, key),
+        Call::Take => return mdlist_take(list),
+        Call::Sweep => return mdlist_sweep(list),
+    }
 }

@@ -17,9 +17,11 @@ use Rattle.meaning.specs.Picture.{picture}
 use Rattle.meaning.specs.Reading.{isList}
 use Rattle.meaning.specs.Refusals.{Outcome, accepted, nothingLive, refused}
 use Rattle.meaning.specs.Operations.{fresh, setUpOut, fromLive, keysAbove, keysPassed, taken, takeOut}
-use Rattle.meaning.specs.Calls.{Call, set-up, outcome, afterCalls}
+use Rattle.meaning.specs.Calls.{outcome, afterCalls}
 use Rattle.meaning.specs.Book.{Pair, pair, livePairs, bookOf, bookedAll}
 use Rattle.meaning.specs.Promises.{ListsStayLists, CallsKeepLists, takes, TakesInTurn, TakesEnd, CallsAreBooked}
+use Rattle.meaning.specs.declared.Call.the-variants.{SetUp}
+use Rattle.meaning.specs.declared.Call.{Call}
 use Rattle.meaning.proofs.State.{Sound}
 use Rattle.meaning.proofs.Picture.{picture-largest, picture-cells}
 use Rattle.meaning.proofs.Reading.{read-of-picture, picture-is-list}
@@ -33,14 +35,14 @@ use Rattle.meaning.proofs.BookCalls.{bookIn, call-booked, taken-pairs}
 
 pub calls-keep-lists : CallsKeepLists
 calls-keep-lists call =
-    on-lists (λ ws. isList (outcome call ws .words) ≡ true) (λ s v.
+    on-lists (λ ws. isList (outcome call ws .left) ≡ true) (λ s v.
     let r = call-booked call s v in
-    ap isList (r .words) ∙ picture-is-list (r .after) (r .sound))
+    ap isList (r .left) ∙ picture-is-list (r .after) (r .sound))
 
 calls-after-keep : (calls : List Call) (ws : List ℕ) → isList ws ≡ true → isList (afterCalls calls ws) ≡ true
 unfolding afterCalls
 calls-after-keep [] ws e = e
-calls-after-keep (call ∷ calls) ws e = calls-after-keep calls (outcome call ws .words) (calls-keep-lists call ws e)
+calls-after-keep (call ∷ calls) ws e = calls-after-keep calls (outcome call ws .left) (calls-keep-lists call ws e)
 
 -- The live pairs and the standing keys
 
@@ -56,7 +58,7 @@ unfolding afterCalls bookedAll
 calls-booked [] s v = book-of-picture s v
 calls-booked (call ∷ calls) s v =
     let r = call-booked call s v in
-    ap (λ ws. bookOf (afterCalls calls ws)) (r .words)
+    ap (λ ws. bookOf (afterCalls calls ws)) (r .left)
     ∙ calls-booked calls (r .after) (r .sound)
     ∙ ap₂ (bookedAll calls) (r .long) (r .book)
 
@@ -68,11 +70,11 @@ calls-are-booked calls =
 -- Takes
 
 -- what a take's outcome makes of the takes from there on
-takes-by : (n : ℕ) (ws : List ℕ) (o : Outcome) → takeOut ws ≡ o →
-    takes (suc n) ws ≡ elim (eqb (o .answered .refusal) 0) [ true ↦ record { key = o .answered .key; value = o .answered .value } ∷ takes n (o .words) | false ↦ [] ]
+takes-by : (n : ℕ) (ws : List ℕ) (o : Outcome (List ℕ)) → takeOut ws ≡ o →
+    takes (suc n) ws ≡ elim (eqb (o .answered .refusal) 0) [ true ↦ record { key = o .answered .key; value = o .answered .value } ∷ takes n (o .left) | false ↦ [] ]
 unfolding takes
 takes-by n ws o e =
-    ap {B = List Pair} (λ p. elim (eqb (p .answered .refusal) 0) [ true ↦ record { key = p .answered .key; value = p .answered .value } ∷ takes n (p .words) | false ↦ [] ]) e
+    ap {B = List Pair} (λ p. elim (eqb (p .answered .refusal) 0) [ true ↦ record { key = p .answered .key; value = p .answered .value } ∷ takes n (p .left) | false ↦ [] ]) e
 
 pub takes-none : (n : ℕ) (s : State) → Sound s → fromLive (s .row) ≡ [] → takes (suc n) (picture s) ≡ []
 takes-none n s v e = takes-by n (picture s) (refused (nothingLive (keysAbove (positionKey s) (s .row))) (picture s)) (take-outcome-none s v e)
@@ -121,15 +123,15 @@ takes-end = on-lists (λ ws. (takeOut ws .answered .refusal ≡ 7) ↔ (livePair
 
 -- From a fresh list on
 
-set-up-list : (D K C : ℕ) (ws : List ℕ) → outcome (set-up D K C) ws .answered .refusal ≡ 0 → isList (outcome (set-up D K C) ws .words) ≡ true
+set-up-list : (D K C : ℕ) (ws : List ℕ) → outcome (SetUp D K C) ws .answered .refusal ≡ 0 → isList (outcome (SetUp D K C) ws .left) ≡ true
 unfolding outcome
 set-up-list D K C ws accepted = at (inRange D K C) refl (ℕ-discrete (length ws) (lengthOf D C))
   where
-    at : (t : Bool) → inRange D K C ≡ t → Dec (length ws ≡ lengthOf D C) → isList (setUpOut D K C ws .words) ≡ true
+    at : (t : Bool) → inRange D K C ≡ t → Dec (length ws ≡ lengthOf D C) → isList (setUpOut D K C ws .left) ≡ true
     at false e l = absurd (let r = ap (λ o. o .answered .refusal) (set-up-outcome-out-of-range D K C ws e) in omega arith)
     at true e (no l) = absurd (let r = ap (λ o. o .answered .refusal) (set-up-outcome-wrong-length D K C ws e l) in omega arith)
-    at true e (yes l) = ap (λ o. isList (o .words)) (set-up-outcome D K C ws e l) ∙ picture-is-list (fresh D K C) (fresh-sound D K C e)
+    at true e (yes l) = ap (λ o. isList (o .left)) (set-up-outcome D K C ws e l) ∙ picture-is-list (fresh D K C) (fresh-sound D K C e)
 
 pub lists-stay-lists : ListsStayLists
 lists-stay-lists ws f =
-    ap isList (f .words) ∙ calls-after-keep (f .calls) (outcome (set-up (f .D) (f .K) (f .C)) (f .lent) .words) (set-up-list (f .D) (f .K) (f .C) (f .lent) (f .accepted))
+    ap isList (f .left) ∙ calls-after-keep (f .calls) (outcome (SetUp (f .D) (f .K) (f .C)) (f .lent) .left) (set-up-list (f .D) (f .K) (f .C) (f .lent) (f .accepted))

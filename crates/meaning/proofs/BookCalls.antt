@@ -16,8 +16,10 @@ use Rattle.meaning.specs.Row.{Node, nodeAt}
 use Rattle.meaning.specs.State.{State}
 use Rattle.meaning.specs.Picture.{picture}
 use Rattle.meaning.specs.Operations.{fresh, paid, finished, withRow, revivedNode, revived, Slot, newNode, slotFor, slotOwes, added, deadFront, fromLive, deadNode, taken, swept}
-use Rattle.meaning.specs.Calls.{Call, set-up, insert-key, find-key, finish-key, take-least, sweep-dead, outcome}
+use Rattle.meaning.specs.Calls.{outcome}
 use Rattle.meaning.specs.Book.{Pair, pair, Book, hasKey, putPair, putKey, inserted, keptFrom, booked}
+use Rattle.meaning.specs.declared.Call.the-variants.{SetUp, Insert, Find, Finish, Take, Sweep}
+use Rattle.meaning.specs.declared.Call.{Call}
 use Rattle.meaning.proofs.Order.{Asc}
 use Rattle.meaning.proofs.State.{Sound}
 use Rattle.meaning.proofs.Cells.{free-length}
@@ -39,13 +41,13 @@ bookIn s = record { largest = s .settings .largest; cells = s .settings .cells; 
 pub record Booking (call : Call) (s : State) : Type 0 where
   pub after : State
   pub sound : Sound after
-  pub words : outcome call (picture s) .words ≡ picture after
+  pub left : outcome call (picture s) .left ≡ picture after
   pub long : length (picture after) ≡ length (picture s)
   pub book : bookIn after ≡ booked call (length (picture s)) (bookIn s)
 
 -- a call that writes nothing
-still : (call : Call) (s : State) → Sound s → outcome call (picture s) .words ≡ picture s → booked call (length (picture s)) (bookIn s) ≡ bookIn s → Booking call s
-still call s v words book = record { after = s; sound = v; words = words; long = refl; book = sym book }
+still : (call : Call) (s : State) → Sound s → outcome call (picture s) .left ≡ picture s → booked call (length (picture s)) (bookIn s) ≡ bookIn s → Booking call s
+still call s v words book = record { after = s; sound = v; left = words; long = refl; book = sym book }
 
 -- the book of a state with the settings of another one
 book-is : (s t : State) (pairs : List Pair) (keys : List ℕ) → t .settings ≡ s .settings → pairsIn (t .row) ≡ pairs → keysIn (t .row) ≡ keys →
@@ -58,7 +60,7 @@ same-length s t e = picture-length t ∙ ap (λ n. lengthOf (n .dimensions) (n .
 
 -- Set up
 
-pub set-up-booked : (D K C : ℕ) (s : State) → Sound s → Booking (set-up D K C) s
+pub set-up-booked : (D K C : ℕ) (s : State) → Sound s → Booking (SetUp D K C) s
 unfolding outcome booked fresh those
 set-up-booked D K C s v = at (inRange D K C) refl (ℕ-discrete (length (picture s)) (lengthOf D C))
   where
@@ -68,18 +70,18 @@ set-up-booked D K C s v = at (inRange D K C) refl (ℕ-discrete (length (picture
     new : Book
     new = record { largest = K; cells = C; pairs = []; standing = [] }
 
-    at : (t : Bool) → inRange D K C ≡ t → Dec (long ≡ lengthOf D C) → Booking (set-up D K C) s
+    at : (t : Bool) → inRange D K C ≡ t → Dec (long ≡ lengthOf D C) → Booking (SetUp D K C) s
     at false e l =
-        still (set-up D K C) s v (ap (λ o. o .words) (set-up-outcome-out-of-range D K C (picture s) e))
+        still (SetUp D K C) s v (ap (λ o. o .left) (set-up-outcome-out-of-range D K C (picture s) e))
         (ap (λ t. cond (t && eqb long (lengthOf D C)) new (bookIn s)) e)
     at true e (no l) =
-        still (set-up D K C) s v (ap (λ o. o .words) (set-up-outcome-wrong-length D K C (picture s) e l))
+        still (SetUp D K C) s v (ap (λ o. o .left) (set-up-outcome-wrong-length D K C (picture s) e l))
         (ap₂ (λ t u. cond (t && u) new (bookIn s)) e (ne-eqb long (lengthOf D C) l))
     at true e (yes l) =
         record {
           after = fresh D K C;
           sound = fresh-sound D K C e;
-          words = ap (λ o. o .words) (set-up-outcome D K C (picture s) e l);
+          left = ap (λ o. o .left) (set-up-outcome D K C (picture s) e l);
           long = picture-length (fresh D K C) ∙ sym l;
           book = sym (ap₂ (λ t u. cond (t && u) new (bookIn s)) e (eq-eqb long (lengthOf D C) l));
         }
@@ -110,11 +112,11 @@ unfolding inserted
 inserted-new key value k e f h = rw (e, f, lt-ltb (suc (length (k .standing))) (k .cells) h) refl
 
 -- a key in range is tried, another one is not
-booked-tried : (key value long : ℕ) (k : Book) → 1 ≤ key → key ≤ k .largest → booked (insert-key key value) long k ≡ inserted key value k
+booked-tried : (key value long : ℕ) (k : Book) → 1 ≤ key → key ≤ k .largest → booked (Insert key value) long k ≡ inserted key value k
 unfolding booked
 booked-tried key value long k l h = rw (le-leb 1 key l, le-leb key (k .largest) h) refl
 
-booked-untried : (key value long : ℕ) (k : Book) → (1 ≤ key → k .largest < key) → booked (insert-key key value) long k ≡ k
+booked-untried : (key value long : ℕ) (k : Book) → (1 ≤ key → k .largest < key) → booked (Insert key value) long k ≡ k
 unfolding booked
 booked-untried key value long k f = at (decLe 1 key)
   where
@@ -189,7 +191,7 @@ module _ (s : State) (v : Sound s) (key value : ℕ) (t : Slot) (absent : nodeAt
       ∙ ap (putKey key) (finished-keys (t .c) (finished (t .parent) (s .row)) ∙ finished-keys (t .parent) (s .row))
 
 module _ (s : State) (v : Sound s) (key value : ℕ) (l : 1 ≤ key) (h : key ≤ s .settings .largest) where
-  tried : booked (insert-key key value) (length (picture s)) (bookIn s) ≡ inserted key value (bookIn s)
+  tried : booked (Insert key value) (length (picture s)) (bookIn s) ≡ inserted key value (bookIn s)
   tried = booked-tried key value (length (picture s)) (bookIn s) l h
 
   lives : (o : Option Node) → nodeAt key (s .row) ≡ o → hasKey key (map (λ p. p .key) (pairsIn (s .row))) ≡ isLive o
@@ -198,19 +200,19 @@ module _ (s : State) (v : Sound s) (key value : ℕ) (l : 1 ≤ key) (h : key �
   stands : (o : Option Node) → nodeAt key (s .row) ≡ o → hasKey key (keysIn (s .row)) ≡ isThere o
   stands o e = key-stands key (s .row) ∙ ap isThere e
 
-  insert-live-booked : (x : Node) → nodeAt key (s .row) ≡ some x → x .live ≡ true → Booking (insert-key key value) s
+  insert-live-booked : (x : Node) → nodeAt key (s .row) ≡ some x → x .live ≡ true → Booking (Insert key value) s
   unfolding outcome
   insert-live-booked x e live =
-      still (insert-key key value) s v (ap (λ o. o .words) (insert-outcome-live s v key value l h x e live))
+      still (Insert key value) s v (ap (λ o. o .left) (insert-outcome-live s v key value l h x e live))
       (tried ∙ inserted-live key value (bookIn s) (lives (some x) e ∙ live))
 
-  insert-dead-booked : (x : Node) → nodeAt key (s .row) ≡ some x → x .live ≡ false → Booking (insert-key key value) s
+  insert-dead-booked : (x : Node) → nodeAt key (s .row) ≡ some x → x .live ≡ false → Booking (Insert key value) s
   unfolding outcome revived
   insert-dead-booked x e dead =
       record {
         after = revived s x value;
         sound = revived-sound s x value v (subst (λ k. nodeAt k (s .row) ≡ some x) (sym (node-key key x (s .row) e)) e) dead;
-        words = ap (λ o. o .words) (insert-outcome-dead s v key value l h x e dead);
+        left = ap (λ o. o .left) (insert-outcome-dead s v key value l h x e dead);
         long = same-length s (revived s x value) refl;
         book =
             book-is s (revived s x value) (putPair (record { key = key; value = value }) (pairsIn (s .row))) (keysIn (s .row))
@@ -218,20 +220,20 @@ module _ (s : State) (v : Sound s) (key value : ℕ) (l : 1 ≤ key) (h : key �
             ∙ sym (tried ∙ inserted-dead key value (bookIn s) (lives (some x) e ∙ dead) (stands (some x) e));
       }
 
-  insert-full-booked : nodeAt key (s .row) ≡ none → length (s .free) ≡ 0 → Booking (insert-key key value) s
+  insert-full-booked : nodeAt key (s .row) ≡ none → length (s .free) ≡ 0 → Booking (Insert key value) s
   unfolding outcome
   insert-full-booked e full =
-      still (insert-key key value) s v (ap (λ o. o .words) (insert-outcome-full s v key value l h e full))
+      still (Insert key value) s v (ap (λ o. o .left) (insert-outcome-full s v key value l h e full))
       (tried ∙ inserted-full key value (bookIn s) (lives none e) (stands none e) (let n = room s v in omega arith))
 
-  insert-new-booked : nodeAt key (s .row) ≡ none → 0 < length (s .free) → Booking (insert-key key value) s
+  insert-new-booked : nodeAt key (s .row) ≡ none → 0 < length (s .free) → Booking (Insert key value) s
   unfolding outcome added
   insert-new-booked e space =
       let t = slotFor s key in
       record {
         after = added s key value t;
         sound = added-sound s key value v l h e space;
-        words = ap (λ o. o .words) (insert-outcome-new s v key value l h e space);
+        left = ap (λ o. o .left) (insert-outcome-new s v key value l h e space);
         long = same-length s (added s key value t) refl;
         book =
             book-is s (added s key value t) (putPair (record { key = key; value = value }) (pairsIn (s .row))) (putKey key (keysIn (s .row)))
@@ -239,34 +241,34 @@ module _ (s : State) (v : Sound s) (key value : ℕ) (l : 1 ≤ key) (h : key �
             ∙ sym (tried ∙ inserted-new key value (bookIn s) (lives none e) (stands none e) (let n = room s v in omega arith));
       }
 
-pub insert-booked : (key value : ℕ) (s : State) → Sound s → Booking (insert-key key value) s
+pub insert-booked : (key value : ℕ) (s : State) → Sound s → Booking (Insert key value) s
 unfolding outcome
 insert-booked key value s v =
     key-cases s key
-    (λ n. still (insert-key key value) s v (ap (λ o. o .words) (insert-outcome-bad-key s v key value n)) (booked-untried key value (length (picture s)) (bookIn s) n))
+    (λ n. still (Insert key value) s v (ap (λ o. o .left) (insert-outcome-bad-key s v key value n)) (booked-untried key value (length (picture s)) (bookIn s) n))
     (λ l h e. free-cases s (insert-full-booked s v key value l h e) (insert-new-booked s v key value l h e))
     (λ l h x e. live-cases x (insert-live-booked s v key value l h x e) (insert-dead-booked s v key value l h x e))
 
 -- Find
 
-pub find-booked : (key : ℕ) (s : State) → Sound s → Booking (find-key key) s
+pub find-booked : (key : ℕ) (s : State) → Sound s → Booking (Find key) s
 unfolding outcome booked
-find-booked key s v = still (find-key key) s v (find-writes-nothing (picture s) key) refl
+find-booked key s v = still (Find key) s v (find-writes-nothing (picture s) key) refl
 
 -- Finish
 
-pub finish-booked : (key : ℕ) (s : State) → Sound s → Booking (finish-key key) s
+pub finish-booked : (key : ℕ) (s : State) → Sound s → Booking (Finish key) s
 unfolding outcome booked
 finish-booked key s v =
     key-cases s key
-    (λ n. still (finish-key key) s v (ap (λ o. o .words) (finish-outcome-bad-key s v key n)) refl)
-    (λ l h e. still (finish-key key) s v (ap (λ o. o .words) (finish-outcome-absent s v key l h e)) refl)
+    (λ n. still (Finish key) s v (ap (λ o. o .left) (finish-outcome-bad-key s v key n)) refl)
+    (λ l h e. still (Finish key) s v (ap (λ o. o .left) (finish-outcome-absent s v key l h e)) refl)
     (λ l h x e.
     let t = withRow s (finished (x .cell) (s .row)) in
     record {
       after = t;
       sound = finished-sound s (x .cell) v;
-      words = ap (λ o. o .words) (finish-outcome-standing s v key l h x e);
+      left = ap (λ o. o .left) (finish-outcome-standing s v key l h x e);
       long = same-length s t refl;
       book = book-is s t (pairsIn (s .row)) (keysIn (s .row)) refl (finished-pairs (x .cell) (s .row)) (finished-keys (x .cell) (s .row));
     })
@@ -285,23 +287,23 @@ pub taken-keys : (s : State) (x : Node) → keysIn (taken s x .row) ≡ keysIn (
 unfolding taken
 taken-keys s x = keys-changed (onCell (x .cell) deadNode) (dead-keeping (x .cell)) (s .row)
 
-pub take-booked : (s : State) → Sound s → Booking take-least s
+pub take-booked : (s : State) → Sound s → Booking Take s
 unfolding outcome booked taken
 take-booked s v = at (fromLive (s .row)) refl
   where
     gone : List Pair → Book
     gone pairs = record { largest = s .settings .largest; cells = s .settings .cells; pairs = drop 1 pairs; standing = keysIn (s .row) }
 
-    at : (rest : List Node) → fromLive (s .row) ≡ rest → Booking take-least s
+    at : (rest : List Node) → fromLive (s .row) ≡ rest → Booking Take s
     at [] e =
         let none = pairs-empty (s .row) e in
-        still take-least s v (ap (λ o. o .words) (take-outcome-none s v e))
+        still Take s v (ap (λ o. o .left) (take-outcome-none s v e))
         (ap gone none ∙ sym (book-is s s [] (keysIn (s .row)) refl none refl))
     at (x ∷ later) e =
         record {
           after = taken s x;
           sound = taken-sound s x later v e;
-          words = ap (λ o. o .words) (take-outcome-first s v x later e);
+          left = ap (λ o. o .left) (take-outcome-first s v x later e);
           long = same-length s (taken s x) refl;
           book =
               book-is s (taken s x) (pairsIn later) (keysIn (s .row)) refl (taken-pairs s v x later e) (taken-keys s x)
@@ -318,13 +320,13 @@ pub swept-keys : (s : State) → Sound s → keysIn (swept s .row) ≡ keptFrom 
 unfolding swept
 swept-keys s v = keys-changed paid paid-all-keeping (keptBy (s .row)) ∙ sym (kept-keys (s .row) (v .ascends))
 
-pub sweep-booked : (s : State) → Sound s → Booking sweep-dead s
+pub sweep-booked : (s : State) → Sound s → Booking Sweep s
 unfolding outcome booked swept
 sweep-booked s v =
     record {
       after = swept s;
       sound = swept-sound s v;
-      words = ap (λ o. o .words) (sweep-outcome s v);
+      left = ap (λ o. o .left) (sweep-outcome s v);
       long = same-length s (swept s) refl;
       book = book-is s (swept s) (pairsIn (s .row)) (keptFrom (pairsIn (s .row)) (keysIn (s .row))) refl (swept-pairs s) (swept-keys s v);
     }
@@ -332,9 +334,9 @@ sweep-booked s v =
 -- Every call
 
 pub call-booked : (call : Call) (s : State) → Sound s → Booking call s
-call-booked (set-up D K C) s v = set-up-booked D K C s v
-call-booked (insert-key key value) s v = insert-booked key value s v
-call-booked (find-key key) s v = find-booked key s v
-call-booked (finish-key key) s v = finish-booked key s v
-call-booked take-least s v = take-booked s v
-call-booked sweep-dead s v = sweep-booked s v
+call-booked (SetUp D K C) s v = set-up-booked D K C s v
+call-booked (Insert key value) s v = insert-booked key value s v
+call-booked (Find key) s v = find-booked key s v
+call-booked (Finish key) s v = finish-booked key s v
+call-booked Take s v = take-booked s v
+call-booked Sweep s v = sweep-booked s v

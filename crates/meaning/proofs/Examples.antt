@@ -12,20 +12,22 @@ use Rattle.meaning.specs.State.{positionKey}
 use Rattle.meaning.specs.Reading.{read, isList}
 use Rattle.meaning.specs.Words.{keyAt, owedAt}
 use Rattle.meaning.specs.Walk.{walk}
-use Rattle.meaning.specs.Calls.{Call, set-up, insert-key, find-key, finish-key, take-least, sweep-dead, outcome, afterCalls}
+use Rattle.meaning.specs.Calls.{outcome, afterCalls}
 use Rattle.meaning.specs.Promises.{FromFresh, Live}
+use Rattle.meaning.specs.declared.Call.the-variants.{SetUp, Insert, Find, Finish, Take, Sweep}
+use Rattle.meaning.specs.declared.Call.{Call}
 use Rattle.meaning.proofs.Computing.{computing}
 
 calls : List Call
-calls = insert-key 2 20 ∷ take-least ∷ insert-key 6 60 ∷ insert-key 5 50 ∷ []
+calls = Insert 2 20 ∷ Take ∷ Insert 6 60 ∷ Insert 5 50 ∷ []
 
 -- D = 2, K = 15, C = 8, so b = 4: key 2 (cell 1) is dead and the position, key 5 (cell 3) owes from key 6 (cell 2)
 pub example : List ℕ
-example = afterCalls calls (outcome (set-up 2 15 8) (replicate (lengthOf 2 8) 0) .words)
+example = afterCalls calls (outcome (SetUp 2 15 8) (replicate (lengthOf 2 8) 0) .left)
 
 pub example-from-fresh : FromFresh example
 unfolding example calls computing
-example-from-fresh = record { D = 2; K = 15; C = 8; lent = replicate (lengthOf 2 8) 0; calls = calls; accepted = refl; words = refl }
+example-from-fresh = record { D = 2; K = 15; C = 8; lent = replicate (lengthOf 2 8) 0; calls = calls; accepted = refl; left = refl }
 
 pub example-is-list : isList example ≡ true
 unfolding example calls computing
@@ -44,11 +46,11 @@ unfolding example calls computing
 example-live = record { cell = 3; within = omega arith; mark = refl; same = refl }
 
 -- each call is accepted: a find that looks, a new key, a dead key again, a finish that moves a link, a take, a sweep
-pub example-answers : map (λ c. outcome c example .answered .refusal) (find-key 5 ∷ insert-key 9 90 ∷ insert-key 2 21 ∷ finish-key 5 ∷ take-least ∷ sweep-dead ∷ []) ≡ replicate 6 0
+pub example-answers : map (λ c. outcome c example .answered .refusal) (Find 5 ∷ Insert 9 90 ∷ Insert 2 21 ∷ Finish 5 ∷ Take ∷ Sweep ∷ []) ≡ replicate 6 0
 unfolding example calls computing
 example-answers = refl
 
-pub example-moved : outcome (finish-key 5) example .answered .count ≡ 1
+pub example-moved : outcome (Finish 5) example .answered .count ≡ 1
 unfolding example calls computing
 example-moved = refl
 

@@ -23,8 +23,9 @@ use Rattle.meaning.specs.Reading.{read, isList}
 use Rattle.meaning.specs.Refusals.{Outcome, accepted, Refusal, outOfRange, wrongLength, notAList, badKey, keyLive, noFreeCell, nothingLive, keyNotLive, keyNotStanding, owedNotStanding, refused}
 use Rattle.meaning.specs.Words.{markAt, owedAt}
 use Rattle.meaning.specs.Operations.{onList, onKey, owesFromFree, looked, fresh, setUpOut, finished, withRow, linksMoved, finishAt, finishOut, findAt, findOut, revived, slotFor, added, insertNew, insertAt, insertOut, fromLive, keysAbove, keysPassed, taken, takeFrom, takeOut, freedBy, swept, someOwesFromFree, sweepOn, sweepOut}
-use Rattle.meaning.specs.Calls.{set-up, insert-key, find-key, finish-key, take-least, sweep-dead, outcome}
+use Rattle.meaning.specs.Calls.{outcome}
 use Rattle.meaning.specs.Promises.{RefusedAltersNothing}
+use Rattle.meaning.specs.declared.Call.the-variants.{SetUp, Insert, Find, Finish, Take, Sweep}
 use Rattle.meaning.proofs.State.{Sound}
 use Rattle.meaning.proofs.Picture.{picture-length, picture-dimensions, picture-word, Told, told, first-has, freeWords-rest, places-later}
 use Rattle.meaning.proofs.Reading.{mark-stands, read-of-picture, picture-is-list, list-is-picture, list-sound}
@@ -104,19 +105,19 @@ row-owed-never-free s v (x ∷ row) = rw (owed-never-free s v (x .cell), row-owe
 
 -- Every operation but set up
 
-pub not-on-list : (ws : List ℕ) (act : State → Outcome) → isList ws ≡ false → onList ws act ≡ refused notAList ws
+pub not-on-list : (ws : List ℕ) (act : State → Outcome (List ℕ)) → isList ws ≡ false → onList ws act ≡ refused notAList ws
 unfolding onList
 not-on-list ws act e = rw (e, onList) refl
 
-pub on-picture : (s : State) → Sound s → (act : State → Outcome) → onList (picture s) act ≡ act s
+pub on-picture : (s : State) → Sound s → (act : State → Outcome (List ℕ)) → onList (picture s) act ≡ act s
 unfolding onList
 on-picture s v act = rw (picture-is-list s v, onList) (ap act (read-of-picture s v))
 
-on-good-key : (ws : List ℕ) (s : State) (key : ℕ) (done : Outcome) → 1 ≤ key → key ≤ s .settings .largest → onKey ws s key done ≡ done
+on-good-key : (ws : List ℕ) (s : State) (key : ℕ) (done : Outcome (List ℕ)) → 1 ≤ key → key ≤ s .settings .largest → onKey ws s key done ≡ done
 unfolding onKey
 on-good-key ws s key done l h = rw (le-leb 1 key l, le-leb key (s .settings .largest) h) refl
 
-on-bad-key : (ws : List ℕ) (s : State) (key : ℕ) (done : Outcome) → (1 ≤ key → s .settings .largest < key) → onKey ws s key done ≡ refused badKey ws
+on-bad-key : (ws : List ℕ) (s : State) (key : ℕ) (done : Outcome (List ℕ)) → (1 ≤ key → s .settings .largest < key) → onKey ws s key done ≡ refused badKey ws
 unfolding onKey
 on-bad-key ws s key done f = at (decLe 1 key)
   where
@@ -124,11 +125,11 @@ on-bad-key ws s key done f = at (decLe 1 key)
     at (yes l) = rw (le-leb 1 key l, lt-leb key (s .settings .largest) (f l)) refl
     at (no l) = let none : key < 1 = omega arith in rw (lt-leb 1 key none) refl
 
-on-picture-key : (s : State) → Sound s → (key : ℕ) (act : State → Outcome) → 1 ≤ key → key ≤ s .settings .largest →
+on-picture-key : (s : State) → Sound s → (key : ℕ) (act : State → Outcome (List ℕ)) → 1 ≤ key → key ≤ s .settings .largest →
     onList (picture s) (λ t. onKey (picture s) t key (act t)) ≡ act s
 on-picture-key s v key act l h = on-picture s v (λ t. onKey (picture s) t key (act t)) ∙ on-good-key (picture s) s key (act s) l h
 
-on-picture-bad-key : (s : State) → Sound s → (key : ℕ) (act : State → Outcome) → (1 ≤ key → s .settings .largest < key) →
+on-picture-bad-key : (s : State) → Sound s → (key : ℕ) (act : State → Outcome (List ℕ)) → (1 ≤ key → s .settings .largest < key) →
     onList (picture s) (λ t. onKey (picture s) t key (act t)) ≡ refused badKey (picture s)
 on-picture-bad-key s v key act f = on-picture s v (λ t. onKey (picture s) t key (act t)) ∙ on-bad-key (picture s) s key (act s) f
 
@@ -278,7 +279,7 @@ sweep-outcome s v = on-picture s v (sweepOn (picture s)) ∙ rw (row-owed-never-
 
 -- What holds of each end of an operation, on any words, holds of its outcome
 
-onList-has : (P : Outcome → Type 0) (ws : List ℕ) (act : State → Outcome) → P (refused notAList ws) → ((s : State) → P (act s)) → P (onList ws act)
+onList-has : (P : Outcome (List ℕ) → Type 0) (ws : List ℕ) (act : State → Outcome (List ℕ)) → P (refused notAList ws) → ((s : State) → P (act s)) → P (onList ws act)
 unfolding onList
 onList-has P ws act p q = at (isList ws)
   where
@@ -286,12 +287,12 @@ onList-has P ws act p q = at (isList ws)
     at true = q (read ws)
     at false = p
 
-onKey-has : (P : Outcome → Type 0) (ws : List ℕ) (s : State) (key : ℕ) (done : Outcome) → P (refused badKey ws) → P done → P (onKey ws s key done)
+onKey-has : (P : Outcome (List ℕ) → Type 0) (ws : List ℕ) (s : State) (key : ℕ) (done : Outcome (List ℕ)) → P (refused badKey ws) → P done → P (onKey ws s key done)
 unfolding onKey
 onKey-has P ws s key done p q = cond-has P (leb 1 key && leb key (s .settings .largest)) done (refused badKey ws) q p
 
 -- P holds of every refusal of the words, and of what each operation accepts
-module _ (P : Outcome → Type 0) (ws : List ℕ) (turned : (r : Refusal) → P (refused r ws)) where
+module _ (P : Outcome (List ℕ) → Type 0) (ws : List ℕ) (turned : (r : Refusal) → P (refused r ws)) where
   set-up-has : (D K C : ℕ) → P (accepted 0 0 0 (picture (fresh D K C))) → P (setUpOut D K C ws)
   unfolding setUpOut
   set-up-has D K C done = at (inRange D K C) (eqb (length ws) (lengthOf D C))
@@ -304,7 +305,7 @@ module _ (P : Outcome → Type 0) (ws : List ℕ) (turned : (r : Refusal) → P 
       at true false = turned wrongLength
       at false u = turned outOfRange
 
-  keyed-has : (key : ℕ) (act : State → Outcome) → ((s : State) → P (act s)) → P (onList ws (λ s. onKey ws s key (act s)))
+  keyed-has : (key : ℕ) (act : State → Outcome (List ℕ)) → ((s : State) → P (act s)) → P (onList ws (λ s. onKey ws s key (act s)))
   keyed-has key act done = onList-has P ws (λ s. onKey ws s key (act s)) (turned notAList) (λ s. onKey-has P ws s key (act s) (turned badKey) (done s))
 
   insert-has : (key value : ℕ) → ((count : ℕ) (s : State) → P (accepted key 0 count (picture s))) → P (insertOut ws key value)
@@ -348,21 +349,21 @@ module _ (P : Outcome → Type 0) (ws : List ℕ) (turned : (r : Refusal) → P 
 
 -- A refused call alters nothing
 
-abbrev Kept : List ℕ → Outcome → Type 0
-Kept ws o = (o .answered .refusal ≡ 0 → ⊥) → o .words ≡ ws
+abbrev Kept : List ℕ → Outcome (List ℕ) → Type 0
+Kept ws o = (o .answered .refusal ≡ 0 → ⊥) → o .left ≡ ws
 
 pub refused-alters-nothing : RefusedAltersNothing
 unfolding outcome
-refused-alters-nothing (set-up D K C) ws = set-up-has (Kept ws) ws (λ r ne. refl) D K C (λ ne. absurd (ne refl))
-refused-alters-nothing (insert-key key value) ws = insert-has (Kept ws) ws (λ r ne. refl) key value (λ count s ne. absurd (ne refl))
-refused-alters-nothing (find-key key) ws = find-has (Kept ws) ws (λ r ne. refl) key (λ value count ne. refl)
-refused-alters-nothing (finish-key key) ws = finish-has (Kept ws) ws (λ r ne. refl) key (λ count s ne. absurd (ne refl))
-refused-alters-nothing take-least ws = take-has (Kept ws) ws (λ r ne. refl) (λ key value count s ne. absurd (ne refl))
-refused-alters-nothing sweep-dead ws = sweep-has (Kept ws) ws (λ r ne. refl) (λ count s ne. absurd (ne refl))
+refused-alters-nothing (SetUp D K C) ws = set-up-has (Kept ws) ws (λ r ne. refl) D K C (λ ne. absurd (ne refl))
+refused-alters-nothing (Insert key value) ws = insert-has (Kept ws) ws (λ r ne. refl) key value (λ count s ne. absurd (ne refl))
+refused-alters-nothing (Find key) ws = find-has (Kept ws) ws (λ r ne. refl) key (λ value count ne. refl)
+refused-alters-nothing (Finish key) ws = finish-has (Kept ws) ws (λ r ne. refl) key (λ count s ne. absurd (ne refl))
+refused-alters-nothing Take ws = take-has (Kept ws) ws (λ r ne. refl) (λ key value count s ne. absurd (ne refl))
+refused-alters-nothing Sweep ws = sweep-has (Kept ws) ws (λ r ne. refl) (λ count s ne. absurd (ne refl))
 
 -- "writes nothing"
-pub find-writes-nothing : (ws : List ℕ) (key : ℕ) → findOut ws key .words ≡ ws
-find-writes-nothing ws key = find-has (λ o. o .words ≡ ws) ws (λ r. refl) key (λ value count. refl)
+pub find-writes-nothing : (ws : List ℕ) (key : ℕ) → findOut ws key .left ≡ ws
+find-writes-nothing ws key = find-has (λ o. o .left ≡ ws) ws (λ r. refl) key (λ value count. refl)
 
 -- A key is out of range, or absent, or a node's.
 pub key-cases : {R : Type 0} (s : State) (key : ℕ) → ((1 ≤ key → s .settings .largest < key) → R) → (1 ≤ key → key ≤ s .settings .largest → nodeAt key (s .row) ≡ none → R) →

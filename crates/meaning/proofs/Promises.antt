@@ -96,22 +96,22 @@ order-is-lexicographic ws e x y hx hy =
     (lexicographic (baseAt ws) (dimensionsAt ws) x y (k .0) (omega arith) (omega arith), coordinates-determine (baseAt ws) (dimensionsAt ws) x y (k .0) (omega arith) (omega arith))
 
 pub one-outcome : OneOutcome
-one-outcome o r s ws vs m n = (m .answered ∙ sym (n .answered), m .words ∙ sym (n .words))
+one-outcome Lent o r s one other m n = (m .answered ∙ sym (n .answered), m .left ∙ sym (n .left))
 
 -- The counts of insert and find, where they answer looked.
 
 -- an outcome on a list that answers looked has a key in range, and answers looked
-pub record Counts (s : State) (key : ℕ) (o : Outcome) : Type 0 where
+pub record Counts (s : State) (key : ℕ) (o : Outcome (List ℕ)) : Type 0 where
   pub least : 1 ≤ key
   pub most : key ≤ s .settings .largest
   pub count : o .answered .count ≡ looked s key
 
-counted-by : (s : State) (key : ℕ) (o p : Outcome) → 1 ≤ key → key ≤ s .settings .largest → o ≡ p → p .answered .count ≡ looked s key → Counts s key o
-counted-by s key o p h l e c = record { least = h; most = l; count = ap (λ (t : Outcome). t .answered .count) e ∙ c }
+counted-by : (s : State) (key : ℕ) (o p : Outcome (List ℕ)) → 1 ≤ key → key ≤ s .settings .largest → o ≡ p → p .answered .count ≡ looked s key → Counts s key o
+counted-by s key o p h l e c = record { least = h; most = l; count = ap (λ (t : Outcome (List ℕ)). t .answered .count) e ∙ c }
 
 -- a key out of range answers no looked
-not-looked : (s : State) (key : ℕ) (o : Outcome) → o ≡ refused badKey (picture s) → answersLooked (o .answered .refusal) ≡ true → Counts s key o
-not-looked s key o e l = absurd (let z : true ≡ false = sym l ∙ ap (λ (t : Outcome). answersLooked (t .answered .refusal)) e in true≢false z)
+not-looked : (s : State) (key : ℕ) (o : Outcome (List ℕ)) → o ≡ refused badKey (picture s) → answersLooked (o .answered .refusal) ≡ true → Counts s key o
+not-looked s key o e l = absurd (let z : true ≡ false = sym l ∙ ap (λ (t : Outcome (List ℕ)). answersLooked (t .answered .refusal)) e in true≢false z)
 
 insert-counts : (s : State) → Sound s → (key value : ℕ) → answersLooked (insertOut (picture s) key value .answered .refusal) ≡ true → Counts s key (insertOut (picture s) key value)
 insert-counts s v key value e =
@@ -134,7 +134,7 @@ find-counts s v key e =
     (λ q. counted-by s key (findOut (picture s) key) _ h l (find-outcome-dead s v key h l x a q) refl))
 
 -- .. which is the walk's number of cells, and the rule's
-looks : (s : State) (v : Sound s) (key : ℕ) (o : Outcome) → Counts s key o → Looks (picture s) key (o .answered .count)
+looks : (s : State) (v : Sound s) (key : ℕ) (o : Outcome (List ℕ)) → Counts s key o → Looks (picture s) key (o .answered .count)
 unfolding picture
 looks s v key o c =
     let n = walk-looked s v key (c .least) (c .most) in

@@ -1,6 +1,6 @@
 -- A cell freed by a sweep serves again: cells are counted, a sweep puts the freed ones first, and an insert uses the first.
 use mathlib.Core.Path.{_≡_, refl, _∙_, sym, ap, subst}
-use mathlib.Core.List.{map, reverseAux}
+use mathlib.Core.List.{List, map, reverseAux}
 use mathlib.Core.Option.{none, some}
 use Prim.Native.Nat.{ℕ, suc, _+_, _≤_, _<_}
 use native.Mathlib.Omega.{arith}
@@ -41,8 +41,8 @@ pub swept-cells-first : SweptCellsFirst
 unfolding outcome swept
 swept-cells-first =
     on-read-lists
-    (λ s ws. read (sweepOut ws .words) .free ≡ reverseAux (map (λ e. e .cell) (freedBy (s .row))) (s .free))
-    (λ s v. ap (λ (o : Outcome). read (o .words) .free) (sweep-outcome s v) ∙ ap (λ (t : State). t .free) (read-of-picture (swept s) (swept-sound s v)))
+    (λ s ws. read (sweepOut ws .left) .free ≡ reverseAux (map (λ e. e .cell) (freedBy (s .row))) (s .free))
+    (λ s v. ap (λ (o : Outcome (List ℕ)). read (o .left) .free) (sweep-outcome s v) ∙ ap (λ (t : State). t .free) (read-of-picture (swept s) (swept-sound s v)))
 
 -- the new cell of an insert
 new-uses-first : (s : State) → Sound s → (key value : ℕ) → 1 ≤ key → key ≤ s .settings .largest → nodeAt key (s .row) ≡ none → 0 < length (s .free) →
@@ -59,8 +59,8 @@ new-uses-first s v key value h l a f =
     (e, found, i .n-is)
 
 -- an outcome that is a refusal is not accepted
-pub refused-not : (o p : Outcome) (n : ℕ) → o ≡ p → p .answered .refusal ≡ suc n → o .answered .refusal ≡ 0 → ⊥
-refused-not o p n e q z = let t = ap (λ (w : Outcome). w .answered .refusal) e in omega arith
+pub refused-not : (o p : Outcome (List ℕ)) (n : ℕ) → o ≡ p → p .answered .refusal ≡ suc n → o .answered .refusal ≡ 0 → ⊥
+refused-not o p n e q z = let t = ap (λ (w : Outcome (List ℕ)). w .answered .refusal) e in omega arith
 
 -- an accepted insert of a key that does not stand has a key in range and a free cell
 pub new-accepted : (s : State) → Sound s → (key value : ℕ) → nodeAt key (s .row) ≡ none → insertOut (picture s) key value .answered .refusal ≡ 0 →
@@ -74,13 +74,13 @@ new-accepted s v key value a z =
     (λ f. (h, l, f)))
     (λ h l x b. absurd (let q : _≡_ {A = ℕ} 0 1 = cc in omega arith))
 
-made-uses-first : (s : State) → Sound s → (key value : ℕ) → 1 ≤ key → key ≤ s .settings .largest → nodeAt key (s .row) ≡ none → 0 < length (s .free) → UsesFirst (picture s) (insertOut (picture s) key value .words) key
+made-uses-first : (s : State) → Sound s → (key value : ℕ) → 1 ≤ key → key ≤ s .settings .largest → nodeAt key (s .row) ≡ none → 0 < length (s .free) → UsesFirst (picture s) (insertOut (picture s) key value .left) key
 unfolding added
 made-uses-first s v key value h l a f =
     let new = new-uses-first s v key value h l a f in
     let t = added s key value (slotFor s key) in
-    let back : read (insertOut (picture s) key value .words) ≡ t =
-    ap (λ (o : Outcome). read (o .words)) (insert-outcome-new s v key value h l a f) ∙ read-of-picture t (added-sound s key value v h l a f) in
+    let back : read (insertOut (picture s) key value .left) ≡ t =
+    ap (λ (o : Outcome (List ℕ)). read (o .left)) (insert-outcome-new s v key value h l a f) ∙ read-of-picture t (added-sound s key value v h l a f) in
     record {
       node = new .0;
       stands = ap (λ (w : State). nodeAt key (w .row)) back ∙ new .1;
@@ -88,12 +88,12 @@ made-uses-first s v key value h l a f =
       free = ap (λ (w : State). w .free) back ∙ ap (λ (w : State). drop 1 (w .free)) (sym (read-of-picture s v));
     }
 
-uses-first : (s : State) → Sound s → (key value : ℕ) → nodeAt key (s .row) ≡ none → insertOut (picture s) key value .answered .refusal ≡ 0 → UsesFirst (picture s) (insertOut (picture s) key value .words) key
+uses-first : (s : State) → Sound s → (key value : ℕ) → nodeAt key (s .row) ≡ none → insertOut (picture s) key value .answered .refusal ≡ 0 → UsesFirst (picture s) (insertOut (picture s) key value .left) key
 uses-first s v key value a z = let (h, l, f) = new-accepted s v key value a z in made-uses-first s v key value h l a f
 
 pub insert-uses-first : InsertUsesFirst
 unfolding outcome
 insert-uses-first =
     on-read-lists
-    (λ s ws. (key value : ℕ) → nodeAt key (s .row) ≡ none → insertOut ws key value .answered .refusal ≡ 0 → UsesFirst ws (insertOut ws key value .words) key)
+    (λ s ws. (key value : ℕ) → nodeAt key (s .row) ≡ none → insertOut ws key value .answered .refusal ≡ 0 → UsesFirst ws (insertOut ws key value .left) key)
     uses-first

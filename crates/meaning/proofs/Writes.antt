@@ -72,11 +72,11 @@ words-least s v x later e y stands live =
     (live-marked (p .node .live) (sym (place-mark v here) ∙ live)) in
     omega (arith, least, place-key v here)
 
-take-taken : (s : State) → Sound s → takeOut (picture s) .answered .refusal ≡ 0 → Taken (picture s) (takeOut (picture s) .words) (takeOut (picture s) .answered .key)
+take-taken : (s : State) → Sound s → takeOut (picture s) .answered .refusal ≡ 0 → Taken (picture s) (takeOut (picture s) .left) (takeOut (picture s) .answered .key)
 unfolding picture taken
 take-taken s v z = go (fromLive (s .row)) refl
   where
-    go : (row : List Node) → fromLive (s .row) ≡ row → Taken (picture s) (takeOut (picture s) .words) (takeOut (picture s) .answered .key)
+    go : (row : List Node) → fromLive (s .row) ≡ row → Taken (picture s) (takeOut (picture s) .left) (takeOut (picture s) .answered .key)
     go [] e = absurd (refused-not (takeOut (picture s)) (refused (nothingLive (keysAbove _ (s .row))) (picture s)) 6 (take-outcome-none s v e) refl z)
     go (x ∷ later) e =
         let o = take-outcome-first s v x later e in
@@ -86,20 +86,20 @@ take-taken s v z = go (fromLive (s .row)) refl
               record {
                 cell = x .cell;
                 standing = place-standing v (here .placed);
-                same = at-live (λ y. keyAt (picture s) (y .cell) ≡ y .key) (s .row) x later e (row-key-read s v) ∙ ap (λ (p : Outcome). p .answered .key) (sym o);
+                same = at-live (λ y. keyAt (picture s) (y .cell) ≡ y .key) (s .row) x later e (row-key-read s v) ∙ ap (λ (p : Outcome (List ℕ)). p .answered .key) (sym o);
                 path = path (taken s x);
                 long = path-length (taken s x);
-                words = ap (λ (p : Outcome). p .words) o ∙ taken-words s x later v e;
+                words = ap (λ (p : Outcome (List ℕ)). p .left) o ∙ taken-words s x later v e;
               };
           live = place-mark v (here .placed) ∙ ap (λ (y : Node). mark (y .live)) (here .node) ∙ ap mark (fromLive-live (s .row) x later e);
-          least = λ y stands live. subst (λ (k : ℕ). k ≤ keyAt (picture s) y) (ap (λ (p : Outcome). p .answered .key) (sym o)) (words-least s v x later e y stands live);
-          position = ap (λ (p : Outcome). positionAt (p .words)) o ∙ position-is (taken-sound s x later v e);
+          least = λ y stands live. subst (λ (k : ℕ). k ≤ keyAt (picture s) y) (ap (λ (p : Outcome (List ℕ)). p .answered .key) (sym o)) (words-least s v x later e y stands live);
+          position = ap (λ (p : Outcome (List ℕ)). positionAt (p .left)) o ∙ position-is (taken-sound s x later v e);
         }
 
 pub take-writes : TakeWrites
 unfolding outcome
 take-writes =
-    on-read-lists (λ s ws. takeOut ws .answered .refusal ≡ 0 → Taken ws (takeOut ws .words) (takeOut ws .answered .key)) take-taken
+    on-read-lists (λ s ws. takeOut ws .answered .refusal ≡ 0 → Taken ws (takeOut ws .left) (takeOut ws .answered .key)) take-taken
 
 -- a standing cell's parent, where it is the position, on the words
 parent-found : (s : State) → Sound s → (c : ℕ) → Located c (s .row) → positionAt (picture s) ≡ parentIn s c (s .row) → Parent (picture s) c (positionAt (picture s))
@@ -155,7 +155,7 @@ revived-leaves s x value v a dead =
           parent-found after sound (x .cell) found (lowered low);
     }
 
-revive-revived : (s : State) → Sound s → (key value : ℕ) → (nodeAt key (s .row) ≡ none → ⊥) → insertOut (picture s) key value .answered .refusal ≡ 0 → Revived (picture s) (insertOut (picture s) key value .words) key value
+revive-revived : (s : State) → Sound s → (key value : ℕ) → (nodeAt key (s .row) ≡ none → ⊥) → insertOut (picture s) key value .answered .refusal ≡ 0 → Revived (picture s) (insertOut (picture s) key value .left) key value
 revive-revived s v key value stands z =
     key-cases s key
     (λ n. absurd (refused-not (insertOut (picture s) key value) (refused badKey (picture s)) 3 (insert-outcome-bad-key s v key value n) refl z))
@@ -164,7 +164,7 @@ revive-revived s v key value stands z =
     (λ q. absurd (refused-not (insertOut (picture s) key value) (refused (keyLive key (looked s key)) (picture s)) 4 (insert-outcome-live s v key value h l x a q) refl z))
     (λ q.
     let k = node-key key x (s .row) a in
-    let o = ap (λ (p : Outcome). p .words) (insert-outcome-dead s v key value h l x a q) in
+    let o = ap (λ (p : Outcome (List ℕ)). p .left) (insert-outcome-dead s v key value h l x a q) in
     subst₂ (λ (us : List ℕ) (m : ℕ). Revived (picture s) us m value) (sym o) k
     (revived-leaves s x value v (subst (λ (m : ℕ). nodeAt m (s .row) ≡ some x) (sym k) a) q)))
 
@@ -172,31 +172,31 @@ pub revive-writes : ReviveWrites
 unfolding outcome
 revive-writes =
     on-read-lists
-    (λ s ws. (key value : ℕ) → (nodeAt key (s .row) ≡ none → ⊥) → insertOut ws key value .answered .refusal ≡ 0 → Revived ws (insertOut ws key value .words) key value)
+    (λ s ws. (key value : ℕ) → (nodeAt key (s .row) ≡ none → ⊥) → insertOut ws key value .answered .refusal ≡ 0 → Revived ws (insertOut ws key value .left) key value)
     revive-revived
 
-insert-inserted : (s : State) → Sound s → (key value : ℕ) → nodeAt key (s .row) ≡ none → insertOut (picture s) key value .answered .refusal ≡ 0 → Inserted (picture s) (insertOut (picture s) key value .words) key value (slotFor s key)
+insert-inserted : (s : State) → Sound s → (key value : ℕ) → nodeAt key (s .row) ≡ none → insertOut (picture s) key value .answered .refusal ≡ 0 → Inserted (picture s) (insertOut (picture s) key value .left) key value (slotFor s key)
 insert-inserted s v key value a z =
     let (h, l, f) = new-accepted s v key value a z in
-    subst (λ (us : List ℕ). Inserted (picture s) us key value (slotFor s key)) (ap (λ (p : Outcome). p .words) (sym (insert-outcome-new s v key value h l a f))) (added-inserted s v key value h l a f)
+    subst (λ (us : List ℕ). Inserted (picture s) us key value (slotFor s key)) (ap (λ (p : Outcome (List ℕ)). p .left) (sym (insert-outcome-new s v key value h l a f))) (added-inserted s v key value h l a f)
 
 pub insert-writes : InsertWrites
 unfolding outcome
 insert-writes =
     on-read-lists
-    (λ s ws. (key value : ℕ) → nodeAt key (s .row) ≡ none → insertOut ws key value .answered .refusal ≡ 0 → Inserted ws (insertOut ws key value .words) key value (slotFor s key))
+    (λ s ws. (key value : ℕ) → nodeAt key (s .row) ≡ none → insertOut ws key value .answered .refusal ≡ 0 → Inserted ws (insertOut ws key value .left) key value (slotFor s key))
     insert-inserted
 
 -- the cell of a standing key is one of the row's
 node-stands : (s : State) (key : ℕ) (x : Node) → nodeAt key (s .row) ≡ some x → 0 < occurrences (x .cell) (0 ∷ map (λ y. y .cell) (s .row))
 node-stands s key x a = let t = node-split key x (s .row) a in cell-stands s (t .0) x (t .1) (t .2)
 
-finish-finishes : (s : State) → Sound s → (key : ℕ) → finishOut (picture s) key .answered .refusal ≡ 0 → Finishes (picture s) (finishOut (picture s) key .words) key (finishOut (picture s) key .answered .count)
+finish-finishes : (s : State) → Sound s → (key : ℕ) → finishOut (picture s) key .answered .refusal ≡ 0 → Finishes (picture s) (finishOut (picture s) key .left) key (finishOut (picture s) key .answered .count)
 finish-finishes s v key z =
     key-cases s key
     (λ n. absurd (refused-not (finishOut (picture s) key) (refused badKey (picture s)) 3 (finish-outcome-bad-key s v key n) refl z))
     (λ h l a. absurd (refused-not (finishOut (picture s) key) (refused (keyNotStanding key) (picture s)) 7 (finish-outcome-absent s v key h l a) refl z))
-    (λ h l x a. subst (λ (p : Outcome). Finishes (picture s) (p .words) key (p .answered .count)) (sym (finish-outcome-standing s v key h l x a)) (done x a))
+    (λ h l x a. subst (λ (p : Outcome (List ℕ)). Finishes (picture s) (p .left) key (p .answered .count)) (sym (finish-outcome-standing s v key h l x a)) (done x a))
   where
     done : (x : Node) → nodeAt key (s .row) ≡ some x → Finishes (picture s) (picture (withRow s (finished (x .cell) (s .row)))) key (linksMoved s (placeOf (x .cell) (placesOf s (s .row))))
     done x a =
@@ -216,14 +216,14 @@ pub finish-writes : FinishWrites
 unfolding outcome
 finish-writes =
     on-read-lists
-    (λ s ws. (key : ℕ) → finishOut ws key .answered .refusal ≡ 0 → Finishes ws (finishOut ws key .words) key (finishOut ws key .answered .count))
+    (λ s ws. (key : ℕ) → finishOut ws key .answered .refusal ≡ 0 → Finishes ws (finishOut ws key .left) key (finishOut ws key .answered .count))
     finish-finishes
 
 pub sweep-writes : SweepWrites
 unfolding outcome
 sweep-writes =
     on-read-lists
-    (λ s ws. Swept ws (sweepOut ws .words) × (sweepOut ws .words ≡ sweepWords ws))
+    (λ s ws. Swept ws (sweepOut ws .left) × (sweepOut ws .left ≡ sweepWords ws))
     (λ s v.
-    let o = ap (λ (p : Outcome). p .words) (sweep-outcome s v) in
+    let o = ap (λ (p : Outcome (List ℕ)). p .left) (sweep-outcome s v) in
     (subst (Swept (picture s)) (sym o) (swept-leaves s v), o ∙ sweep-words s v))

@@ -8,8 +8,9 @@ use Rattle.settings.specs.Numbers.{inRange, lengthOf}
 use Rattle.lists.specs.Lists.{those}
 use Rattle.meaning.specs.Row.{Node}
 use Rattle.meaning.specs.Reading.{read}
-use Rattle.meaning.specs.Calls.{Call, set-up, insert-key, find-key, finish-key, take-least, sweep-dead}
 use Rattle.meaning.specs.Words.{largestAt, cellsAt}
+use Rattle.meaning.specs.declared.Call.the-variants.{SetUp, Insert, Find, Finish, Take, Sweep}
+use Rattle.meaning.specs.declared.Call.{Call}
 
 pub record Pair : Type 0 where
   pub key : ℕ
@@ -66,13 +67,13 @@ keptFrom (p ∷ pairs) (x ∷ y ∷ keys) = cond (ltb y (p .key)) (keptFrom (p �
 
 -- what a call on a buffer of `long` words does
 unfoldable pub booked : Call → ℕ → Book → Book
-booked (set-up D K C) long k =
+booked (SetUp D K C) long k =
     cond (inRange D K C && eqb long (lengthOf D C)) (record { largest = K; cells = C; pairs = []; standing = [] }) k
-booked (insert-key key value) long k = cond (leb 1 key && leb key (k .largest)) (inserted key value k) k
-booked (find-key key) long k = k
-booked (finish-key key) long k = k
-booked take-least long k = record { largest = k .largest; cells = k .cells; pairs = drop 1 (k .pairs); standing = k .standing }
-booked sweep-dead long k = record { largest = k .largest; cells = k .cells; pairs = k .pairs; standing = keptFrom (k .pairs) (k .standing) }
+booked (Insert key value) long k = cond (leb 1 key && leb key (k .largest)) (inserted key value k) k
+booked (Find key) long k = k
+booked (Finish key) long k = k
+booked Take long k = record { largest = k .largest; cells = k .cells; pairs = drop 1 (k .pairs); standing = k .standing }
+booked Sweep long k = record { largest = k .largest; cells = k .cells; pairs = k .pairs; standing = keptFrom (k .pairs) (k .standing) }
 
 -- what a sequence of calls does
 unfoldable pub bookedAll : List Call → ℕ → Book → Book

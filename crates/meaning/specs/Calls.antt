@@ -3,25 +3,23 @@ use mathlib.Core.List.{List, [], _∷_}
 use Prim.Native.Nat.{ℕ}
 use Rattle.meaning.specs.Refusals.{Outcome}
 use Rattle.meaning.specs.Operations.{setUpOut, insertOut, findOut, finishOut, takeOut, sweepOut}
+use Rattle.meaning.specs.declared.Call.{Call}
+use Rattle.meaning.specs.declared.Call.the-variants.{SetUp, Insert, Find, Finish, Take, Sweep}
 
-pub data Call : Type 0 where
-  set-up : (D K C : ℕ) → Call
-  insert-key : (key value : ℕ) → Call
-  find-key : (key : ℕ) → Call
-  finish-key : (key : ℕ) → Call
-  take-least : Call
-  sweep-dead : Call
+-- what is lent to a call: the words of a buffer
+abbrev pub Lent : Type 0
+Lent = List ℕ
 
--- the outcome of one call on the words of a buffer
-unfoldable pub outcome : Call → List ℕ → Outcome
-outcome (set-up D K C) ws = setUpOut D K C ws
-outcome (insert-key key value) ws = insertOut ws key value
-outcome (find-key key) ws = findOut ws key
-outcome (finish-key key) ws = finishOut ws key
-outcome take-least ws = takeOut ws
-outcome sweep-dead ws = sweepOut ws
+-- the outcome of one call
+unfoldable pub outcome : Call → Lent → Outcome Lent
+outcome (SetUp D K C) ws = setUpOut D K C ws
+outcome (Insert key value) ws = insertOut ws key value
+outcome (Find key) ws = findOut ws key
+outcome (Finish key) ws = finishOut ws key
+outcome Take ws = takeOut ws
+outcome Sweep ws = sweepOut ws
 
--- the words after a sequence of calls
-unfoldable pub afterCalls : List Call → List ℕ → List ℕ
-afterCalls [] ws = ws
-afterCalls (call ∷ calls) ws = afterCalls calls (outcome call ws .words)
+-- what a sequence of calls leaves
+unfoldable pub afterCalls : List Call → Lent → Lent
+afterCalls [] lent = lent
+afterCalls (call ∷ calls) lent = afterCalls calls (outcome call lent .left)

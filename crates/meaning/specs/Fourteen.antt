@@ -13,7 +13,9 @@ use Rattle.meaning.specs.State.{positionKey}
 use Rattle.meaning.specs.Reading.{read}
 use Rattle.meaning.specs.Refusals.{answer}
 use Rattle.meaning.specs.Words.{owedAt, lowAt, highAt}
-use Rattle.meaning.specs.Calls.{Call, set-up, insert-key, find-key, take-least, sweep-dead, outcome}
+use Rattle.meaning.specs.Calls.{outcome}
+use Rattle.meaning.specs.declared.Call.the-variants.{SetUp, Insert, Find, Take, Sweep}
+use Rattle.meaning.specs.declared.Call.{Call}
 
 -- the remarks beside the steps, of the words after the step
 pub data Remark : Type 0 where
@@ -55,20 +57,20 @@ line call answered remark = record { call = call; answered = answered; remark = 
 -- "D = 2, K = 15, C = 8, so b = 4. Steps in order from fresh, answers as four numbers"
 unfoldable pub table : List Line
 table =
-    line (insert-key 6 60) (answer 0 6 0 0) none-made
-    ∷ line (insert-key 5 50) (answer 0 5 0 1) (owes-link 5 0 6)
-    ∷ line (insert-key 9 90) (answer 0 9 0 1) (owes-nothing 5)
-    ∷ line (find-key 6) (answer 0 6 60 2) none-made
-    ∷ line take-least (answer 0 5 50 1) none-made
-    ∷ line take-least (answer 0 6 60 1) none-made
-    ∷ line (insert-key 2 20) (answer 0 2 0 0) (position-is 0)
-    ∷ line take-least (answer 0 2 20 1) none-made
-    ∷ line take-least (answer 0 9 90 3) none-made
-    ∷ line (insert-key 6 61) (answer 0 6 0 2) (position-is 5)
-    ∷ line take-least (answer 0 6 61 1) none-made
-    ∷ line take-least (answer 7 0 0 1) none-made
-    ∷ line sweep-dead (answer 0 0 0 3) (free-chain (1 ∷ 2 ∷ 4 ∷ 5 ∷ 6 ∷ 7 ∷ []))
-    ∷ line (insert-key 5 51) (answer 0 5 0 1) (uses-cell 5 1)
+    line (Insert 6 60) (answer 0 6 0 0) none-made
+    ∷ line (Insert 5 50) (answer 0 5 0 1) (owes-link 5 0 6)
+    ∷ line (Insert 9 90) (answer 0 9 0 1) (owes-nothing 5)
+    ∷ line (Find 6) (answer 0 6 60 2) none-made
+    ∷ line Take (answer 0 5 50 1) none-made
+    ∷ line Take (answer 0 6 60 1) none-made
+    ∷ line (Insert 2 20) (answer 0 2 0 0) (position-is 0)
+    ∷ line Take (answer 0 2 20 1) none-made
+    ∷ line Take (answer 0 9 90 3) none-made
+    ∷ line (Insert 6 61) (answer 0 6 0 2) (position-is 5)
+    ∷ line Take (answer 0 6 61 1) none-made
+    ∷ line Take (answer 7 0 0 1) none-made
+    ∷ line Sweep (answer 0 0 0 3) (free-chain (1 ∷ 2 ∷ 4 ∷ 5 ∷ 6 ∷ 7 ∷ []))
+    ∷ line (Insert 5 51) (answer 0 5 0 1) (uses-cell 5 1)
     ∷ []
 
 -- what a step was seen to answer, and whether its remark holds
@@ -84,7 +86,7 @@ unfoldable pub ran : List Line → List ℕ → List Seen
 ran [] ws = []
 ran (l ∷ lines) ws =
     let o = outcome (l .call) ws in
-    record { answered = o .answered; remarked = holds (l .remark) (o .words) } ∷ ran lines (o .words)
+    record { answered = o .answered; remarked = holds (l .remark) (o .left) } ∷ ran lines (o .left)
 
 unfoldable pub freshWords : List ℕ
-freshWords = outcome (set-up 2 15 8) (replicate (lengthOf 2 8) 0) .words
+freshWords = outcome (SetUp 2 15 8) (replicate (lengthOf 2 8) 0) .left

@@ -19,11 +19,11 @@ use Rattle.meaning.specs.Rule.{rule}
 use Rattle.meaning.specs.Words.{markAt, owedAt, freeMark}
 
 -- "3: the buffer is not a list (all but set up)"
-unfoldable pub onList : List ℕ → (State → Outcome) → Outcome
+unfoldable pub onList : List ℕ → (State → Outcome (List ℕ)) → Outcome (List ℕ)
 onList ws act = elim (isList ws) [ true ↦ act (read ws) | false ↦ refused notAList ws ]
 
 -- "4: key 0 or above K"
-unfoldable pub onKey : List ℕ → State → ℕ → Outcome → Outcome
+unfoldable pub onKey : List ℕ → State → ℕ → Outcome (List ℕ) → Outcome (List ℕ)
 onKey ws s key done = cond (leb 1 key && leb key (s .settings .largest)) done (refused badKey ws)
 
 -- "9: a cell owed from is not standing": the cell that the owed word of cell x names has mark 0
@@ -40,7 +40,7 @@ looked s k = length (rule (s .settings .base) (s .settings .dimensions) (map (λ
 unfoldable pub fresh : ℕ → ℕ → ℕ → State
 fresh D K C = record { settings = settingsOf D K C; row = []; free = numbersFrom 1 (C - 1); position = 0 }
 
-unfoldable pub setUpOut : ℕ → ℕ → ℕ → List ℕ → Outcome
+unfoldable pub setUpOut : ℕ → ℕ → ℕ → List ℕ → Outcome (List ℕ)
 setUpOut D K C ws =
     elim (inRange D K C) [
       | true ↦ elim (eqb (length ws) (lengthOf D C)) [ true ↦ accepted 0 0 0 (picture (fresh D K C)) | false ↦ refused wrongLength ws ]
@@ -66,24 +66,24 @@ unfoldable pub linksMoved : State → Option Place → ℕ
 linksMoved s none = 0
 linksMoved s (some x) = high (s .settings .base) (s .settings .dimensions) x - low x
 
-unfoldable pub finishAt : List ℕ → State → ℕ → Option Node → Outcome
+unfoldable pub finishAt : List ℕ → State → ℕ → Option Node → Outcome (List ℕ)
 finishAt ws s key none = refused (keyNotStanding key) ws
 finishAt ws s key (some x) =
     cond (owesFromFree ws (x .cell)) (refused owedNotStanding ws)
     (accepted key 0 (linksMoved s (placeOf (x .cell) (placesOf s (s .row)))) (picture (withRow s (finished (x .cell) (s .row)))))
 
 -- "Finish: key, 0, number of links moved. The key may be dead."
-unfoldable pub finishOut : List ℕ → ℕ → Outcome
+unfoldable pub finishOut : List ℕ → ℕ → Outcome (List ℕ)
 finishOut ws key = onList ws (λ s. onKey ws s key (finishAt ws s key (nodeAt key (s .row))))
 
 -- Find.
 
-unfoldable pub findAt : List ℕ → State → ℕ → Option Node → Outcome
+unfoldable pub findAt : List ℕ → State → ℕ → Option Node → Outcome (List ℕ)
 findAt ws s key none = refused (keyNotLive key (looked s key)) ws
 findAt ws s key (some x) = cond (x .live) (accepted key (x .value) (looked s key) ws) (refused (keyNotLive key (looked s key)) ws)
 
 -- "Find: key, value, looked; writes nothing."
-unfoldable pub findOut : List ℕ → ℕ → Outcome
+unfoldable pub findOut : List ℕ → ℕ → Outcome (List ℕ)
 findOut ws key = onList ws (λ s. onKey ws s key (findAt ws s key (nodeAt key (s .row))))
 
 -- Insert.
@@ -158,20 +158,20 @@ added s key value t =
     let row = put (newNode (t .n) key value (slotOwes t)) (finished (t .c) (finished (t .parent) (s .row))) in
     record { settings = s .settings; row = row; free = drop 1 (s .free); position = positionAfter s key (t .n) row }
 
-unfoldable pub insertNew : List ℕ → State → ℕ → ℕ → Outcome
+unfoldable pub insertNew : List ℕ → State → ℕ → ℕ → Outcome (List ℕ)
 insertNew ws s key value =
     let t = slotFor s key in
     cond (eqb (length (s .free)) 0) (refused (noFreeCell key (looked s key)) ws)
     (cond (owesFromFree ws (t .parent) || owesFromFree ws (t .c)) (refused owedNotStanding ws)
     (accepted key 0 (looked s key) (picture (added s key value t))))
 
-unfoldable pub insertAt : List ℕ → State → ℕ → ℕ → Option Node → Outcome
+unfoldable pub insertAt : List ℕ → State → ℕ → ℕ → Option Node → Outcome (List ℕ)
 insertAt ws s key value none = insertNew ws s key value
 insertAt ws s key value (some x) =
     cond (x .live) (refused (keyLive key (looked s key)) ws) (accepted key 0 (looked s key) (picture (revived s x value)))
 
 -- "Insert: key asked, 0, looked."
-unfoldable pub insertOut : List ℕ → ℕ → ℕ → Outcome
+unfoldable pub insertOut : List ℕ → ℕ → ℕ → Outcome (List ℕ)
 insertOut ws key value = onList ws (λ s. onKey ws s key (insertAt ws s key value (nodeAt key (s .row))))
 
 -- Take.
@@ -202,12 +202,12 @@ unfoldable pub taken : State → Node → State
 taken s x =
     record { settings = s .settings; row = map (λ y. cond (eqb (y .cell) (x .cell)) (deadNode y) y) (s .row); free = s .free; position = x .cell }
 
-unfoldable pub takeFrom : List ℕ → State → List Node → Outcome
+unfoldable pub takeFrom : List ℕ → State → List Node → Outcome (List ℕ)
 takeFrom ws s [] = refused (nothingLive (keysAbove (positionKey s) (s .row))) ws
 takeFrom ws s (x ∷ later) = accepted (x .key) (x .value) (keysPassed (positionKey s) (x .key) (s .row)) (picture (taken s x))
 
 -- "Take: the least live key, its value, and passed"
-unfoldable pub takeOut : List ℕ → Outcome
+unfoldable pub takeOut : List ℕ → Outcome (List ℕ)
 takeOut ws = onList ws (λ s. takeFrom ws s (fromLive (s .row)))
 
 -- Sweep.
@@ -244,10 +244,10 @@ unfoldable pub someOwesFromFree : List ℕ → List Node → Bool
 someOwesFromFree ws [] = false
 someOwesFromFree ws (x ∷ row) = owesFromFree ws (x .cell) || someOwesFromFree ws row
 
-unfoldable pub sweepOn : List ℕ → State → Outcome
+unfoldable pub sweepOn : List ℕ → State → Outcome (List ℕ)
 sweepOn ws s =
     cond (someOwesFromFree ws (s .row)) (refused owedNotStanding ws) (accepted 0 0 (length (freedBy (s .row))) (picture (swept s)))
 
 -- "Sweep: 0, 0, freed."
-unfoldable pub sweepOut : List ℕ → Outcome
+unfoldable pub sweepOut : List ℕ → Outcome (List ℕ)
 sweepOut ws = onList ws (sweepOn ws)

@@ -20,9 +20,11 @@ use Rattle.meaning.specs.Walk.{walk, walkFrom, ends}
 use Rattle.meaning.specs.Operations.{takeOut, freedBy, slotFor}
 use Rattle.meaning.specs.Layer.SweepStores.{sweepWords}
 use Rattle.meaning.specs.Writes.{OwesNothing, OwesSame, Finished, Inserted, Taken, Revived, Swept}
-use Rattle.meaning.specs.Calls.{Call, set-up, insert-key, find-key, finish-key, take-least, sweep-dead, outcome, afterCalls}
+use Rattle.meaning.specs.Calls.{outcome, afterCalls, Lent}
 use Rattle.meaning.specs.Sentences.{Standing, AList}
 use Rattle.meaning.specs.Book.{Pair, livePairs, standingKeys, bookOf, bookedAll}
+use Rattle.meaning.specs.declared.Call.the-variants.{SetUp, Insert, Find, Finish, Take, Sweep}
+use Rattle.meaning.specs.declared.Call.{Call}
 
 -- a buffer after an accepted set up and any calls since
 pub record FromFresh (ws : List ℕ) : Type 0 where
@@ -31,8 +33,8 @@ pub record FromFresh (ws : List ℕ) : Type 0 where
   pub C : ℕ
   pub lent : List ℕ
   pub calls : List Call
-  pub accepted : outcome (set-up D K C) lent .answered .refusal ≡ 0
-  pub words : ws ≡ afterCalls calls (outcome (set-up D K C) lent .words)
+  pub accepted : outcome (SetUp D K C) lent .answered .refusal ≡ 0
+  pub left : ws ≡ afterCalls calls (outcome (SetUp D K C) lent .left)
 
 -- key is live, on the words
 pub record Live (ws : List ℕ) (key : ℕ) : Type 0 where
@@ -47,11 +49,11 @@ ListsStayLists = (ws : List ℕ) → FromFresh ws → isList ws ≡ true
 
 -- .. and each call takes a list to a list, however it came about.
 abbrev pub CallsKeepLists : Type 0
-CallsKeepLists = (call : Call) (ws : List ℕ) → isList ws ≡ true → isList (outcome call ws .words) ≡ true
+CallsKeepLists = (call : Call) (ws : List ℕ) → isList ws ≡ true → isList (outcome call ws .left) ≡ true
 
--- 2. A refused call alters no word: every operation, every list of words, all numbers.
+-- 2. A refused call alters nothing of what was lent: every operation, every list of words, all numbers.
 abbrev pub RefusedAltersNothing : Type 0
-RefusedAltersNothing = (call : Call) (ws : List ℕ) → (outcome call ws .answered .refusal ≡ 0 → ⊥) → outcome call ws .words ≡ ws
+RefusedAltersNothing = (call : Call) (lent : Lent) → (outcome call lent .answered .refusal ≡ 0 → ⊥) → outcome call lent .left ≡ lent
 
 -- 3. Shared coordinates are the leading coordinates that are equal.
 abbrev pub SharedMeansLeading : Type 0
@@ -107,22 +109,22 @@ answersLooked refusal = eqb refusal 0 || (eqb refusal 5 || (eqb refusal 6 || eqb
 abbrev pub LookedIsWalk : Type 0
 LookedIsWalk =
     (ws : List ℕ) → FromFresh ws → (key value : ℕ)
-    → (answersLooked (outcome (insert-key key value) ws .answered .refusal) ≡ true → Looks ws key (outcome (insert-key key value) ws .answered .count))
-    × (answersLooked (outcome (find-key key) ws .answered .refusal) ≡ true → Looks ws key (outcome (find-key key) ws .answered .count))
+    → (answersLooked (outcome (Insert key value) ws .answered .refusal) ≡ true → Looks ws key (outcome (Insert key value) ws .answered .count))
+    × (answersLooked (outcome (Find key) ws .answered .refusal) ≡ true → Looks ws key (outcome (Find key) ws .answered .count))
 
 -- 6. Present means that same key: insert answers 5, and find 0, exactly if that key itself is live.
 abbrev pub PresentMeansThatKey : Type 0
 PresentMeansThatKey =
     (ws : List ℕ) → isList ws ≡ true → (key value : ℕ) → 1 ≤ key → key ≤ largestAt ws
-    → ((outcome (insert-key key value) ws .answered .refusal ≡ 5) ↔ Live ws key)
-    × ((outcome (find-key key) ws .answered .refusal ≡ 0) ↔ Live ws key)
+    → ((outcome (Insert key value) ws .answered .refusal ≡ 5) ↔ Live ws key)
+    × ((outcome (Find key) ws .answered .refusal ≡ 0) ↔ Live ws key)
 
 -- 7. Each node once, in its turn: taking until 7 hands out exactly the live pairs, ascending.
 unfoldable pub takes : ℕ → List ℕ → List Pair
 takes zero ws = []
 takes (suc n) ws =
     elim (eqb (takeOut ws .answered .refusal) 0) [
-      | true ↦ record { key = takeOut ws .answered .key; value = takeOut ws .answered .value } ∷ takes n (takeOut ws .words)
+      | true ↦ record { key = takeOut ws .answered .key; value = takeOut ws .answered .value } ∷ takes n (takeOut ws .left)
       | false ↦ []
     ]
 
@@ -140,26 +142,26 @@ CallsAreBooked =
 
 -- 9. What a call leaves alone. A find writes nothing.
 abbrev pub FindWritesNothing : Type 0
-FindWritesNothing = (ws : List ℕ) (key : ℕ) → outcome (find-key key) ws .words ≡ ws
+FindWritesNothing = (ws : List ℕ) (key : ℕ) → outcome (Find key) ws .left ≡ ws
 
 -- A take writes the taken cell's value 0 and mark 2, and the path, whose last word becomes that cell: "Links are untouched."
 abbrev pub TakeWrites : Type 0
 TakeWrites =
-    (ws : List ℕ) → isList ws ≡ true → outcome take-least ws .answered .refusal ≡ 0
-    → Taken ws (outcome take-least ws .words) (outcome take-least ws .answered .key)
+    (ws : List ℕ) → isList ws ≡ true → outcome Take ws .answered .refusal ≡ 0
+    → Taken ws (outcome Take ws .left) (outcome Take ws .answered .key)
 
 -- A revived key gets the new value and mark 1, "with no link changed and nothing finished"; and the path, if the key is not above the
 -- position's.
 abbrev pub ReviveWrites : Type 0
 ReviveWrites =
     (ws : List ℕ) → isList ws ≡ true → (key value : ℕ) → (nodeAt key (read ws .row) ≡ none → ⊥)
-    → outcome (insert-key key value) ws .answered .refusal ≡ 0 → Revived ws (outcome (insert-key key value) ws .words) key value
+    → outcome (Insert key value) ws .answered .refusal ≡ 0 → Revived ws (outcome (Insert key value) ws .left) key value
 
 -- An insert of a key that does not stand: the parent, p, c, q and the links moved; every other word of a cell as before.
 abbrev pub InsertWrites : Type 0
 InsertWrites =
     (ws : List ℕ) → isList ws ≡ true → (key value : ℕ) → nodeAt key (read ws .row) ≡ none
-    → outcome (insert-key key value) ws .answered .refusal ≡ 0 → Inserted ws (outcome (insert-key key value) ws .words) key value (slotFor (read ws) key)
+    → outcome (Insert key value) ws .answered .refusal ≡ 0 → Inserted ws (outcome (Insert key value) ws .left) key value (slotFor (read ws) key)
 
 -- A finish of a key that stands: its cell's debt is finished and no other.
 pub record Finishes (ws us : List ℕ) (k count : ℕ) : Type 0 where
@@ -175,14 +177,14 @@ pub record Finishes (ws us : List ℕ) (k count : ℕ) : Type 0 where
 
 abbrev pub FinishWrites : Type 0
 FinishWrites =
-    (ws : List ℕ) → isList ws ≡ true → (key : ℕ) → outcome (finish-key key) ws .answered .refusal ≡ 0
-    → Finishes ws (outcome (finish-key key) ws .words) key (outcome (finish-key key) ws .answered .count)
+    (ws : List ℕ) → isList ws ≡ true → (key : ℕ) → outcome (Finish key) ws .answered .refusal ≡ 0
+    → Finishes ws (outcome (Finish key) ws .left) key (outcome (Finish key) ws .answered .count)
 
 -- A sweep leaves what document 01 says, and writes what specs/SweepStores.antt says.
 abbrev pub SweepWrites : Type 0
 SweepWrites =
     (ws : List ℕ) → isList ws ≡ true
-    → Swept ws (outcome sweep-dead ws .words) × (outcome sweep-dead ws .words ≡ sweepWords ws)
+    → Swept ws (outcome Sweep ws .left) × (outcome Sweep ws .left ≡ sweepWords ws)
 
 -- 10. A cell freed by a sweep serves again: each cell but the head stands or is free, exactly one of the two, in every list;
 abbrev pub EachCellOnce : Type 0
@@ -194,7 +196,7 @@ EachCellOnce =
 abbrev pub SweptCellsFirst : Type 0
 SweptCellsFirst =
     (ws : List ℕ) → isList ws ≡ true
-    → read (outcome sweep-dead ws .words) .free ≡ reverseAux (map (λ e. e .cell) (freedBy (read ws .row))) (read ws .free)
+    → read (outcome Sweep ws .left) .free ≡ reverseAux (map (λ e. e .cell) (freedBy (read ws .row))) (read ws .free)
 
 -- .. and an insert of a key that does not stand uses the first cell of the chain.
 pub record UsesFirst (ws after : List ℕ) (key : ℕ) : Type 0 where
@@ -206,7 +208,7 @@ pub record UsesFirst (ws after : List ℕ) (key : ℕ) : Type 0 where
 abbrev pub InsertUsesFirst : Type 0
 InsertUsesFirst =
     (ws : List ℕ) → isList ws ≡ true → (key value : ℕ) → nodeAt key (read ws .row) ≡ none
-    → outcome (insert-key key value) ws .answered .refusal ≡ 0 → UsesFirst ws (outcome (insert-key key value) ws .words) key
+    → outcome (Insert key value) ws .answered .refusal ≡ 0 → UsesFirst ws (outcome (Insert key value) ws .left) key
 
 -- 11. Key order is the lexicographic order of the coordinates; a key's coordinates determine it.
 abbrev pub OrderIsLexicographic : Type 0
@@ -215,6 +217,8 @@ OrderIsLexicographic =
     → ((x < y) ↔ (precedes (coordinates (baseAt ws) (dimensionsAt ws) x) (coordinates (baseAt ws) (dimensionsAt ws) y) ≡ true))
     × (coordinates (baseAt ws) (dimensionsAt ws) x ≡ coordinates (baseAt ws) (dimensionsAt ws) y → x ≡ y)
 
--- Any two outcomes that a contract allows are equal: the six exported functions all ensure `Meets o r ws`, of the outcome o of their call.
-abbrev pub OneOutcome : Type 0
-OneOutcome = (o : Outcome) (r s : Answer) (ws vs : List ℕ) → Meets o r ws → Meets o s vs → (r ≡ s) × (ws ≡ vs)
+-- Any two outcomes that a contract allows are equal: the six exported functions all ensure `Meets o r lent`, of the outcome o of their call
+-- and whatever was lent to it.
+abbrev pub OneOutcome : Type 1
+OneOutcome =
+    (Lent : Type 0) (o : Outcome Lent) (r s : Answer) (one other : Lent) → Meets o r one → Meets o s other → (r ≡ s) × (one ≡ other)

@@ -1,6 +1,5 @@
 -- What a call answers and leaves, and the table of refusals: document 01, "The six operations" and "Turned away".
 use mathlib.Core.Path.{_≡_}
-use mathlib.Core.List.{List}
 use Prim.Native.Nat.{ℕ}
 use Rattle.meaning.specs.declared.Answer.{Answer}
 
@@ -8,19 +7,19 @@ use Rattle.meaning.specs.declared.Answer.{Answer}
 abbrev pub answer : ℕ → ℕ → ℕ → ℕ → Answer
 answer refusal key value count = record { refusal = refusal; key = key; value = value; count = count }
 
--- a call's outcome: the four numbers and every word afterwards
-pub record Outcome : Type 0 where
+-- A call's outcome: the four numbers, and what it leaves of all that was lent to it. Most calls are lent the words of a list alone.
+pub record Outcome (Lent : Type 0) : Type 0 where
   pub answered : Answer
-  pub words : List ℕ
+  pub left : Lent
 
--- A call's contract: the numbers r that it answers and the words ws that it leaves are those of the outcome.
-pub record Meets (o : Outcome) (r : Answer) (ws : List ℕ) : Type 0 where
+-- A call's contract: the numbers r that it answers, and what was lent as it leaves it, are those of the outcome.
+pub record Meets {Lent : Type 0} (o : Outcome Lent) (r : Answer) (lent : Lent) : Type 0 where
   pub answered : r ≡ o .answered
-  pub words : ws ≡ o .words
+  pub left : lent ≡ o .left
 
 -- an accepted call
-abbrev pub accepted : ℕ → ℕ → ℕ → List ℕ → Outcome
-accepted key value count ws = record { answered = answer 0 key value count; words = ws }
+abbrev pub accepted : {Lent : Type 0} → ℕ → ℕ → ℕ → Lent → Outcome Lent
+accepted key value count left = record { answered = answer 0 key value count; left = left }
 
 pub data Refusal : Type 0 where
   -- set up: D, K or C out of range
@@ -61,5 +60,5 @@ answerOf owedNotStanding = answer 9 0 0 0
 answerOf lineNotReadable = answer 10 0 0 0
 
 -- "No refusal is given otherwise and none changes a word."
-abbrev pub refused : Refusal → List ℕ → Outcome
-refused r ws = record { answered = answerOf r; words = ws }
+abbrev pub refused : {Lent : Type 0} → Refusal → Lent → Outcome Lent
+refused r lent = record { answered = answerOf r; left = lent }

@@ -35,6 +35,20 @@ pub const OWED_NOT_STANDING: u32 = 9;
 
 pub const LINE_NOT_READABLE: u32 = 10;
 
+// A call of the list, with its numbers.
+pub enum Call {
+    // D, K, C
+    SetUp(u32, u32, u32),
+    // key, value
+    Insert(u32, u32),
+    // key
+    Find(u32),
+    // key
+    Finish(u32),
+    Take,
+    Sweep,
+}
+
 // One step of the walk, from a cell and a coordinate: along the cell's link to a cell, up by one coordinate, or the walk's end.
 pub enum Step {
     Go(u32),

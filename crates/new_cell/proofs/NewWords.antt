@@ -72,8 +72,8 @@ newLinks-length D q c = at (eqb c 0)
     at false = length-set (replicate D 0) q c ∙ length-replicate {A = ℕ} D 0
 
 -- the part from `start` to `end` that holds the links of cell n
-module _ {ws : List ℕ} {s : Settings} (h : Shaped ws s) {n : ℕ} (cell : n < s .cells) {start end : ℕ} (from : start ≡ wordIndex (s .dimensions) n (fieldsBeforeCoordinates + s .dimensions))
-    (to : end ≡ start + s .dimensions) where
+module _ {ws : List ℕ} {s : Settings} (h : Shaped ws s) {n : ℕ} (cell : n < s .cells) {start end first : ℕ}
+    (field : first ≡ linkField (s .dimensions) 0) (from : start ≡ wordIndex (s .dimensions) n first) (to : end ≡ start + s .dimensions) where
   pub links-inside : end ≤ length ws
   links-inside = omega (arith, part-inside h cell (linkField (s .dimensions) 0) (s .dimensions) (omega arith))
 

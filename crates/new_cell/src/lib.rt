@@ -65,7 +65,7 @@ fn put_links(list: &mut [u32], s: Settings, n: u32, q: u32, c: u32)
     requires { ⌜ Shaped (now list) s × ((n < s .cells) × ((c ≡ 0 → ⊥) → q < s .dimensions)) ⌝ }
     ensures { λ r. ⌜ (now (list .exit) ≡ sets (now (list .entry)) (wordIndex (s .dimensions) n (linkField (s .dimensions) 0)) (newLinks (s .dimensions) q c)) × Shaped (now (list .exit)) s ⌝ }
 {
-    let start = words::word_index(s, n, words::COORDINATES + s.dimensions);
+    let start = words::word_index(s, n, words::link_field(s, 0));
     let end = start + s.dimensions as usize;
     write_links(&mut list[start..end], q, c);
 }

@@ -33,7 +33,7 @@ numbers-accepted ws long = set-up-outcome 8 1048575 512 ws refl long
 pub set-up-fresh :
     {after : List ℕ} {r : Answer} → Meets (setUpOut 8 1048575 512 (replicate 11277 0)) r after → after ≡ picture (fresh 8 1048575 512)
 set-up-fresh met =
-    met .words ∙ ap (λ (o : Outcome). o .words) (numbers-accepted (replicate 11277 0) (length-replicate {A = ℕ} 11277 0))
+    met .left ∙ ap (λ (o : Outcome (List ℕ)). o .left) (numbers-accepted (replicate 11277 0) (length-replicate {A = ℕ} 11277 0))
 
 -- One line: what was told of, by its case.
 module _ (buffer ws : List ℕ) {ended : Told} where
@@ -47,11 +47,11 @@ module _ (buffer ws : List ℕ) {ended : Told} where
         {n : ℕ} → ended ≡ Line n → Meets (lineOutcome (line (take (n - 0) buffer)) ws) r after →
         after ≡ wordsAfter (toldIn buffer ended) ws
     unfolding toldIn wordsAfter
-    line-words {n} e met = rw (e, ← sub-zero n) (met .words)
+    line-words {n} e met = rw (e, ← sub-zero n) (met .left)
 
     pub long-line-words : ended ≡ LongLine → Meets (lineOutcome tooLong ws) r after → after ≡ wordsAfter (toldIn buffer ended) ws
     unfolding toldIn wordsAfter
-    long-line-words e met = rw e (met .words)
+    long-line-words e met = rw e (met .left)
 
 -- The end of the input: what the feed tells of is what the end hands on.
 pub end-words :
@@ -74,7 +74,7 @@ byte-taken before ws {feed = feed} {byte} step e =
 words-append : (hs more : List Handed) (ws : List ℕ) → wordsAfter (hs ++ more) ws ≡ wordsAfter more (wordsAfter hs ws)
 unfolding wordsAfter
 words-append [] more ws = refl
-words-append (h ∷ hs) more ws = words-append hs more (lineOutcome h ws .words)
+words-append (h ∷ hs) more ws = words-append hs more (lineOutcome h ws .left)
 
 -- Some bytes, and then more.
 

@@ -13,7 +13,7 @@ use Rattle.order.specs.declared.State.{State}
 -- the words after some lines, from the words before
 unfoldable pub wordsAfter : List Handed → List ℕ → List ℕ
 wordsAfter [] ws = ws
-wordsAfter (h ∷ hs) ws = wordsAfter hs (lineOutcome h ws .words)
+wordsAfter (h ∷ hs) ws = wordsAfter hs (lineOutcome h ws .left)
 
 -- Bytes of the input were taken, from a line begun and the words before: every line that they hand on was asked of the list, in order,
 -- and what follows the last of these lines is the line begun.

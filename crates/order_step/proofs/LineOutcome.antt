@@ -6,17 +6,15 @@ use Prim.Native.Nat.{ℕ}
 use Rattle.text.specs.Lines.{line, tooLong}
 use Rattle.meaning.specs.Refusals.{Meets, answer}
 use Rattle.meaning.specs.Calls.{outcome}
-use Rattle.meaning.specs.Operations.{insertOut, findOut, finishOut, takeOut, sweepOut}
 use Rattle.meaning.specs.declared.Answer.{Answer}
-use Rattle.lines.specs.Grammar.{entryKey, parsedOf}
-use Rattle.lines.specs.declared.Entry.{Entry}
+use Rattle.meaning.specs.declared.Call.{Call}
+use Rattle.lines.specs.Grammar.{parsedOf}
 use Rattle.lines.specs.declared.Line.{Line}
-use Rattle.lines.specs.declared.Kind.the-variants.{Insert, Find, Finish, Take, Sweep}
 use Rattle.lines.specs.declared.Parsed.the-variants.{Readable, Unreadable}
-use Rattle.order_step.specs.Step.{unreadable, lineOutcome}
+use Rattle.order_step.specs.Step.{unreadable, lineOutcome, callOf}
 
 unreadable-meets : {ws : List ℕ} {r : Answer} → r ≡ answer 10 0 0 0 → Meets (unreadable ws) r ws
-unreadable-meets q = record { answered = q; words = refl }
+unreadable-meets q = record { answered = q; left = refl }
 
 -- "an empty or longer line .. is answered 10"
 pub too-long-meets : {ws : List ℕ} {r : Answer} → r ≡ answer 10 0 0 0 → Meets (lineOutcome tooLong ws) r ws
@@ -28,29 +26,9 @@ pub not-read-meets :
 unfolding lineOutcome
 not-read-meets bytes ws none q = rw none (unreadable-meets q)
 
--- A line that is read, by its kind.
-module _ (bytes ws : List ℕ) {after : List ℕ} {r : Answer} {l : Line} (reads : parsedOf bytes ≡ Readable l) where
-  pub insert-meets :
-      {e : Entry} {key value : ℕ} → l .kind ≡ Insert e value → key ≡ entryKey e → Meets (insertOut ws key value) r after →
-      Meets (lineOutcome (line bytes) ws) r after
-  unfolding lineOutcome outcome
-  insert-meets is k met = rw (reads, is, ← k) met
-
-  pub find-meets :
-      {e : Entry} {key : ℕ} → l .kind ≡ Find e → key ≡ entryKey e → Meets (findOut ws key) r after → Meets (lineOutcome (line bytes) ws) r after
-  unfolding lineOutcome outcome
-  find-meets is k met = rw (reads, is, ← k) met
-
-  pub finish-meets :
-      {e : Entry} {key : ℕ} → l .kind ≡ Finish e → key ≡ entryKey e → Meets (finishOut ws key) r after →
-      Meets (lineOutcome (line bytes) ws) r after
-  unfolding lineOutcome outcome
-  finish-meets is k met = rw (reads, is, ← k) met
-
-  pub take-meets : l .kind ≡ Take → Meets (takeOut ws) r after → Meets (lineOutcome (line bytes) ws) r after
-  unfolding lineOutcome outcome
-  take-meets is met = rw (reads, is) met
-
-  pub sweep-meets : l .kind ≡ Sweep → Meets (sweepOut ws) r after → Meets (lineOutcome (line bytes) ws) r after
-  unfolding lineOutcome outcome
-  sweep-meets is met = rw (reads, is) met
+-- a line that is read
+pub read-meets :
+    (bytes ws : List ℕ) {after : List ℕ} {r : Answer} {l : Line} {call : Call} → parsedOf bytes ≡ Readable l → call ≡ callOf (l .kind) →
+    Meets (outcome call ws) r after → Meets (lineOutcome (line bytes) ws) r after
+unfolding lineOutcome
+read-meets bytes ws reads is met = rw (reads, ← is) met

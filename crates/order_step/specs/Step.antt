@@ -3,7 +3,9 @@ use mathlib.Core.List.{List}
 use Prim.Native.Nat.{ℕ}
 use Rattle.text.specs.Lines.{Handed, line, tooLong}
 use Rattle.meaning.specs.Refusals.{Outcome, lineNotReadable, refused}
-use Rattle.meaning.specs.Calls.{Call, insert-key, find-key, finish-key, take-least, sweep-dead, outcome}
+use Rattle.meaning.specs.Calls.{outcome}
+use Rattle.meaning.specs.declared.Call.the-variants as calls
+use Rattle.meaning.specs.declared.Call.{Call}
 use Rattle.lines.specs.Grammar.{entryKey, parsedOf}
 use Rattle.lines.specs.declared.Kind.{Kind}
 use Rattle.lines.specs.declared.Kind.the-variants.{Insert, Find, Finish, Take, Sweep}
@@ -12,21 +14,21 @@ use Rattle.lines.specs.declared.Parsed.the-variants.{Readable, Unreadable}
 
 -- the call that a kind of line asks for
 abbrev pub callOf : Kind → Call
-callOf (Insert e value) = insert-key (entryKey e) value
-callOf (Find e) = find-key (entryKey e)
-callOf (Finish e) = finish-key (entryKey e)
-callOf Take = take-least
-callOf Sweep = sweep-dead
+callOf (Insert e value) = calls.Insert (entryKey e) value
+callOf (Find e) = calls.Find (entryKey e)
+callOf (Finish e) = calls.Finish (entryKey e)
+callOf Take = calls.Take
+callOf Sweep = calls.Sweep
 
 -- "10: program: line not readable"; "10 is given before the list is called"
-abbrev pub unreadable : List ℕ → Outcome
+abbrev pub unreadable : List ℕ → Outcome (List ℕ)
 unreadable ws = refused lineNotReadable ws
 
-abbrev pub parsedOutcome : Parsed → List ℕ → Outcome
+abbrev pub parsedOutcome : Parsed → List ℕ → Outcome (List ℕ)
 parsedOutcome (Readable l) ws = outcome (callOf (l .kind)) ws
 parsedOutcome Unreadable ws = unreadable ws
 
 -- the outcome of a line as it is handed on
-unfoldable pub lineOutcome : Handed → List ℕ → Outcome
+unfoldable pub lineOutcome : Handed → List ℕ → Outcome (List ℕ)
 lineOutcome (line bytes) ws = parsedOutcome (parsedOf bytes) ws
 lineOutcome tooLong ws = unreadable ws

@@ -1,11 +1,28 @@
 // One line of the order program on the list's words: 10 for a line that is not readable, before the list is called; else the call that
 // the line asks for.
+ghost use mathlib.Core.Path.{_≡_};
 ghost use Rattle.text.specs.Lines.{line, tooLong};
 ghost use Rattle.meaning.specs.Refusals.{Meets};
-ghost use Rattle.order_step.specs.Step.{lineOutcome};
+ghost use Rattle.lines.specs.Grammar.{KindInRange};
+ghost use Rattle.order_step.specs.Step.{callOf, lineOutcome};
 use lines::Kind;
 use lines::Parsed;
 use meaning::Answer;
+use meaning::Call;
+
+// The call that a kind of line asks for.
+fn call_of(kind: Kind) -> Call
+    requires { ⌜ KindInRange kind ⌝ }
+    ensures { λ r. ⌜ r ≡ callOf kind ⌝ }
+{
+    match kind {
+        Kind::Insert(e, value) => return Call::Insert(lines::entry_key(e), value),
+        Kind::Find(e) => return Call::Find(lines::entry_key(e)),
+        Kind::Finish(e) => return Call::Finish(lines::entry_key(e)),
+        Kind::Take => return Call::Take,
+        Kind::Sweep => return Call::Sweep,
+    }
+}
 
 // A line with more than 64 bytes.
 pub fn long_line(list: &[u32]) -> Answer
@@ -22,11 +39,5 @@ pub fn step(list: &mut [u32], bytes: &[u8]) -> Answer
         return meaning::refused(meaning::LINE_NOT_READABLE);
     };
     let kind = l.kind;
-    match kind {
-        Kind::Insert(e, value) => return mdlist::mdlist_insert(list, lines::entry_key(e), value),
-        Kind::Find(e) => return mdlist::mdlist_find(list, lines::entry_key(e)),
-        Kind::Finish(e) => return mdlist::mdlist_finish(list, lines::entry_key(e)),
-        Kind::Take => return mdlist::mdlist_take(list),
-        Kind::Sweep => return mdlist::mdlist_sweep(list),
-    }
+    mdlist::make(list, call_of(kind))
 }

@@ -7,15 +7,17 @@ use lib.ListN.{length, getD, set, replicate}
 use Rattle.settings.specs.Numbers.{lengthOf}
 use Rattle.lists.specs.Lists.{those}
 use Rattle.meaning.specs.Reading.{read, isList}
-use Rattle.meaning.specs.Calls.{Call, set-up, insert-key, finish-key, take-least, sweep-dead, outcome, afterCalls}
+use Rattle.meaning.specs.Calls.{outcome, afterCalls}
+use Rattle.meaning.specs.declared.Call.the-variants.{SetUp, Insert, Finish, Take, Sweep}
+use Rattle.meaning.specs.declared.Call.{Call}
 
 -- a fresh list with D, K and C
 abbrev pub freshWith : ℕ → ℕ → ℕ → List ℕ
-freshWith D K C = outcome (set-up D K C) (replicate (lengthOf D C) 0) .words
+freshWith D K C = outcome (SetUp D K C) (replicate (lengthOf D C) 0) .left
 
 abbrev pub inserts : List ℕ → List Call
 inserts [] = []
-inserts (key ∷ keys) = insert-key key (key + 1000) ∷ inserts keys
+inserts (key ∷ keys) = Insert key (key + 1000) ∷ inserts keys
 
 unfoldable pub joined : List (List Call) → List Call
 joined [] = []
@@ -28,10 +30,10 @@ larger =
     afterCalls
     (joined
     (inserts (1 ∷ 2 ∷ 3 ∷ 5 ∷ 9 ∷ 20 ∷ 21 ∷ 22 ∷ 26 ∷ 27 ∷ 30 ∷ 31 ∷ 37 ∷ 38 ∷ 41 ∷ 50 ∷ 51 ∷ 60 ∷ [])
-    ∷ replicate 9 take-least
-    ∷ (sweep-dead ∷ [])
+    ∷ replicate 9 Take
+    ∷ (Sweep ∷ [])
     ∷ inserts (62 ∷ 61 ∷ 33 ∷ 32 ∷ 17 ∷ 16 ∷ [])
-    ∷ (take-least ∷ finish-key 61 ∷ take-least ∷ take-least ∷ insert-key 17 7 ∷ [])
+    ∷ (Take ∷ Finish 61 ∷ Take ∷ Take ∷ Insert 17 7 ∷ [])
     ∷ []))
     (freshWith 3 63 40)
 
@@ -41,10 +43,10 @@ smaller =
     afterCalls
     (joined
     (inserts (1 ∷ 2 ∷ 5 ∷ 6 ∷ 9 ∷ [])
-    ∷ replicate 4 take-least
-    ∷ (sweep-dead ∷ [])
+    ∷ replicate 4 Take
+    ∷ (Sweep ∷ [])
     ∷ inserts (13 ∷ 12 ∷ [])
-    ∷ (take-least ∷ [])
+    ∷ (Take ∷ [])
     ∷ []))
     (freshWith 2 15 10)
 

@@ -56,7 +56,7 @@ module _ (D K C : ℕ) (checked : Checked) (is : checked ≡ checkedOf D K C) wh
   module _ (ws : List ℕ) (r : Answer) where
     pub out-of-range-meets : checked ≡ OutOfRange → r ≡ answer 1 0 0 0 → Meets (setUpOut D K C ws) r ws
     unfolding setUpOut
-    out-of-range-meets e a = rw (not-in-range e, setUpOut) (record { answered = a; words = refl })
+    out-of-range-meets e a = rw (not-in-range e, setUpOut) (record { answered = a; left = refl })
 
     pub wrong-length-meets :
         {s : Settings} → checked ≡ Accepted s → (length ws ≡ lengthOf (s .dimensions) (s .cells) → ⊥) → r ≡ answer 2 0 0 0 →
@@ -64,7 +64,7 @@ module _ (D K C : ℕ) (checked : Checked) (is : checked ≡ checkedOf D K C) wh
     unfolding setUpOut
     wrong-length-meets e differ a =
         let i = in-range e in
-        rw (i .0, ne-eqb (length ws) (lengthOf D C) (rw (i .1) at differ), setUpOut) (record { answered = a; words = refl })
+        rw (i .0, ne-eqb (length ws) (lengthOf D C) (rw (i .1) at differ), setUpOut) (record { answered = a; left = refl })
 
     pub fresh-meets :
         {s : Settings} (left : List ℕ) → checked ≡ Accepted s → length ws ≡ lengthOf (s .dimensions) (s .cells) → r ≡ answer 0 0 0 0 →
@@ -74,4 +74,4 @@ module _ (D K C : ℕ) (checked : Checked) (is : checked ≡ checkedOf D K C) wh
         let i = in-range e in
         let b = ranges D K C (i .0) in
         rw (i .0, eq-eqb (length ws) (lengthOf D C) (rw (i .1) at long), setUpOut)
-        (record { answered = a; words = written ∙ rw (i .1) (sym (fresh-picture D K C (omega arith))) })
+        (record { answered = a; left = written ∙ rw (i .1) (sym (fresh-picture D K C (omega arith))) })

@@ -4,7 +4,7 @@ ghost use mathlib.Core.Path.{_≡_};
 ghost use mathlib.Core.Bool.{true};
 ghost use Prim.Native.Nat.{ℕ, _^_, _≤_, _<_};
 ghost use lib.Dec.{ltb};
-ghost use Rattle.settings.specs.Numbers.{leastDimensions, mostDimensions, leastLargest, mostLargest, mostCells, inRange, baseOf, lengthOf};
+ghost use Rattle.settings.specs.Numbers.{leastDimensions, mostDimensions, leastLargest, mostLargest, mostCells, inRange, baseOf, cellWords, lengthOf};
 ghost use Rattle.settings.specs.Checked.{checkedOf};
 ghost use Rattle.settings.specs.Base.{IsBase, isBase};
 
@@ -19,6 +19,12 @@ pub const MOST_LARGEST: u32 = 4294967295;
 pub const LEAST_CELLS: u32 = 3;
 
 pub const MOST_CELLS: u32 = 4096;
+
+// "Words 0 to 4: D, K, C, b, first free cell. Then D words of path."
+pub const HEADER_WORDS: usize = 5;
+
+// "key, value, mark, owed cell, low, high, D coordinates, D links"
+pub const FIELDS_BEFORE_COORDINATES: u32 = 6;
 
 // The bases for K = 4,294,967,295 and D = 2 to 16.
 const FULL_BASES: [u32; 15] = [65536, 1626, 256, 85, 41, 24, 16, 12, 10, 8, 7, 6, 5, 5, 4];
@@ -116,6 +122,13 @@ pub fn in_range(d: u32, k: u32, c: u32) -> bool
     true
 }
 
+// How many words a cell has in D dimensions.
+pub fn cell_words(d: u32) -> usize
+    ensures { λ r. ⌜ r ≡ cellWords d ⌝ }
+{
+    FIELDS_BEFORE_COORDINATES as usize + 2 * d as usize
+}
+
 impl Settings {
     // The checked constructor.
     pub fn new(d: u32, k: u32, c: u32) -> Checked
@@ -137,8 +150,7 @@ impl Settings {
         requires { ⌜ (self .dimensions ≤ mostDimensions) × (self .cells ≤ mostCells) ⌝ }
         ensures { λ r. ⌜ r ≡ lengthOf (self .dimensions) (self .cells) ⌝ }
     {
-        let d = self.dimensions as usize;
         let c = self.cells as usize;
-        5 + d + c * (6 + 2 * d)
+        HEADER_WORDS + self.dimensions as usize + c * cell_words(self.dimensions)
     }
 }

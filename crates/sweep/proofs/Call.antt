@@ -56,7 +56,7 @@ module _ {ws : List ℕ} {s : Settings} (h : Listed ws s) {all : List ℕ} (pays
       let result : swept (read all) ≡ swept (read ws) = ap swept same ∙ swept-paid (read ws) in
       let number : length (freedBy (read all .row)) ≡ length (freedBy (read ws .row)) =
       omega (arith, freed-count (read all), freed-count (read ws), ap (λ u. length (u .free)) result, ap (λ u. length (u .free)) same) in
-      rw (listed-outcome h) (record { answered = a ∙ ap (answer 0 0 0) (freed ∙ number); words = words ∙ ap picture result })
+      rw (listed-outcome h) (record { answered = a ∙ ap (answer 0 0 0) (freed ∙ number); left = words ∙ ap picture result })
 
   -- the position stays the head
   stays :

@@ -171,7 +171,7 @@ module _ (t : State) (v : Sound t) {a : Ahead} (f : FirstLive (picture t) (t .se
       at [] q =
           let same = sym found ∙ take-none t v (t .settings .cells) (omega arith) q in
           rw (take-outcome-none t v q)
-          (record { answered = e ∙ ap (λ n. answer 7 0 0 n) (ap (λ (o : ahead.Ahead). o .passed) same); words = refl })
+          (record { answered = e ∙ ap (λ n. answer 7 0 0 n) (ap (λ (o : ahead.Ahead). o .passed) same); left = refl })
       at (x ∷ later) q =
           let same = sym found ∙ take-ahead t v (t .settings .cells) (omega arith) x later q in
           let cell = ap (λ (o : ahead.Ahead). o .cell) same in
@@ -198,7 +198,7 @@ module _ (t : State) (v : Sound t) {a : Ahead} (f : FirstLive (picture t) (t .se
             answered =
                 e ∙ ap₂ (λ k w. answer 0 k w (a .passed)) key-of value-of
                 ∙ ap (λ n. answer 0 (x .key) (x .value) n) (ap (λ (o : ahead.Ahead). o .passed) same);
-            words =
+            left =
                 left
                 ∙ ap₂ (λ c p. writePath (store D (store D (picture t) c 1 0) c 2 2) p) cell way
                 ∙ ap (λ l. writePath l (path (taken t x))) (node-stored D (picture t) (x .cell) 0 2)

@@ -44,5 +44,5 @@ cut ws {used} {n} less h =
     rw (none, take-take n used ws less, append-nil (take n ws)) refl
 
 -- a call's answer and words are those of its outcome
-pub called : {o : Outcome} {r : Answer} {after : List ℕ} → Meets o r after → (Four r ≡ Four (o .answered)) × (after ≡ o .words)
-called m = (ap (λ (a : Answer). Four a) (m .answered), m .words)
+pub called : {o : Outcome (List ℕ)} {r : Answer} {after : List ℕ} → Meets o r after → (Four r ≡ Four (o .answered)) × (after ≡ o .left)
+called m = (ap (λ (a : Answer). Four a) (m .answered), m .left)

@@ -4,7 +4,7 @@ use mathlib.Core.Path.{_≡_}
 use Prim.Native.Nat.{ℕ, _-_, _≤_}
 use lib.ListN.{length, take, set, replicate}
 use Rattle.trace.specs.declared.Kind.{Kind}
-use Rattle.trace.specs.declared.Kind.the-variants.{SetUp, Insert, Find, Finish, Take, Sweep, Put, Length, Unreadable}
+use Rattle.trace.specs.declared.Kind.the-variants.{Fresh, Make, Put, Length, Unreadable}
 
 -- the most words that a buffer has
 abbrev pub mostWords : ℕ
@@ -12,12 +12,8 @@ mostWords = 155670
 
 -- the length that a line gives the buffer, and 0 where it gives none
 abbrev pub lengthIn : Kind → ℕ
-lengthIn (SetUp d k c n) = n
-lengthIn (Insert key value) = 0
-lengthIn (Find key) = 0
-lengthIn (Finish key) = 0
-lengthIn Take = 0
-lengthIn Sweep = 0
+lengthIn (Fresh n call) = n
+lengthIn (Make call) = 0
 lengthIn (Put index value) = 0
 lengthIn (Length n) = n
 lengthIn Unreadable = 0
@@ -32,12 +28,8 @@ cutTo n ws = take n ws ++ replicate (n - length ws) 0
 
 -- U makes a buffer of LEN words, P writes one word and nothing past the end, L cuts or extends; every other line leaves it to its call.
 abbrev pub bufferAfter : Kind → List ℕ → List ℕ
-bufferAfter (SetUp d k c n) ws = replicate n left
-bufferAfter (Insert key value) ws = ws
-bufferAfter (Find key) ws = ws
-bufferAfter (Finish key) ws = ws
-bufferAfter Take ws = ws
-bufferAfter Sweep ws = ws
+bufferAfter (Fresh n call) ws = replicate n left
+bufferAfter (Make call) ws = ws
 bufferAfter (Put index value) ws = set ws index value
 bufferAfter (Length n) ws = cutTo n ws
 bufferAfter Unreadable ws = ws

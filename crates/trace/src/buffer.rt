@@ -44,19 +44,10 @@ pub fn altered(words: &mut [u32], used: usize, kind: Kind) -> usize
     ensures { λ r. ⌜ Holds (now (words .exit)) r (bufferAfter kind (take used (now (words .entry)))) ⌝ }
 {
     match kind {
-        Kind::SetUp {
-            d: _,
-            k: _,
-            c: _,
-            len: n,
-        } => return made(words, n as usize),
+        Kind::Fresh(n, _) => return made(words, n as usize),
+        Kind::Make(_) => return used,
         Kind::Put(index, value) => return put(words, used, index as usize, value),
         Kind::Length(n) => return resized(words, used, n as usize),
-        Kind::Insert(_, _) => return used,
-        Kind::Find(_) => return used,
-        Kind::Finish(_) => return used,
-        Kind::Take => return used,
-        Kind::Sweep => return used,
         Kind::Unreadable => return used,
     }
 }

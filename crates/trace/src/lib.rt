@@ -3,6 +3,7 @@
 ghost use Prim.Native.Nat.{_≤_};
 ghost use lib.ListN.{length};
 ghost use Rattle.trace.specs.Trace.{mostWords, lengthIn};
+use meaning::Call;
 use text::fields::Numeral;
 
 pub mod buffer; // buffer.rt: what a line does to the buffer
@@ -14,13 +15,13 @@ const MOST_NUMBERS: usize = 4;
 
 // What a line says.
 pub enum Kind {
-    SetUp { d: u32, k: u32, c: u32, len: u32 },
-    Insert(u32, u32), // key, value
-    Find(u32),
-    Finish(u32),
-    Take,
-    Sweep,
-    Put(u32, u32), // index, value
+    // U: the length of a new buffer, and the set up on it
+    Fresh(u32, Call),
+    // N, F, A, T, S
+    Make(Call),
+    // P: index, value
+    Put(u32, u32),
+    // L
     Length(u32),
     Unreadable,
 }
@@ -72,7 +73,7 @@ fn set_up_line(d: u32, k: u32, c: u32, len: u32) -> Kind
     ensures { λ r. ⌜ lengthIn r ≤ mostWords ⌝ }
 {
     if len as usize <= MOST_WORDS {
-        return Kind::SetUp { d, k, c, len };
+        return Kind::Fresh(len, Call::SetUp(d, k, c));
     }
     Kind::Unreadable
 }
@@ -91,10 +92,10 @@ fn alone(letter: u8) -> Kind
     ensures { λ r. ⌜ lengthIn r ≤ mostWords ⌝ }
 {
     if letter == b'T' {
-        return Kind::Take;
+        return Kind::Make(Call::Take);
     }
     if letter == b'S' {
-        return Kind::Sweep;
+        return Kind::Make(Call::Sweep);
     }
     Kind::Unreadable
 }
@@ -104,10 +105,10 @@ fn with_one(letter: u8, a: u32) -> Kind
     ensures { λ r. ⌜ lengthIn r ≤ mostWords ⌝ }
 {
     if letter == b'F' {
-        return Kind::Find(a);
+        return Kind::Make(Call::Find(a));
     }
     if letter == b'A' {
-        return Kind::Finish(a);
+        return Kind::Make(Call::Finish(a));
     }
     if letter == b'L' {
         return length_line(a);
@@ -119,7 +120,7 @@ fn with_two(letter: u8, a: u32, b: u32) -> Kind
     ensures { λ r. ⌜ lengthIn r ≤ mostWords ⌝ }
 {
     if letter == b'N' {
-        return Kind::Insert(a, b);
+        return Kind::Make(Call::Insert(a, b));
     }
     if letter == b'P' {
         return Kind::Put(a, b);

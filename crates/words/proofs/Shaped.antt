@@ -12,11 +12,11 @@ use lib.ListN.{length, getD, take, drop, set, length-set, length-append, length-
 use lib.Seq.{drop-cons, drop-drop, take-at, drop-set-lt, getD-set-same, getD-set-other, lt-length-set, drop-length, length-take-le, sets, sets-eq}
 use borrow.Author.Tests.{lt-ltb, le-ltb, eq-eqb, ne-eqb}
 use borrow.Rule.Slice.PartMut.{midOf, putMid, mid-len}
-use Rattle.settings.specs.Numbers.{fieldsBeforeCoordinates, cellWords, lengthOf, mostDimensions, mostCells}
+use Rattle.settings.specs.Numbers.{fieldsBeforeCoordinates, cellWords, lengthOf, mostDimensions, mostCells, headerWords}
 use Rattle.settings.specs.declared.Settings.{Settings}
 use Rattle.settings.proofs.Numbers.{cells-fit}
 use Rattle.meaning.specs.Keys.{coordinates}
-use Rattle.meaning.specs.Words.{wordIndex, wordAt, coordinateAt, linkAt, dimensionsAt, largestAt, cellsAt, baseAt, linkField}
+use Rattle.meaning.specs.Words.{wordIndex, wordAt, coordinateAt, linkAt, dimensionsAt, largestAt, cellsAt, baseAt, linkField, positionAt}
 use Rattle.meaning.specs.Walk.{linkRead, stepAlong, stepAt}
 use Rattle.meaning.specs.Layer.Stores.{store}
 use Rattle.meaning.specs.declared.Step.the-variants.{Go, Up, End}
@@ -88,6 +88,9 @@ word-is h x j e = rw (shaped-dimensions h, e) refl
 
 pub link-is : {ws : List ℕ} {s : Settings} → Shaped ws s → (x d : ℕ) → wordAt ws x (linkField (s .dimensions) d) ≡ linkAt ws x d
 link-is h x d = rw (shaped-dimensions h) refl
+
+pub position-is : {ws : List ℕ} {s : Settings} → Shaped ws s → getD ws (headerWords + s .dimensions - 1) 0 ≡ positionAt ws
+position-is h = rw (shaped-dimensions h) refl
 
 pub coordinate-within : {s : Settings} {x d : ℕ} → x < s .cells → d < s .dimensions → Within s x (fieldsBeforeCoordinates + d)
 coordinate-within hx hd = record { cell = hx; field = omega arith }

@@ -6,16 +6,15 @@ ghost use Prim.Native.Nat.{_<_, _≤_};
 ghost use lib.ListN.{length, take, replicate};
 ghost use Rattle.settings.specs.Numbers.{mostDimensions, mostCells};
 ghost use Rattle.meaning.specs.Keys.{coordinates};
-ghost use Rattle.meaning.specs.Words.{wordAt, owedAt, coordinateAt, linkAt};
+ghost use Rattle.meaning.specs.Words.{wordIndex, wordAt, positionAt, owedAt, coordinateAt, linkField, linkAt};
 ghost use Rattle.meaning.specs.Walk.{linkRead, stepAt};
-ghost use Rattle.meaning.specs.Words as definitions;
 ghost use Rattle.meaning.specs.Layer.Stores as stores;
 ghost use Rattle.words.specs.Shaped.{Shaped, Within};
 use meaning::Step;
 use settings::Settings;
 
 // "Words 0 to 4: D, K, C, b, first free cell. Then D words of path."
-pub const HEADER_WORDS: usize = 5;
+pub const HEADER_WORDS: usize = settings::HEADER_WORDS;
 
 // Word 4 is the first free cell.
 pub const FIRST_FREE: usize = 4;
@@ -33,7 +32,7 @@ pub const LOW: u32 = 4;
 
 pub const HIGH: u32 = 5;
 
-pub const COORDINATES: u32 = 6;
+pub const COORDINATES: u32 = settings::FIELDS_BEFORE_COORDINATES;
 
 // "Mark: 0 free, 1 live, 2 dead."
 pub const FREE: u32 = 0;
@@ -45,10 +44,9 @@ pub const DEAD: u32 = 2;
 // Where word j of cell x stands; below 2 to the power 30, so that what callers add to it does not wrap.
 pub fn word_index(s: Settings, x: u32, j: u32) -> usize
     requires { ⌜ (s .dimensions ≤ mostDimensions) × ((s .cells ≤ mostCells) × Within s x j) ⌝ }
-    ensures { λ r. ⌜ (r ≡ definitions.wordIndex (s .dimensions) x j) × (r < 1073741824) ⌝ }
+    ensures { λ r. ⌜ (r ≡ wordIndex (s .dimensions) x j) × (r < 1073741824) ⌝ }
 {
-    let d = s.dimensions as usize;
-    HEADER_WORDS + d + (x as usize) * (COORDINATES as usize + 2 * d) + j as usize
+    HEADER_WORDS + s.dimensions as usize + (x as usize) * settings::cell_words(s.dimensions) + j as usize
 }
 
 // Word j of cell x.
@@ -69,6 +67,23 @@ pub fn store(list: &mut [u32], s: Settings, x: u32, j: u32, v: u32)
     list[at] = v;
 }
 
+// The position: the cell that the last path word names.
+pub fn position(list: &[u32], s: Settings) -> u32
+    requires { ⌜ Shaped (now list) s ⌝ }
+    ensures { λ r. ⌜ r ≡ positionAt (now (list .entry)) ⌝ }
+{
+    let i = HEADER_WORDS + s.dimensions as usize - 1;
+    list[i]
+}
+
+// Where link d stands in a cell.
+pub fn link_field(s: Settings, d: u32) -> u32
+    requires { ⌜ (s .dimensions ≤ mostDimensions) × (d < s .dimensions) ⌝ }
+    ensures { λ r. ⌜ r ≡ linkField (s .dimensions) d ⌝ }
+{
+    COORDINATES + s.dimensions + d
+}
+
 // Coordinate d of cell x, as its word has it.
 pub fn coordinate(list: &[u32], s: Settings, x: u32, d: u32) -> u32
     requires { ⌜ Shaped (now list) s × ((x < s .cells) × (d < s .dimensions)) ⌝ }
@@ -82,7 +97,15 @@ pub fn link(list: &[u32], s: Settings, x: u32, d: u32) -> u32
     requires { ⌜ Shaped (now list) s × ((x < s .cells) × (d < s .dimensions)) ⌝ }
     ensures { λ r. ⌜ r ≡ linkAt (now (list .entry)) x d ⌝ }
 {
-    word(list, s, x, COORDINATES + s.dimensions + d)
+    word(list, s, x, link_field(s, d))
+}
+
+// Link d of cell x becomes v.
+pub fn store_link(list: &mut [u32], s: Settings, x: u32, d: u32, v: u32)
+    requires { ⌜ Shaped (now list) s × ((x < s .cells) × (d < s .dimensions)) ⌝ }
+    ensures { λ r. ⌜ (now (list .exit) ≡ stores.store (s .dimensions) (now (list .entry)) x (linkField (s .dimensions) d) v) × Shaped (now (list .exit)) s ⌝ }
+{
+    store(list, s, x, link_field(s, d), v);
 }
 
 // Link d of cell x, read from the owed cell where x owes it.

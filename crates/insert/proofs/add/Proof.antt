@@ -2,7 +2,7 @@
 -- is set and then the path is written, which makes the words those of the state with the new node.
 use native.Mathlib.Omega.{arith}
 use borrow.Author.Needs.{needs}
-use Rattle.words.proofs.Shaped.{field-within, link-within, set-shaped}
+use Rattle.words.proofs.Shaped.{field-within, set-shaped}
 use Rattle.words.proofs.Listed.{listed-shaped, listed-base}
 use Rattle.insert.proofs.Call.{leads-due, leads-words, new-written, parent-cell, p-link, new-cell, new-fits, payable-parent, payable-c, new-leads}
 use Rattle.insert.proofs.add.Statement.{statement}
@@ -25,20 +25,16 @@ write-cell-requires c κs =
       (listed-base (pre .0 .list), new-fits (pre .0) (pre .1 .0) (pre .1 .1 .0) (pre .1 .1 .1)),
     )
 
-add-link-2 : tie.Need-add-link-2
-add-link-2 c =
-    let pre = c .before .before .before .before .before .before .before .before .before .before .before .before .before .before .before .pre in
-    omega (arith, p-link (pre .0) (pre .1 .0), listed-shaped (pre .0 .list) .dimensions-most)
-
-store-requires : tie.Need-store-requires
-store-requires c κs =
-    let pre = c .before .before .before .before .before .before .before .before .before .before .before .before .before .before .before .before .pre in
-    (c .before .before .before .before .before .write-cell .ensures .1, link-within (parent-cell (pre .0) (pre .1 .0)) (p-link (pre .0) (pre .1 .0)))
+store-link-requires : tie.Need-store-link-requires
+store-link-requires c κs =
+    let filled = c .before .before .before in
+    let pre = filled .before .before .before .before .before .before .before .before .before .before .before .pre in
+    (filled .write-cell .ensures .1, (parent-cell (pre .0) (pre .1 .0), p-link (pre .0) (pre .1 .0)))
 
 move-position-requires : tie.Need-move-position-requires
 move-position-requires c κs =
     let linked = c .before .before .before in
-    let filled = linked .before .before .before .before .before .before in
+    let filled = linked .before .before .before .before in
     let next = filled .before .before in
     let paid = next .before .before .before .before in
     let top = paid .before .before in
@@ -46,14 +42,14 @@ move-position-requires c κs =
     let a = s .args in
     let written =
     new-written (paid .finish-neighbours .ensures .1) (a .list .now) (a .key) (a .value) (a .n) (a .f) (paid .finish-neighbours .ensures .0)
-    (next .word .ensures) (filled .write-cell .ensures .0) (linked .store .ensures .0) in
+    (next .word .ensures) (filled .write-cell .ensures .0) (linked .store-link .ensures .0) in
     let leads = new-leads (s .pre .0) (s .pre .1 .0) (a .value) (s .pre .1 .1 .0) (s .pre .1 .1 .1) in
-    (linked .store .ensures .1, leads-due leads written (top .position-key .ensures))
+    (linked .store-link .ensures .1, leads-due leads written (top .position-key .ensures))
 
 returns : tie.Need-returns
 returns c =
     let linked = c .before .before .before .before .before .before in
-    let filled = linked .before .before .before .before .before .before in
+    let filled = linked .before .before .before .before in
     let next = filled .before .before in
     let paid = next .before .before .before .before in
     let top = paid .before .before in
@@ -61,12 +57,12 @@ returns c =
     let a = s .args in
     let written =
     new-written (paid .finish-neighbours .ensures .1) (a .list .now) (a .key) (a .value) (a .n) (a .f) (paid .finish-neighbours .ensures .0)
-    (next .word .ensures) (filled .write-cell .ensures .0) (linked .store .ensures .0) in
+    (next .word .ensures) (filled .write-cell .ensures .0) (linked .store-link .ensures .0) in
     let leads = new-leads (s .pre .0) (s .pre .1 .0) (a .value) (s .pre .1 .1 .0) (s .pre .1 .1 .1) in
     leads-words leads written (top .position-key .ensures) (c .before .before .move-position .ensures)
 
 pub add-spec : {M : Type 1} → statement M
 add-spec =
     tie.close
-    (tie.spec (λ c κs. search needs) finish-neighbours-requires word-requires (λ c. search needs) write-cell-requires (λ c. search needs) add-link-2
-    store-requires move-position-requires (λ c. search needs) returns)
+    (tie.spec (λ c κs. search needs) finish-neighbours-requires word-requires (λ c. search needs) write-cell-requires store-link-requires
+    move-position-requires (λ c. search needs) returns)

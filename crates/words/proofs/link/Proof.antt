@@ -8,7 +8,7 @@ use Rattle.words.proofs.link.Tie as tie
 returns : tie.Need-returns
 returns c =
     let s = c .before .before .before in
-    c .word .ensures ∙ link-is (s .pre .0) (s .args .x) (s .args .d)
+    rw (← link-is (s .pre .0) (s .args .x) (s .args .d), ← c .before .link-field .ensures) (c .word .ensures)
 
 pub link-spec : {M : Type 1} → statement M
-link-spec = tie.close (tie.spec (λ c. search needs) (λ c. search needs) (λ c κs. search needs) returns)
+link-spec = tie.close (tie.spec (λ c κs. search needs) (λ c κs. search needs) returns)

@@ -17,16 +17,16 @@ returns c =
 part-all-zero-end : tie.Need-part-all-zero-end
 part-all-zero-end c =
     let s = c .before .before .before .before .before in
-    omega (arith, part-inside (s .pre) (c .before .before .if1 .left) 1 (cellWords (s .args .s .dimensions) - 1) (omega arith))
+    omega (arith, part-inside (s .pre) (c .before .before .if1 .left) 1 (cellWords (s .args .s .dimensions) - 1) (omega arith), c .cell-words .ensures)
 
 returns-2 : tie.Need-returns-2
 returns-2 c =
     let s = c .before .before .before .before .before .before .before in
     let start = c .before .before .before .word-index .ensures .0 in
-    c .all-zero .ensures ∙ sym (free-zero (s .pre) (c .before .before .before .before .if1 .left) start (omega arith))
+    c .all-zero .ensures ∙ sym (free-zero (s .pre) (c .before .before .before .before .if1 .left) start (omega (arith, c .before .before .cell-words .ensures)))
 
 pub free-right-spec : {M : Type 1} → statement M
 free-right-spec =
     tie.close
-    (tie.spec returns (λ c κs. search needs) (λ c. search needs) (λ c. search needs) (λ c. search needs) (λ c. search needs) (λ c. search needs)
-    (λ c. search needs) (λ c. search needs) part-all-zero-end (λ c κs. search needs) returns-2)
+    (tie.spec returns (λ c κs. search needs) (λ c κs. search needs) (λ c. search needs) (λ c. search needs) (λ c. search needs) (λ c. search needs)
+    (λ c. search needs) part-all-zero-end (λ c κs. search needs) returns-2)
