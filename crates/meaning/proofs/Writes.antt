@@ -3,26 +3,30 @@ use mathlib.Core.Path.{_≡_, refl, _∙_, sym, ap, ap₂, subst, subst₂}
 use mathlib.Core.Bool.{true, false, cond, true≢false}
 use mathlib.Core.List.{List, [], _∷_, map, map-append}
 use mathlib.Core.Option.{none, some}
-use Prim.Native.Nat.{ℕ, _≤_, _<_}
+use Prim.Native.Nat.{ℕ, zero, suc, _≤_, _<_}
+use native.Mathlib.Decide.{ℕ-discrete, decLt}
 use native.Mathlib.Omega.{arith}
-use lib.ListN.{getD}
+use lib.ListN.{length, getD}
 use borrow.Author.Tests.{le-leb}
+use Rattle.settings.specs.Numbers.{headerWords, cellWords}
 use Rattle.lists.specs.Lists.{occurrences}
 use Rattle.lists.proofs.All.{All, all-map, all-append, all-at}
 use Rattle.meaning.specs.Row.{Node, headNode, nodeAt, placeOf}
 use Rattle.meaning.specs.State.{State, positionKey, placesOf}
 use Rattle.meaning.specs.Picture.{mark, picture, path}
 use Rattle.meaning.specs.Refusals.{Outcome, refused, badKey, keyLive, nothingLive, keyNotStanding}
-use Rattle.meaning.specs.Words.{keyAt, markAt, positionAt}
+use Rattle.meaning.specs.Words.{keyAt, markAt, positionAt, wordAt, dimensionsAt}
 use Rattle.meaning.specs.Operations.{looked, insertOut, finishOut, takeOut, sweepOut, deadFront, fromLive, taken, revived, revivedNode, parentIn, positionAfter, slotFor, finished, withRow, linksMoved, keysAbove}
 use Rattle.meaning.specs.Calls.{outcome}
-use Rattle.meaning.specs.Writes.{Parent, Inserted, Taken, Revived, Swept}
+use Rattle.meaning.specs.Writes.{Parent, Inserted, Taken, Revived, Swept, Marked}
 use Rattle.meaning.specs.Layer.SweepStores.{sweepWords}
 use Rattle.meaning.specs.Sentences.{Standing, Settled}
 use Rattle.meaning.specs.Promises.{FindWritesNothing, TakeWrites, ReviveWrites, InsertWrites, Finishes, FinishWrites, SweepWrites}
+use Rattle.meaning.specs.Layer.Stores.{writePath, writeNode}
+use Rattle.meaning.proofs.Stores.{Exact, picture-exact, wordIn, wordAt-in, cell-sets-inside, cell-sets-before, cell-sets-after, cell-sets-other, cell-sets-below, path-sets-header, path-sets-word}
 use Rattle.meaning.proofs.Order.{Asc, asc-above}
 use Rattle.meaning.proofs.State.{Sound, base-positive}
-use Rattle.meaning.proofs.Picture.{path-length}
+use Rattle.meaning.proofs.Picture.{path-length, picture-dimensions, picture-cells}
 use Rattle.meaning.proofs.Reading.{read-of-picture}
 use Rattle.meaning.proofs.Changed.{picture-path-word}
 use Rattle.meaning.proofs.Places.{asc-right, Located, onCell}
@@ -72,6 +76,60 @@ words-least s v x later e y stands live =
     (live-marked (p .node .live) (sym (place-mark v here) ∙ live)) in
     omega (arith, least, place-key v here)
 
+-- a cell's value and mark, and the path, are all that is written
+marked-words :
+    (s : State) (path : List ℕ) {us : List ℕ} {cell k value mark : ℕ} → Standing (picture s) cell → keyAt (picture s) cell ≡ k →
+    length path ≡ s .settings .dimensions → us ≡ writePath (writeNode (s .settings .dimensions) (picture s) cell value mark) path →
+    Marked (picture s) us cell k value mark
+marked-words s path {us} {cell} {k} {value} {mark} stands same long words =
+    record {
+      standing = stands;
+      same = same;
+      valued = in-cell 1 ∙ cell-sets-inside exact cell 1 (value ∷ mark ∷ []) inside (omega arith) 0 (omega arith);
+      marked = in-cell 2 ∙ cell-sets-inside exact cell 1 (value ∷ mark ∷ []) inside (omega arith) 1 (omega arith);
+      header = header;
+      other = λ x j h apart. in-words x j ∙ other x j h apart (ℕ-discrete x cell) ∙ sym (wordAt-in D ws (picture-dimensions s) x j);
+    }
+  where
+    D : ℕ
+    D = s .settings .dimensions
+
+    ws : List ℕ
+    ws = picture s
+
+    exact : Exact D (s .settings .cells) (picture s)
+    exact = picture-exact s
+
+    inside : cell < s .settings .cells
+    inside = omega (arith, stands .cell, picture-cells s)
+
+    header : (i : ℕ) → i < headerWords → getD us i 0 ≡ getD (picture s) i 0
+    header i h = rw words (path-sets-header (writeNode D (picture s) cell value mark) path i h ∙ cell-sets-below D (picture s) cell 1 (value ∷ mark ∷ []) i (omega arith))
+
+    in-words : (x j : ℕ) → wordAt us x j ≡ wordIn D (writeNode D (picture s) cell value mark) x j
+    in-words x j =
+        wordAt-in D us (header 0 (omega arith) ∙ picture-dimensions s) x j
+        ∙ ap (λ l. wordIn D l x j) words
+        ∙ path-sets-word D (writeNode D (picture s) cell value mark) path long x j
+
+    in-cell : (j : ℕ) → wordAt us cell j ≡ wordIn D (writeNode D (picture s) cell value mark) cell j
+    in-cell j = in-words cell j
+
+    other : (x j : ℕ) → j < cellWords (dimensionsAt (picture s)) → (x ≡ cell → (j ≡ 1 → ⊥) × (j ≡ 2 → ⊥)) → Dec (x ≡ cell) →
+        wordIn D (writeNode D (picture s) cell value mark) x j ≡ wordIn D (picture s) x j
+    other x j h apart (no ne) = cell-sets-other D (picture s) cell 1 (value ∷ mark ∷ []) (omega arith) x j (omega (arith, picture-dimensions s)) ne
+    other x j h apart (yes e) = rw e (at (decLt j 1) (apart e))
+      where
+        at : Dec (j < 1) → (j ≡ 1 → ⊥) × (j ≡ 2 → ⊥) → wordIn D (writeNode D (picture s) cell value mark) cell j ≡ wordIn D (picture s) cell j
+        at (yes l) ne = cell-sets-before D (picture s) cell 1 (value ∷ mark ∷ []) j l
+        at (no l) ne = cell-sets-after D (picture s) cell 1 (value ∷ mark ∷ []) j (above j l (ne .0) (ne .1))
+          where
+            above : (n : ℕ) → (n < 1 → ⊥) → (n ≡ 1 → ⊥) → (n ≡ 2 → ⊥) → 3 ≤ n
+            above zero l one two = absurd (l (omega arith))
+            above (suc zero) l one two = absurd (one refl)
+            above (suc (suc zero)) l one two = absurd (two refl)
+            above (suc (suc (suc n))) l one two = omega arith
+
 take-taken : (s : State) → Sound s → takeOut (picture s) .answered .refusal ≡ 0 → Taken (picture s) (takeOut (picture s) .left) (takeOut (picture s) .answered .key)
 unfolding picture taken
 take-taken s v z = go (fromLive (s .row)) refl
@@ -82,15 +140,11 @@ take-taken s v z = go (fromLive (s .row)) refl
         let o = take-outcome-first s v x later e in
         let here = at-live (HasPlace s) (s .row) x later e (row-placed v) in
         record {
+          cell = x .cell;
           marked =
-              record {
-                cell = x .cell;
-                standing = place-standing v (here .placed);
-                same = at-live (λ y. keyAt (picture s) (y .cell) ≡ y .key) (s .row) x later e (row-key-read s v) ∙ ap (λ (p : Outcome (List ℕ)). p .answered .key) (sym o);
-                path = path (taken s x);
-                long = path-length (taken s x);
-                words = ap (λ (p : Outcome (List ℕ)). p .left) o ∙ taken-words s x later v e;
-              };
+              marked-words s (path (taken s x)) (place-standing v (here .placed))
+              (at-live (λ y. keyAt (picture s) (y .cell) ≡ y .key) (s .row) x later e (row-key-read s v) ∙ ap (λ (p : Outcome (List ℕ)). p .answered .key) (sym o))
+              (path-length (taken s x)) (ap (λ (p : Outcome (List ℕ)). p .left) o ∙ taken-words s x later v e);
           live = place-mark v (here .placed) ∙ ap (λ (y : Node). mark (y .live)) (here .node) ∙ ap mark (fromLive-live (s .row) x later e);
           least = λ y stands live. subst (λ (k : ℕ). k ≤ keyAt (picture s) y) (ap (λ (p : Outcome (List ℕ)). p .answered .key) (sym o)) (words-least s v x later e y stands live);
           position = ap (λ (p : Outcome (List ℕ)). positionAt (p .left)) o ∙ position-is (taken-sound s x later v e);
@@ -127,15 +181,10 @@ revived-leaves s x value v a dead =
     let lowered : x .key ≤ keyAt (picture s) (positionAt (picture s)) → positionAt (picture after) ≡ parentIn after (x .cell) (after .row) =
     λ low. position-is sound ∙ ap (λ t. cond t (parentIn s (x .cell) (after .row)) (s .position)) (le-leb (x .key) (positionKey s) (subst (λ (n : ℕ). x .key ≤ n) (position-key-is v) low)) in
     record {
+      cell = x .cell;
       marked =
-          record {
-            cell = x .cell;
-            standing = place-standing v (here .placed);
-            same = place-key v (here .placed) ∙ ap (λ (y : Node). y .key) (here .node);
-            path = path after;
-            long = path-length after;
-            words = revived-words s x value v a;
-          };
+          marked-words s (path after) (place-standing v (here .placed)) (place-key v (here .placed) ∙ ap (λ (y : Node). y .key) (here .node))
+          (path-length after) (revived-words s x value v a);
       dead = place-mark v (here .placed) ∙ ap (λ (y : Node). mark (y .live)) (here .node) ∙ ap mark dead;
       path-kept = λ above d h.
           let kept = revived-path s x value v a (subst (λ (n : ℕ). n < x .key) (position-key-is v) above) in

@@ -3,13 +3,12 @@ use mathlib.Core.Path.{_≡_}
 use mathlib.Core.List.{List}
 use mathlib.Core.Logic.{_⊎_}
 use Prim.Native.Nat.{ℕ, _+_, _≤_, _<_}
-use lib.ListN.{length, getD}
+use lib.ListN.{getD}
 use Rattle.settings.specs.Numbers.{headerWords, fieldsBeforeCoordinates, cellWords}
 use Rattle.meaning.specs.Keys.{coordinate, shared}
-use Rattle.meaning.specs.Words.{wordAt, keyAt, valueAt, markAt, owedAt, lowAt, highAt, coordinateAt, linkAt, cellsAt, positionAt, dimensionsAt, baseAt, firstFreeAt, linkField, freeMark, liveMark, deadMark, pathAt}
+use Rattle.meaning.specs.Words.{wordAt, keyAt, valueAt, markAt, owedAt, lowAt, highAt, coordinateAt, linkAt, cellsAt, positionAt, dimensionsAt, baseAt, firstFreeAt, linkField, freeMark, liveMark, deadMark, pathAt, valueField, markField}
 use Rattle.meaning.specs.Operations.{Slot, parentIn}
 use Rattle.meaning.specs.Reading.{read}
-use Rattle.meaning.specs.Layer.Stores.{writePath, writeNode}
 use Rattle.meaning.specs.Sentences.{Free, Standing, Settled}
 
 -- "A cell that owes nothing has owed, low and high 0."
@@ -88,32 +87,35 @@ pub record Inserted (ws us : List ℕ) (k v : ℕ) (t : Slot) : Type 0 where
 
 -- A take, or a revival, of key k: value and mark of its cell are written, and the path. "Links are untouched"; "no link changed and nothing
 -- finished".
-pub record Marked (ws us : List ℕ) (k value mark : ℕ) : Type 0 where
-  pub cell : ℕ
+pub record Marked (ws us : List ℕ) (cell k value mark : ℕ) : Type 0 where
   -- a free cell's first word is no key
   pub standing : Standing ws cell
   pub same : keyAt ws cell ≡ k
-  pub path : List ℕ
-  pub long : length path ≡ dimensionsAt ws
-  pub words : us ≡ writePath (writeNode (dimensionsAt ws) ws cell value mark) path
+  pub valued : valueAt us cell ≡ value
+  pub marked : markAt us cell ≡ mark
+  -- every other word of the header and of the cells is as before
+  pub header : (i : ℕ) → i < headerWords → getD us i 0 ≡ getD ws i 0
+  pub other : (x j : ℕ) → j < cellWords (dimensionsAt ws) → (x ≡ cell → (j ≡ valueField → ⊥) × (j ≡ markField → ⊥)) → wordAt us x j ≡ wordAt ws x j
 
 -- A take of key k: "It becomes dead and the position. Links are untouched."
 pub record Taken (ws us : List ℕ) (k : ℕ) : Type 0 where
-  pub marked : Marked ws us k 0 2
+  pub cell : ℕ
+  pub marked : Marked ws us cell k 0 deadMark
   -- "the least live key"
-  pub live : markAt ws (marked .cell) ≡ liveMark
+  pub live : markAt ws cell ≡ liveMark
   pub least : (x : ℕ) → Standing ws x → markAt ws x ≡ liveMark → k ≤ keyAt ws x
   -- "It becomes .. the position"
-  pub position : positionAt us ≡ marked .cell
+  pub position : positionAt us ≡ cell
 
 -- A revival of key k with value v: "A standing dead key gets the new value and mark 1"
 pub record Revived (ws us : List ℕ) (k v : ℕ) : Type 0 where
-  pub marked : Marked ws us k v 1
-  pub dead : markAt ws (marked .cell) ≡ deadMark
+  pub cell : ℕ
+  pub marked : Marked ws us cell k v liveMark
+  pub dead : markAt ws cell ≡ deadMark
   -- "If the key is at or below the position's, the position becomes the parent of that cell in the settled shape", and only so
   pub path-kept : PathKept ws us k
-  pub position-lowered : k ≤ keyAt ws (positionAt ws) → positionAt us ≡ parentIn (read us) (marked .cell) (read us .row)
-  pub position-parent : k ≤ keyAt ws (positionAt ws) → Parent us (marked .cell) (positionAt us)
+  pub position-lowered : k ≤ keyAt ws (positionAt ws) → positionAt us ≡ parentIn (read us) cell (read us .row)
+  pub position-parent : k ≤ keyAt ws (positionAt ws) → Parent us cell (positionAt us)
 
 -- A sweep, in document 01's words: us are the words ws afterwards.
 pub record Swept (ws us : List ℕ) : Type 0 where
