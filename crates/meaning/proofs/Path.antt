@@ -179,13 +179,6 @@ module _ (b D : ℕ) (pos : 0 < b) (pre : List Node) where
       (λ i l. path-same b D pos pre front (y ∷ post) (y .key) i (omega arith) l)
       (λ i h l. path-next-own b D pos pre front y post i (omega arith) h l)
 
-  -- the last word is the cell whose path it is
-  pub path-last :
-      (later : List Node) → 0 < D → Asc 0 pre → getD (pathFor b D (pre ++ later) (lastFrom headNode pre .key)) (D - 1) 0 ≡ lastFrom headNode pre .cell
-  path-last later deep asc =
-      pathFor-at b D (pre ++ later) (lastFrom headNode pre .key) (D - 1) (omega arith)
-      ∙ path-own b D pos pre asc later (D - 1) (let h = dimension-less b D headNode 0 pre asc deep in omega arith) (omega arith)
-
 -- Links of path words
 
 -- Word d of a key's path is a cell of dimension at most d, whose settled link d leads to c.
