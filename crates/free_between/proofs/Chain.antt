@@ -21,7 +21,8 @@ use Rattle.meaning.specs.Layer.Paths.{onward}
 use Rattle.meaning.specs.Layer.Stores.{store, writePath}
 use Rattle.meaning.specs.Layer.SweepStores.{takeLinks, relinkHead, freeCell, freeAll, dropFront}
 use Rattle.meaning.proofs.Stores.{Exact, wordIn, index-apart, index-above, exact-set, store-same}
-use Rattle.meaning.proofs.SweepStores.{Dropping, exact-taken, takeLinks-other, exact-relinked, relinkHead-cell, exact-freed, freeCell-own, freeCell-cell}
+use Rattle.meaning.proofs.SweepStores.{Dropping, exact-taken, takeLinks-other, exact-relinked, relinkHead-cell}
+use Rattle.meaning.proofs.SweepStores.{exact-freed, freeCell-own, freeCell-cell}
 use Rattle.words.proofs.Listed.{listed-shaped}
 use Rattle.paths.specs.declared.Path.{Path}
 use Rattle.paths.specs.Paths.{pathOf, Formed}
@@ -167,7 +168,8 @@ chained-in s ws (x ∷ y ∷ cells) apart below chained =
 
 -- The front dropped, with the cells between the head and cell x chained
 
-module _ {D C : ℕ} {ws : List ℕ} (exact : Exact D C ws) {x number z : ℕ} {between : List ℕ} (path : List ℕ) (f : Dropping D C x number z between) where
+module _ {D C : ℕ} {ws : List ℕ} (exact : Exact D C ws) (path : List ℕ) {x number z : ℕ} {between : List ℕ} (f : Dropping D C x number z between)
+    where
   abbrev takenWords : List ℕ
   takenWords = takeLinks D (chainValues D ws between) x path z (number - z)
 
@@ -195,7 +197,8 @@ module _ {D C : ℕ} {ws : List ℕ} (exact : Exact D C ws) {x number z : ℕ} {
       let chained = exact-chained exact between in
       ap (λ ts. writePath ts (onward D (replicate D 0) z x))
       (freeChained-is D (relinkHead D takenWords x z) between (f .distinct) stays-chained
-      ∙ freeAll-alike (exact-relinked (exact-taken chained x path z (number - z)) x z) (exact-relinked (exact-taken exact x path z (number - z)) x z) between below
+      ∙ freeAll-alike (exact-relinked (exact-taken chained x path z (number - z)) x z) (exact-relinked (exact-taken exact x path z (number - z)) x z)
+      between below
       (alike-relinked (alike-taken (chain-alike D ws between) x path z (number - z) (omega arith)) x z))
 
 -- What may be dropped

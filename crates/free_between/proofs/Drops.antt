@@ -33,7 +33,8 @@ pub record Drops (u : State) (ws : List ℕ) (s : Settings) (c number : ℕ) (pa
   pub words : dropFront (s .dimensions) ws c number path (zerosOf ws s c) (map (λ x. x .cell) (freedBy (u .row))) ≡ picture (swept u)
 
 module _ (u : State) (v : Sound u) (unowing : All (λ x. x .owes ≡ false) (u .row)) {c number : ℕ} {path : List ℕ}
-    (w : PathOf u path (deadFront (u .row)) (fromLive (u .row))) (cell : c ≡ lastOf (deadFront (u .row)) .cell) (is : number ≡ dimensionIn u c) (other : c ≡ 0 → ⊥) where
+    (w : PathOf u path (deadFront (u .row)) (fromLive (u .row))) (cell : c ≡ lastOf (deadFront (u .row)) .cell) (is : number ≡ dimensionIn u c)
+    (other : c ≡ 0 → ⊥) where
   abbrev x : Node
   x = lastOf (deadFront (u .row))
 
@@ -45,7 +46,8 @@ module _ (u : State) (v : Sound u) (unowing : All (λ x. x .owes ≡ false) (u .
 
   keyed-read : Keyed (picture u) (u .settings) (x .cell)
   keyed-read =
-      let here = all-at (HasPlace u) (freedBy (u .row)) x (fromLive (u .row)) (subst (All (HasPlace u)) (swept-front (u .row) ne) (row-placed v)) .placed in
+      let standing = subst (All (HasPlace u)) (swept-front (u .row) ne) (row-placed v) in
+      let here = all-at (HasPlace u) (freedBy (u .row)) x (fromLive (u .row)) standing .placed in
       let b = u .settings .base in
       let D = u .settings .dimensions in
       record {

@@ -117,7 +117,8 @@ module _ {before ws : List ℕ} {s : Settings} {x first : ℕ} {start p : Path} 
         }
 
     pub chaining-onward :
-        (r .cell ≡ x → ⊥) → {after : List ℕ} → after ≡ store (s .dimensions) ws last 1 (r .cell) → Chaining before after s (r .path) (r .cell) (count + 1)
+        (r .cell ≡ x → ⊥) → {after : List ℕ} → after ≡ store (s .dimensions) ws last 1 (r .cell) →
+        Chaining before after s (r .path) (r .cell) (count + 1)
     unfolding chainValues
     chaining-onward ne written =
         let on = upto-on (f .dead) as-before (k .others) (k .on-way) ne in
@@ -139,7 +140,8 @@ module _ {before ws : List ℕ} {s : Settings} {x first : ℕ} {start p : Path} 
 
 -- From the head: the first cell is the first of the chain
 
-module _ {ws : List ℕ} {s : Settings} {x : ℕ} (d : LastDead ws s x) {p : Path} (is : pathOf p ≡ replicate (s .dimensions) 0) {r : Reached} (n : NextIs ws s p r) where
+module _ {ws : List ℕ} {s : Settings} {x : ℕ} (d : LastDead ws s x) {p : Path} (is : pathOf p ≡ replicate (s .dimensions) 0) {r : Reached}
+    (n : NextIs ws s p r) where
   from-head : PathOf (read ws) (pathOf p) [] (freedBy (read ws .row) ++ keptNodes ws)
   from-head = record { split = swept-front (read ws .row) (λ e. d .other (d .is ∙ e)); is = head-starts (d .listed) is .is }
 

@@ -186,7 +186,8 @@ module _ {s : State} (v : Sound s) {path : List ℕ} {front : List Node} where
   pub way-key : {later : List Node} → PathOf s path front later → keyAt (picture s) (lastOf front .cell) ≡ lastOf front .key
   way-key {later} t =
       let Read : Node → Type 0 = λ y. keyAt (picture s) (y .cell) ≡ y .key in
-      rw (last-from front) (all-last Read headNode front (place-key v (head-placed s)) (all-left Read front later (subst (All Read) (t .split) (row-key-read s v))))
+      let fronts = all-left Read front later (subst (All Read) (t .split) (row-key-read s v)) in
+      rw (last-from front) (all-last Read headNode front (place-key v (head-placed s)) fronts)
 
   pub way-end : PathOf s path front [] → nextFrom (picture s) path (s .settings .dimensions) ≡ record { cell = 0; number = 0 }
   way-end t =
@@ -195,7 +196,7 @@ module _ {s : State} (v : Sound s) {path : List ℕ} {front : List Node} where
 
   module _ {y : Node} {later : List Node} (t : PathOf s path front (y ∷ later)) where
     way-dimension : dimensionIn s (y .cell) ≡ shared (s .settings .base) (s .settings .dimensions) (lastOf front .key) (y .key)
-    way-dimension = dimension-is s v front y later (t .split) ∙ ap (λ x. shared (s .settings .base) (s .settings .dimensions) (x .key) (y .key)) (sym (last-from front))
+    way-dimension = rw (last-from front) (dimension-is s v front y later (t .split))
 
     -- the next standing cell ..
     pub way-next : nextFrom (picture s) path (s .settings .dimensions) ≡ record { cell = y .cell; number = dimensionIn s (y .cell) }

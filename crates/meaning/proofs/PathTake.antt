@@ -92,7 +92,8 @@ position-on-way s v = at (position-cases s v)
 -- What is passed
 
 -- one more key above the position
-pub above-more : (position : ℕ) (front : List Node) (y : Node) → position < y .key → keysAbove position (front ++ (y ∷ [])) ≡ keysAbove position front + 1
+pub above-more :
+    (position : ℕ) (front : List Node) (y : Node) → position < y .key → keysAbove position (front ++ (y ∷ [])) ≡ keysAbove position front + 1
 unfolding keysAbove
 above-more position front y h =
     let test : Node → Bool = λ z. ltb position (z .key) in
@@ -114,11 +115,14 @@ passed-upto position front x later asc h =
     all-map (λ y l. ap (λ t. above y && t) (lt-leb (y .key) (x .key) l) ∙ and-false (above y)) later (asc-larger 0 front x later asc) in
     ap length
     (those-append upto front (x ∷ later)
-    ∙ ap₂ _++_ (those-same upto above front low) (those-append upto (x ∷ []) later ∙ ap₂ _++_ (those-all upto (x ∷ []) (own, tt)) (those-none upto later high)))
+    ∙ ap₂ _++_ (those-same upto above front low)
+    (those-append upto (x ∷ []) later ∙ ap₂ _++_ (those-all upto (x ∷ []) (own, tt)) (those-none upto later high)))
     ∙ length-append (those above front) (x ∷ [])
 
 -- the keys above that of the last in front are those still to come
-pub above-later : {s : State} → Sound s → {path : List ℕ} {front later : List Node} → PathOf s path front later → keysAbove (lastOf front .key) (s .row) ≡ length later
+pub above-later :
+    {s : State} → Sound s → {path : List ℕ} {front later : List Node} → PathOf s path front later →
+    keysAbove (lastOf front .key) (s .row) ≡ length later
 unfolding keysAbove
 above-later {s} v {path} {front} {later} w =
     let key = lastOf front .key in

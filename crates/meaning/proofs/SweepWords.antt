@@ -72,12 +72,15 @@ module _ (s : State) (v : Sound s) (unowing : All (λ x. x .owes ≡ false) (s .
 
   -- the numbers fit
   pub swept-dropping :
-      Dropping (s .settings .dimensions) (s .settings .cells) (lastOf (deadFront (s .row)) .cell) (sweptNumber s) (sweptZeros s) (map (λ x. x .cell) (freedBy (s .row)))
-  swept-dropping = rw number-is (dropping s (freedBy (s .row)) (lastOf (deadFront (s .row))) (fromLive (s .row)) sound-before sound-after unowing-before)
+      Dropping (s .settings .dimensions) (s .settings .cells) (lastOf (deadFront (s .row)) .cell) (sweptNumber s) (sweptZeros s)
+      (map (λ x. x .cell) (freedBy (s .row)))
+  swept-dropping =
+      rw number-is (dropping s (freedBy (s .row)) (lastOf (deadFront (s .row))) (fromLive (s .row)) sound-before sound-after unowing-before)
 
   pub unowing-swept :
       picture (swept s)
-      ≡ dropFront (s .settings .dimensions) (picture s) (lastOf (deadFront (s .row)) .cell) (sweptNumber s) (sweptPath s) (sweptZeros s) (map (λ x. x .cell) (freedBy (s .row)))
+      ≡ dropFront (s .settings .dimensions) (picture s) (lastOf (deadFront (s .row)) .cell) (sweptNumber s) (sweptPath s) (sweptZeros s)
+      (map (λ x. x .cell) (freedBy (s .row)))
   unowing-swept =
       let x = lastOf (deadFront (s .row)) in
       let cells = map (λ y. y .cell) (freedBy (s .row)) in

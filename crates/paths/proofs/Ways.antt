@@ -1,5 +1,5 @@
 -- From cell to cell in the order of keys, on a list: what `next` answers on the way through the row of the state that the words hold.
-use mathlib.Core.Path.{_≡_, refl, sym, ap, ap₂, _∙_, subst}
+use mathlib.Core.Path.{_≡_, refl, sym, ap, ap₂, _∙_}
 use mathlib.Core.List.{List, [], _∷_, _++_}
 use Prim.Native.Nat.{ℕ, _<_}
 use native.Mathlib.Omega.{arith}
@@ -23,11 +23,14 @@ use Rattle.paths.specs.Paths.{pathOf, Formed, PathIn, NextIs}
 
 -- the head's path, and that a path on the way is the list's
 
-pub head-starts : {ws : List ℕ} {s : Settings} → Listed ws s → {path : List ℕ} → path ≡ replicate (s .dimensions) 0 → PathOf (read ws) path [] (read ws .row)
+pub head-starts :
+    {ws : List ℕ} {s : Settings} → Listed ws s → {path : List ℕ} → path ≡ replicate (s .dimensions) 0 → PathOf (read ws) path [] (read ws .row)
 head-starts h {path} is =
-    on-listed (λ t ws s. path ≡ replicate (s .dimensions) 0 → PathOf t path [] (t .row)) (λ t v e. subst (λ p. PathOf t p [] (t .row)) (sym e) (head-on-way t)) h is
+    on-listed (λ t ws s. path ≡ replicate (s .dimensions) 0 → PathOf t path [] (t .row)) (λ t v e. rw e (head-on-way t)) h is
 
-pub way-in : {ws : List ℕ} {s : Settings} → Listed ws s → {p : Path} {front later : List Node} → Formed (s .dimensions) p → PathOf (read ws) (pathOf p) front later → PathIn s p
+pub way-in :
+    {ws : List ℕ} {s : Settings} → Listed ws s → {p : Path} {front later : List Node} → Formed (s .dimensions) p →
+    PathOf (read ws) (pathOf p) front later → PathIn s p
 way-in h {p} {front} {later} =
     on-listed (λ t ws s. Formed (s .dimensions) p → PathOf t (pathOf p) front later → PathIn s p)
     (λ t v f w. record { formed = f; below = λ d l. way-within v w d }) h
@@ -77,7 +80,8 @@ module _ {ws : List ℕ} {s : Settings} (h : Listed ws s) {p : Path} {r : Reache
 
   pub moves-nowhere : PathOf (read ws) (pathOf p) front [] → r .cell ≡ 0
   moves-nowhere =
-      on-listed (λ t ws s. NextIs ws s p r → PathOf t (pathOf p) front [] → r .cell ≡ 0) (λ t v m w. ap (λ c. c .cell) (sym (m .is) ∙ way-end v w)) h n
+      on-listed (λ t ws s. NextIs ws s p r → PathOf t (pathOf p) front [] → r .cell ≡ 0)
+      (λ t v m w. ap (λ c. c .cell) (sym (m .is) ∙ way-end v w)) h n
 
   pub moves-on : (later : List Node) → PathOf (read ws) (pathOf p) front later → (r .cell ≡ 0 → ⊥) → MovesOn (read ws) ws front later r
   moves-on [] w some = absurd (some (moves-nowhere w))

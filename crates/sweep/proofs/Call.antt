@@ -62,7 +62,8 @@ module _ {ws : List ℕ} {s : Settings} (h : Listed ws s) {all : List ℕ} (pays
   pub stays-meets : {t : Target} {r : Answer} → Paid all s → SweptTo all s t → t .cell ≡ 0 → r ≡ answer 0 0 0 0 → Meets (sweepOut ws) r all
   stays-meets k to none a =
       let so : (all ≡ picture (swept (read all))) × (0 ≡ length (freedBy (read all .row))) =
-      on-listed (λ u ws s. map paid (u .row) ≡ u .row → lastOf (deadFront (u .row)) .cell ≡ 0 → (ws ≡ picture (swept u)) × (0 ≡ length (freedBy (u .row))))
+      on-listed
+      (λ u ws s. map paid (u .row) ≡ u .row → lastOf (deadFront (u .row)) .cell ≡ 0 → (ws ≡ picture (swept u)) × (0 ≡ length (freedBy (u .row))))
       (λ u v unowing head.
       let same : swept u ≡ u = swept-stays u v head ∙ ap (withRow u) unowing in
       (ap picture (sym same), omega (arith, freed-count u, ap (λ g. length (g .free)) same)))

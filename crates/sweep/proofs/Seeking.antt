@@ -33,7 +33,8 @@ pub record Seeking (ws : List ℕ) (s : Settings) (at number : ℕ) (p : Path) :
   pub reached : number ≡ dimensionIn (read ws) at
   pub path-in : PathIn s p
 
-pub seeking-start : {ws : List ℕ} {s : Settings} {p : Path} → Listed ws s → pathOf p ≡ replicate (s .dimensions) 0 → Formed (s .dimensions) p → Seeking ws s 0 0 p
+pub seeking-start :
+    {ws : List ℕ} {s : Settings} {p : Path} → Listed ws s → pathOf p ≡ replicate (s .dimensions) 0 → Formed (s .dimensions) p → Seeking ws s 0 0 p
 unfolding dimensionAt lastOf
 seeking-start {ws} h is f =
     let w = head-starts h is in
@@ -55,7 +56,8 @@ above-is h {path} {front} {later} {c} =
     on-listed (λ t ws s. PathOf t path front later → c ≡ lastOf front .cell → keysAbove (keyAt ws c) (t .row) ≡ length later)
     (λ t v w e. rw (e, way-key v w) (above-later v w)) h
 
-module _ {ws : List ℕ} {s : Settings} (h : Listed ws s) {at number : ℕ} {p : Path} (k : Seeking ws s at number p) {r : Reached} (n : NextIs ws s p r) where
+module _ {ws : List ℕ} {s : Settings} (h : Listed ws s) {at number : ℕ} {p : Path} (k : Seeking ws s at number p) {r : Reached}
+    (n : NextIs ws s p r) where
   -- where none comes later, or a live one comes next, the new position is found
   found : (later : List Node) → k .later ≡ later → Live later → SweptTo ws s (record { cell = at; number = number; path = p })
   found later e live =

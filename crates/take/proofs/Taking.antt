@@ -75,7 +75,8 @@ passing-start h {p} =
     })
     h
 
-module _ {ws : List ℕ} {s : Settings} (h : Listed ws s) {p : Path} {passed : ℕ} (g : Passing (read ws) s p passed) {r : Reached} (n : NextIs ws s p r) where
+module _ {ws : List ℕ} {s : Settings} (h : Listed ws s) {p : Path} {passed : ℕ} (g : Passing (read ws) s p passed) {r : Reached}
+    (n : NextIs ws s p r) where
   abbrev t : State
   t = read ws
 
@@ -138,7 +139,8 @@ node-stored D ws x value mark = let next : wordIndex D x 2 ≡ suc (wordIndex D 
 
 module _ (t : State) (v : Sound t) (a : Ahead) {r : Answer} where
   none-meets :
-      (live : List Node) → fromLive (t .row) ≡ live → AheadIs t a live → a .cell ≡ 0 → r ≡ answer 7 0 0 (a .passed) → Meets (takeOut (picture t)) r (picture t)
+      (live : List Node) → fromLive (t .row) ≡ live → AheadIs t a live → a .cell ≡ 0 → r ≡ answer 7 0 0 (a .passed) →
+      Meets (takeOut (picture t)) r (picture t)
   none-meets [] q f none e = rw (take-outcome-none t v q) (record { answered = e ∙ ap (λ n. answer 7 0 0 n) (f .passed); words = refl })
   none-meets (x ∷ later) q f none e =
       absurd (omega (arith, f .cell, cell-alone t v (deadFront (t .row)) x later (live-split (t .row) x later q) .standing))
@@ -146,7 +148,8 @@ module _ (t : State) (v : Sound t) (a : Ahead) {r : Answer} where
   taken-meets :
       (live : List Node) → fromLive (t .row) ≡ live → AheadIs t a live →
       {key value : ℕ} {after : List ℕ} → (a .cell ≡ 0 → ⊥) → key ≡ keyAt (picture t) (a .cell) → value ≡ valueAt (picture t) (a .cell) →
-      after ≡ writePath (store (t .settings .dimensions) (store (t .settings .dimensions) (picture t) (a .cell) 1 0) (a .cell) 2 2) (pathOf (a .path)) →
+      after
+      ≡ writePath (store (t .settings .dimensions) (store (t .settings .dimensions) (picture t) (a .cell) 1 0) (a .cell) 2 2) (pathOf (a .path)) →
       r ≡ answer 0 key value (a .passed) → Meets (takeOut (picture t)) r after
   taken-meets [] q f some is-key is-value left e = absurd (some (f .cell))
   taken-meets (x ∷ later) q f some is-key is-value left e =
