@@ -1,9 +1,8 @@
 -- What find answers on a list, by what the search found: the words of the standing cell are those of the key's node.
 use mathlib.Core.Path.{_≡_, sym, ap, ap₂, _∙_}
-use mathlib.Core.Bool.{Bool, true, false}
+use mathlib.Core.Bool.{true, false}
 use mathlib.Core.List.{List}
 use Prim.Native.Nat.{ℕ, _≤_, _<_}
-use native.Mathlib.Omega.{arith}
 use Rattle.settings.specs.declared.Settings.{Settings}
 use Rattle.meaning.specs.Row.{Node}
 use Rattle.meaning.specs.State.{State}
@@ -14,7 +13,7 @@ use Rattle.meaning.specs.Operations.{looked, findOut}
 use Rattle.meaning.specs.Words.{valueAt, markAt}
 use Rattle.meaning.specs.Layer.Listed.{Listed}
 use Rattle.meaning.proofs.State.{Sound}
-use Rattle.meaning.proofs.Placed.{place-value, place-mark}
+use Rattle.meaning.proofs.Placed.{mark-one, mark-other, place-value, place-mark}
 use Rattle.meaning.proofs.Outcomes.{find-outcome-bad-key, find-outcome-absent, find-outcome-dead, find-outcome-live}
 use Rattle.search.specs.Found.{foundOf}
 use Rattle.search.specs.declared.Found.{Found}
@@ -32,15 +31,6 @@ module _ {t : State} (v : Sound t) {k : ℕ} {x : Node} {f : Found} (p : Present
   value-read =
       let at = node-placed v k x (p .node) in
       ap (valueAt (picture t)) (p .c) ∙ place-value v (at .1 .0) ∙ ap (λ y. y .value) (at .1 .1)
-
--- mark 1 is that of a live cell
-mark-one : (live : Bool) → mark live ≡ 1 → live ≡ true
-mark-one true e = cc
-mark-one false e = absurd (omega arith)
-
-mark-other : (live : Bool) → (mark live ≡ 1 → ⊥) → live ≡ false
-mark-other true n = absurd (n (omega arith))
-mark-other false n = cc
 
 -- The answer of each way out
 

@@ -62,41 +62,40 @@ take-all D ws x path d {number} h =
 -- A word of a cell, and zeros after it
 
 -- the part lent is the words after word j of cell x
-module _ {ws : List ℕ} {s : Settings} (h : Shaped ws s) {x j : ℕ} (w : Within s x j) {at end : ℕ} (from : at ≡ wordIndex (s .dimensions) x j)
-    (to : end ≡ at + 1 + (cellWords (s .dimensions) - 1 - j)) where
+module _ {ws : List ℕ} {s : Settings} (h : Shaped ws s) {x j : ℕ} (w : Within s x j) {at end size : ℕ} (from : at ≡ wordIndex (s .dimensions) x j)
+    (sized : size ≡ cellWords (s .dimensions)) (to : end ≡ at + 1 + size - 1 - j) where
   pub rest-inside : end ≤ length ws
   rest-inside =
       let D = s .dimensions in
-      omega (arith, part-inside h (w .cell) (suc j) (cellWords D - suc j) (omega (arith, w .field)))
+      omega (arith, w .field, part-inside h (w .cell) (suc j) (cellWords D - suc j) (omega (arith, w .field)))
 
   pub rest-written : (before : List ℕ) (v : ℕ) {ys : List ℕ} → ws ≡ store (s .dimensions) before x j v →
       ys ≡ replicate (length (midOf (at + 1) (end - (at + 1)) ws)) 0 →
       putMid (at + 1) (end - (at + 1)) ws ys ≡ sets before (wordIndex (s .dimensions) x j) (v ∷ replicate (cellWords (s .dimensions) - suc j) 0)
   rest-written before v {ys} e is =
       let D = s .dimensions in
-      let long : length (midOf (at + 1) (end - (at + 1)) ws) ≡ cellWords D - suc j = omega (arith, mid-len (at + 1) end ws rest-inside) in
+      let long : length (midOf (at + 1) (end - (at + 1)) ws) ≡ cellWords D - suc j = omega (arith, w .field, mid-len (at + 1) end ws rest-inside) in
       let zeros : ys ≡ replicate (cellWords D - suc j) 0 = is ∙ ap (λ n. replicate n 0) long in
       let next : wordIndex D x (suc j) ≡ suc (wordIndex D x j) = omega arith in
       let filled : length ys ≡ cellWords D - suc j = ap length zeros ∙ length-replicate {A = ℕ} (cellWords D - suc j) 0 in
       let start : at + 1 ≡ wordIndex D x (suc j) = omega arith in
-      let count : end ≡ at + 1 + (cellWords D - suc j) = omega arith in
+      let count : end ≡ at + 1 + (cellWords D - suc j) = omega (arith, w .field) in
       part-written ws ys D x (suc j) (cellWords D - suc j) start count rest-inside filled ∙ rw (e, zeros, next) refl
 
 -- The head's links, and a cell that becomes free
 
-pub relinked : (D : ℕ) (ws : List ℕ) (x z : ℕ) {left : List ℕ} →
-    left ≡ sets ws (wordIndex D 0 (linkField D z)) (x ∷ replicate (cellWords D - suc (linkField D z)) 0) → left ≡ relinkHead D ws x z
+pub relinked : (D : ℕ) (ws : List ℕ) (x z : ℕ) {left : List ℕ} {j : ℕ} → j ≡ linkField D z →
+    left ≡ sets ws (wordIndex D 0 j) (x ∷ replicate (cellWords D - suc j) 0) → left ≡ relinkHead D ws x z
 unfolding relinkHead
-relinked D ws x z e =
+relinked D ws x z field e =
     let count : cellWords D - suc (linkField D z) ≡ D - suc z = omega arith in
-    e ∙ rw count refl
+    e ∙ rw (field, count) refl
 
 pub freed : (D : ℕ) (ws : List ℕ) (x : ℕ) {left : List ℕ} →
     left ≡ sets ws (wordIndex D x 0) (firstFreeAt ws ∷ replicate (cellWords D - 1) 0) → set left 4 x ≡ freeCell D ws x
 unfolding freeCell freeWords
 freed D ws x e =
-    let count : cellWords D - 1 ≡ 5 + 2 * D = omega arith in
-    rw (e, count) refl
+    rw e refl
 
 -- Chained cells
 

@@ -13,18 +13,22 @@ use Rattle.settings.specs.declared.Settings.{Settings}
 use Rattle.lists.specs.Lists.{firstNumber}
 use Rattle.lists.proofs.Occurrences.{Distinct}
 use Rattle.lists.proofs.All.{All, all-map, all-each}
-use Rattle.meaning.specs.Picture.{freeWords}
+use Rattle.meaning.specs.Picture.{freeWords, picture}
+use Rattle.meaning.specs.Reading.{read}
 use Rattle.meaning.specs.Words.{wordIndex, firstFreeAt, linkField}
+use Rattle.meaning.specs.Operations.{swept}
 use Rattle.meaning.specs.Layer.Paths.{onward}
 use Rattle.meaning.specs.Layer.Stores.{store, writePath}
 use Rattle.meaning.specs.Layer.SweepStores.{takeLinks, relinkHead, freeCell, freeAll, dropFront}
 use Rattle.meaning.proofs.Stores.{Exact, wordIn, index-apart, index-above, exact-set, store-same}
-use Rattle.meaning.proofs.SweepStores.{exact-taken, takeLinks-other, exact-relinked, relinkHead-cell, exact-freed, freeCell-own, freeCell-cell}
+use Rattle.meaning.proofs.SweepStores.{Dropping, exact-taken, takeLinks-other, exact-relinked, relinkHead-cell}
+use Rattle.meaning.proofs.SweepStores.{exact-freed, freeCell-own, freeCell-cell}
+use Rattle.words.proofs.Listed.{listed-shaped}
 use Rattle.paths.specs.declared.Path.{Path}
 use Rattle.paths.specs.Paths.{pathOf, Formed}
 use Rattle.free_between.specs.declared.Target.{Target}
-use Rattle.free_between.specs.declared.Freed.{Freed}
-use Rattle.free_between.specs.Between.{cellsUpTo, zerosOf, Droppable, droppedTo, chainValues, freeChained, ChainIn, ChainedUpTo}
+use Rattle.free_between.specs.Between.{Droppable, zerosOf, freedCells, chainValues, freeChained, ChainIn, CellsChained}
+use Rattle.free_between.proofs.Drops.{drops}
 
 -- Words that agree but for value words
 
@@ -164,15 +168,8 @@ chained-in s ws (x ∷ y ∷ cells) apart below chained =
 
 -- The front dropped, with the cells between the head and cell x chained
 
--- the numbers of a drop fit, and the cells to free are distinct cells of the list, none of them the head
-record Fits (D C : ℕ) (ws between : List ℕ) (number z : ℕ) : Type 0 where
-  exact : Exact D C ws
-  inside : z < D
-  most : number ≤ D
-  distinct : Distinct between
-  range : All (λ y. (0 < y) × (y < C)) between
-
-module _ {D C : ℕ} {ws between : List ℕ} {number z : ℕ} (f : Fits D C ws between number z) (x : ℕ) (path : List ℕ) where
+module _ {D C : ℕ} {ws : List ℕ} (exact : Exact D C ws) (path : List ℕ) {x number z : ℕ} {between : List ℕ} (f : Dropping D C x number z between)
+    where
   abbrev takenWords : List ℕ
   takenWords = takeLinks D (chainValues D ws between) x path z (number - z)
 
@@ -183,12 +180,12 @@ module _ {D C : ℕ} {ws between : List ℕ} {number z : ℕ} (f : Fits D C ws b
   stays-chained : Chained D (relinkHead D takenWords x z) between
   stays-chained =
       let inside = f .inside in
-      let most = f .most in
+      let least = f .least in
       chained-same D (relinkHead D takenWords x z) (chainValues D ws between) between
       (all-map (λ c r.
       relinkHead-cell D takenWords x z inside c 1 (omega arith) (λ e. let above = r .0 in omega arith)
       ∙ takeLinks-other D (chainValues D ws between) x path z (number - z) (omega arith) c 1 (omega arith) (λ e i l u g. omega arith)) between (f .range))
-      (chain-chained (f .exact) between (f .distinct) below)
+      (chain-chained exact between (f .distinct) below)
 
   drops-chained :
       writePath (freeChained D (relinkHead D takenWords x z) (firstNumber between) (length between)) (onward D (replicate D 0) z x)
@@ -196,54 +193,37 @@ module _ {D C : ℕ} {ws between : List ℕ} {number z : ℕ} (f : Fits D C ws b
   unfolding dropFront
   drops-chained =
       let inside = f .inside in
-      let most = f .most in
-      let chained = exact-chained (f .exact) between in
+      let least = f .least in
+      let chained = exact-chained exact between in
       ap (λ ts. writePath ts (onward D (replicate D 0) z x))
       (freeChained-is D (relinkHead D takenWords x z) between (f .distinct) stays-chained
-      ∙ freeAll-alike (exact-relinked (exact-taken chained x path z (number - z)) x z) (exact-relinked (exact-taken (f .exact) x path z (number - z)) x z) between below
+      ∙ freeAll-alike (exact-relinked (exact-taken chained x path z (number - z)) x z) (exact-relinked (exact-taken exact x path z (number - z)) x z)
+      between below
       (alike-relinked (alike-taken (chain-alike D ws between) x path z (number - z) (omega arith)) x z))
 
 -- What may be dropped
 
--- what holds of the cell at each place holds of all; cells at two places differ
-indexed-all : (P : ℕ → Type 0) (cells : List ℕ) → ((i : ℕ) → i < length cells → P (getD cells i 0)) → All P cells
-indexed-all P [] f = tt
-indexed-all P (c ∷ cells) f = (f 0 (omega arith), indexed-all P cells (λ i h. f (suc i) (omega arith)))
-
-indexed-distinct : (cells : List ℕ) → ((i j : ℕ) → i < j → j < length cells → getD cells i 0 ≡ getD cells j 0 → ⊥) → Distinct cells
-indexed-distinct [] f = tt
-indexed-distinct (c ∷ cells) f = (
-  indexed-all (λ y. c ≡ y → ⊥) cells (λ i h. f 0 (suc i) (omega arith) (omega arith)),
-  indexed-distinct cells (λ i j h l. f (suc i) (suc j) (omega arith) (omega arith)),
-)
-
-fits : {ws : List ℕ} {s : Settings} {t : Target} → Droppable ws s t →
-    Fits (s .dimensions) (s .cells) ws (cellsUpTo ws s (t .cell)) (t .number) (zerosOf ws s (t .cell))
-fits {ws} {s} {t} d =
-    record {
-      exact = record { size = d .walkable .shaped .long };
-      inside = d .differs;
-      most = d .most;
-      distinct = indexed-distinct (cellsUpTo ws s (t .cell)) (d .once);
-      range = indexed-all (λ y. (0 < y) × (y < s .cells)) (cellsUpTo ws s (t .cell)) (λ i h. (d .reached .standing i h, d .within i h));
-    }
-
-module _ {ws : List ℕ} {s : Settings} {t : Target} (d : Droppable ws s t) {z : ℕ} {r : Freed} {chained taken relinked : List ℕ}
-    (zs : z ≡ zerosOf ws s (t .cell)) (chains : ChainedUpTo ws s (t .cell) r chained)
+module _ {ws : List ℕ} {s : Settings} {t : Target} (d : Droppable ws s t) {z first count : ℕ} {chained taken relinked : List ℕ}
+    (zs : z ≡ zerosOf ws s (t .cell)) (chains : CellsChained ws s count chained × (first ≡ firstNumber (freedCells ws)))
     (takes : taken ≡ takeLinks (s .dimensions) chained (t .cell) (pathOf (t .path)) z (t .number - z))
     (relinks : relinked ≡ relinkHead (s .dimensions) taken (t .cell) z) where
-  pub chain-ready : ChainIn s relinked (r .first) (r .count)
+  exact-words : Exact (s .dimensions) (s .cells) ws
+  exact-words = record { size = listed-shaped (d .paid .listed) .long }
+
+  pub chain-ready : ChainIn s relinked first count
   chain-ready =
       let path = pathOf (t .path) in
-      rw (relinks, takes, chains .words, chains .first, chains .count, zs)
-      (chained-in s (relinkHead (s .dimensions) (takenWords (fits d) (t .cell) path) (t .cell) (zerosOf ws s (t .cell))) (cellsUpTo ws s (t .cell))
-      (fits d .distinct) (below (fits d) (t .cell) path) (stays-chained (fits d) (t .cell) path))
+      let drop = drops d .dropping in
+      rw (relinks, takes, chains .0 .words, chains .1, chains .0 .count, zs)
+      (chained-in s (relinkHead (s .dimensions) (takenWords exact-words path drop) (t .cell) (zerosOf ws s (t .cell))) (freedCells ws)
+      (drop .distinct) (below exact-words path drop) (stays-chained exact-words path drop))
 
   pub front-dropped :
-      {freed way left : List ℕ} → freed ≡ freeChained (s .dimensions) relinked (r .first) (r .count) →
-      way ≡ onward (s .dimensions) (replicate (s .dimensions) 0) z (t .cell) → left ≡ writePath freed way → left ≡ droppedTo ws s t
+      {freed way left : List ℕ} → freed ≡ freeChained (s .dimensions) relinked first count →
+      way ≡ onward (s .dimensions) (replicate (s .dimensions) 0) z (t .cell) → left ≡ writePath freed way → left ≡ picture (swept (read ws))
   front-dropped frees redraws writes =
-      rw (writes, redraws, frees, relinks, takes, chains .words, chains .first, chains .count, zs) (drops-chained (fits d) (t .cell) (pathOf (t .path)))
+      rw (writes, redraws, frees, relinks, takes, chains .0 .words, chains .1, chains .0 .count, zs)
+      (drops-chained exact-words (pathOf (t .path)) (drops d .dropping) ∙ drops d .words)
 
 -- the path of a cell that hangs from the head by link z
 pub head-redrawn :

@@ -1,35 +1,44 @@
 -- What freeing the cells between the head and a new position asks and answers. No list of those cells is at hand: they are chained through
 -- their value words before links change. What is left is said as if there were one.
 use mathlib.Core.Path.{_≡_}
-use mathlib.Core.List.{List, [], _∷_}
-use Prim.Native.Nat.{ℕ, zero, suc, _^_, _≤_, _<_}
-use lib.ListN.{length, getD, replicate}
+use mathlib.Core.List.{List, [], _∷_, _++_, map}
+use Prim.Native.Nat.{ℕ, zero, suc, _^_, _<_}
+use lib.ListN.{length, getD}
 use Rattle.settings.specs.declared.Settings.{Settings}
-use Rattle.lists.specs.Lists.{firstNumber}
 use Rattle.meaning.specs.Keys.{coordinate, shared}
+use Rattle.meaning.specs.Row.{Node}
+use Rattle.meaning.specs.Reading.{read}
 use Rattle.meaning.specs.Words.{wordIndex, keyAt, coordinateAt}
+use Rattle.meaning.specs.Operations.{paid, deadFront, fromLive, lastOf, freedBy}
+use Rattle.meaning.specs.Layer.Listed.{Listed}
+use Rattle.meaning.specs.Layer.Paths.{PathOf, dimensionIn}
 use Rattle.meaning.specs.Layer.Stores.{store}
-use Rattle.meaning.specs.Layer.SweepStores.{cellsBefore, freeCell, dropFront}
+use Rattle.meaning.specs.Layer.SweepStores.{freeCell}
 use Rattle.words.specs.Shaped.{Shaped}
-use Rattle.paths.specs.Paths.{pathOf, PathIn, Walkable}
+use Rattle.paths.specs.declared.Path.{Path}
+use Rattle.paths.specs.Paths.{pathOf, PathIn}
 use Rattle.free_between.specs.declared.Target.{Target}
-use Rattle.free_between.specs.declared.Freed.{Freed}
-
--- The cells between
-
--- the cells after a path's cell and before cell x, and those after the head
-abbrev pub cellsTo : List ℕ → Settings → ℕ → List ℕ → List ℕ
-cellsTo ws s x path = cellsBefore (s .cells) ws x path
-
-abbrev pub cellsUpTo : List ℕ → Settings → ℕ → List ℕ
-cellsUpTo ws s x = cellsTo ws s x (replicate (s .dimensions) 0)
-
--- Going from cell to cell after a path's cell leads to cell x, over fewer cells than there are, none of them the head.
-pub record Reaches (ws : List ℕ) (s : Settings) (x : ℕ) (path : List ℕ) : Type 0 where
-  pub ends : length (cellsTo ws s x path) < s .cells
-  pub standing : (i : ℕ) → i < length (cellsTo ws s x path) → 0 < getD (cellsTo ws s x path) i 0
 
 -- The new position
+
+-- Where a sweep moves the position: to the last of the dead nodes before the first live one, or to the head; its cell, its dimension and
+-- its path.
+pub record SweptTo (ws : List ℕ) (s : Settings) (t : Target) : Type 0 where
+  pub on-way : PathOf (read ws) (pathOf (t .path)) (deadFront (read ws .row)) (fromLive (read ws .row))
+  pub cell : t .cell ≡ lastOf (deadFront (read ws .row)) .cell
+  pub number : t .number ≡ dimensionIn (read ws) (t .cell)
+  pub path-in : PathIn s (t .path)
+
+-- a list on which nobody owes: paying changes no node
+pub record Paid (ws : List ℕ) (s : Settings) : Type 0 where
+  pub listed : Listed ws s
+  pub unowing : map paid (read ws .row) ≡ read ws .row
+
+-- The front may be dropped up to target t: nobody owes, and it is where a sweep moves the position, other than the head.
+pub record Droppable (ws : List ℕ) (s : Settings) (t : Target) : Type 0 where
+  pub paid : Paid ws s
+  pub target : SweptTo ws s t
+  pub other : t .cell ≡ 0 → ⊥
 
 -- how many coordinates cell x shares with the head, by its key
 abbrev pub zerosOf : List ℕ → Settings → ℕ → ℕ
@@ -42,24 +51,32 @@ pub record Keyed (ws : List ℕ) (s : Settings) (x : ℕ) : Type 0 where
   pub fits : keyAt ws x < s .base ^ s .dimensions
   pub coordinates : (d : ℕ) → d < s .dimensions → coordinateAt ws x d ≡ coordinate (s .base) (s .dimensions) (keyAt ws x) d
 
--- The front may be dropped up to target t: its cell differs from the head in some coordinate, its number and its path are a list's, and going
--- from the head leads to it over cells of the list, each met once.
-pub record Droppable (ws : List ℕ) (s : Settings) (t : Target) : Type 0 where
-  pub walkable : Walkable ws s
-  pub keyed : Keyed ws s (t .cell)
-  pub differs : zerosOf ws s (t .cell) < s .dimensions
-  pub most : t .number ≤ s .dimensions
-  pub path-in : PathIn s (t .path)
-  pub reached : Reaches ws s (t .cell) (replicate (s .dimensions) 0)
-  pub within : (i : ℕ) → i < length (cellsUpTo ws s (t .cell)) → getD (cellsUpTo ws s (t .cell)) i 0 < s .cells
-  pub once :
-      (i j : ℕ) → i < j → j < length (cellsUpTo ws s (t .cell)) →
-      getD (cellsUpTo ws s (t .cell)) i 0 ≡ getD (cellsUpTo ws s (t .cell)) j 0 → ⊥
+-- The cells between
 
--- the words with the front dropped up to target t
-abbrev pub droppedTo : List ℕ → Settings → Target → List ℕ
-droppedTo ws s t =
-    dropFront (s .dimensions) ws (t .cell) (t .number) (pathOf (t .path)) (zerosOf ws s (t .cell)) (cellsUpTo ws s (t .cell))
+-- the cells that a sweep frees, in the order of their keys
+abbrev pub freedCells : List ℕ → List ℕ
+freedCells ws = map (λ x. x .cell) (freedBy (read ws .row))
+
+-- the nodes that it keeps: the new position and those after it
+abbrev pub keptNodes : List ℕ → List Node
+keptNodes ws = lastOf (deadFront (read ws .row)) ∷ fromLive (read ws .row)
+
+-- cell x, other than the head, is the one that a sweep of this list moves the position to
+pub record LastDead (ws : List ℕ) (s : Settings) (x : ℕ) : Type 0 where
+  pub listed : Listed ws s
+  pub is : x ≡ lastOf (deadFront (read ws .row)) .cell
+  pub other : x ≡ 0 → ⊥
+
+-- cell `first`, which has this path, is the first to be freed before cell x
+pub record FirstFreed (ws : List ℕ) (s : Settings) (x first : ℕ) (start : Path) : Type 0 where
+  pub dead : LastDead ws s x
+  pub node : Node
+  pub others : List Node
+  pub freed : freedBy (read ws .row) ≡ node ∷ others
+  pub cell : first ≡ node .cell
+  pub below : first < s .cells
+  pub on-way : PathOf (read ws) (pathOf start) (node ∷ []) (others ++ keptNodes ws)
+  pub path-in : PathIn s start
 
 -- The chain
 
@@ -79,15 +96,8 @@ abbrev pub ChainIn : Settings → List ℕ → ℕ → ℕ → Type 0
 ChainIn s ws x zero = Unit {0}
 ChainIn s ws x (suc n) = (x < s .cells) × ChainIn s (freeCell (s .dimensions) ws x) (getD ws (wordIndex (s .dimensions) x 1) 0) n
 
--- cell `first`, which has a path, and the cells after it and before cell x are chained, and they are r
-pub record ChainedFrom (ws : List ℕ) (s : Settings) (x first : ℕ) (path : List ℕ) (r : ℕ) (after : List ℕ) : Type 0 where
-  pub words : after ≡ chainValues (s .dimensions) ws (first ∷ cellsTo ws s x path)
-  pub count : r ≡ suc (length (cellsTo ws s x path))
-  pub shaped : Shaped after s
-
--- the cells after the head and before cell x are chained, and r tells the first of them and how many they are
-pub record ChainedUpTo (ws : List ℕ) (s : Settings) (x : ℕ) (r : Freed) (after : List ℕ) : Type 0 where
-  pub words : after ≡ chainValues (s .dimensions) ws (cellsUpTo ws s x)
-  pub first : r .first ≡ firstNumber (cellsUpTo ws s x)
-  pub count : r .count ≡ length (cellsUpTo ws s x)
+-- the cells that a sweep frees are chained, and they are r
+pub record CellsChained (ws : List ℕ) (s : Settings) (r : ℕ) (after : List ℕ) : Type 0 where
+  pub words : after ≡ chainValues (s .dimensions) ws (freedCells ws)
+  pub count : r ≡ length (freedCells ws)
   pub shaped : Shaped after s

@@ -6,11 +6,15 @@ ghost use Prim.Native.Nat.{suc, _-_, _≤_, _<_};
 ghost use lib.ListN.{length, getD, replicate};
 ghost use lib.Seq.{sets};
 ghost use Rattle.settings.specs.Numbers.{cellWords};
+ghost use Rattle.lists.specs.Lists.{firstNumber};
+ghost use Rattle.meaning.specs.Picture.{picture};
+ghost use Rattle.meaning.specs.Reading.{read};
 ghost use Rattle.meaning.specs.Words.{wordIndex};
+ghost use Rattle.meaning.specs.Operations.{freedBy, swept};
 ghost use Rattle.meaning.specs.Layer.SweepStores.{takeLinks, relinkHead, freeCell};
 ghost use Rattle.words.specs.Shaped.{Shaped, Within};
-ghost use Rattle.paths.specs.Paths.{pathOf, Formed, PathIn, Walkable};
-ghost use Rattle.free_between.specs.Between.{cellsUpTo, Reaches, zerosOf, Keyed, Droppable, droppedTo, freeChained, ChainIn, ChainedFrom, ChainedUpTo};
+ghost use Rattle.paths.specs.Paths.{pathOf, Formed, PathIn};
+ghost use Rattle.free_between.specs.Between.{Droppable, zerosOf, Keyed, freedCells, LastDead, FirstFreed, freeChained, ChainIn, CellsChained};
 use paths::Path;
 use settings::Settings;
 
@@ -30,8 +34,8 @@ struct Freed {
 // Chains cell `first`, whose path is `start`, and the cells between it and the new position through their value words. Answers how many
 // they are.
 fn chain_from(list: &mut [u32], s: Settings, position: u32, first: u32, start: Path) -> u32
-    requires { ⌜ Walkable (now list) s × (Reaches (now list) s position (pathOf start) × (PathIn s start × (first < s .cells))) ⌝ }
-    ensures { λ r. ⌜ ChainedFrom (now (list .entry)) s position first (pathOf start) r (now (list .exit)) ⌝ }
+    requires { ⌜ FirstFreed (now list) s position first start ⌝ }
+    ensures { λ r. ⌜ CellsChained (now (list .entry)) s r (now (list .exit)) ⌝ }
 {
     let mut path = start;
     let mut last = first;
@@ -50,8 +54,8 @@ fn chain_from(list: &mut [u32], s: Settings, position: u32, first: u32, start: P
 
 // Chains the cells between the head and the new position.
 fn chain_between(list: &mut [u32], s: Settings, position: u32) -> Freed
-    requires { ⌜ Walkable (now list) s × Reaches (now list) s position (replicate (s .dimensions) 0) ⌝ }
-    ensures { λ r. ⌜ ChainedUpTo (now (list .entry)) s position r (now (list .exit)) ⌝ }
+    requires { ⌜ LastDead (now list) s position ⌝ }
+    ensures { λ r. ⌜ CellsChained (now (list .entry)) s (r .count) (now (list .exit)) × (r .first ≡ firstNumber (freedCells (now (list .entry)))) ⌝ }
 {
     let first = paths::next(list, s, paths::head_path(s));
     if first.cell == position {
@@ -92,12 +96,11 @@ fn take_links(list: &mut [u32], s: Settings, t: Target, z: u32)
     requires { ⌜ Shaped (now list) s × ((t .cell < s .cells) × ((t .number ≤ s .dimensions) × PathIn s (t .path))) ⌝ }
     ensures { λ r. ⌜ (now (list .exit) ≡ takeLinks (s .dimensions) (now (list .entry)) (t .cell) (pathOf (t .path)) z (t .number - z)) × Shaped (now (list .exit)) s ⌝ }
 {
-    let first = words::COORDINATES + s.dimensions;
     let mut d = z;
     while d < t.number {
         let from = path_word(t.path, d);
         let y = words::link(list, s, from, d);
-        words::store(list, s, t.cell, first + d, y);
+        words::store_link(list, s, t.cell, d, y);
         d += 1;
     }
 }
@@ -109,7 +112,7 @@ fn store_before_zeros(list: &mut [u32], s: Settings, x: u32, j: u32, v: u32)
 {
     words::store(list, s, x, j, v);
     let start = words::word_index(s, x, j) + 1;
-    let end = start + (words::COORDINATES + 2 * s.dimensions - 1 - j) as usize;
+    let end = start + settings::cell_words(s.dimensions) - 1 - j as usize;
     lists::fill(&mut list[start..end], 0);
 }
 
@@ -118,7 +121,7 @@ fn relink_head(list: &mut [u32], s: Settings, position: u32, z: u32)
     requires { ⌜ Shaped (now list) s × ((0 < s .cells) × (z < s .dimensions)) ⌝ }
     ensures { λ r. ⌜ (now (list .exit) ≡ relinkHead (s .dimensions) (now (list .entry)) position z) × Shaped (now (list .exit)) s ⌝ }
 {
-    store_before_zeros(list, s, 0, words::COORDINATES + s.dimensions + z, position);
+    store_before_zeros(list, s, 0, words::link_field(s, z), position);
 }
 
 // Cell x becomes the first free one.
@@ -150,7 +153,7 @@ fn free_chained(list: &mut [u32], s: Settings, chained: Freed)
 // relinked, no link leads to them. Answers how many are freed.
 pub fn drop_front(list: &mut [u32], s: Settings, t: Target) -> u32
     requires { ⌜ Droppable (now list) s t ⌝ }
-    ensures { λ r. ⌜ (now (list .exit) ≡ droppedTo (now (list .entry)) s t) × (r ≡ length (cellsUpTo (now (list .entry)) s (t .cell))) ⌝ }
+    ensures { λ r. ⌜ (now (list .exit) ≡ picture (swept (read (now (list .entry))))) × (r ≡ length (freedBy (read (now (list .entry)) .row))) ⌝ }
 {
     let z = leading_zeros(list, s, t.cell);
     let chained = chain_between(list, s, t.cell);

@@ -18,6 +18,7 @@ use Rattle.meaning.specs.Calls.{outcome}
 use Rattle.meaning.specs.Promises.{Live, PresentMeansThatKey}
 use Rattle.meaning.proofs.State.{Sound}
 use Rattle.meaning.proofs.Cells.{row-range}
+use Rattle.meaning.proofs.Placed.{mark-one}
 use Rattle.meaning.proofs.Picture.{picture-largest, picture-cells, picture-word, Told, told, freeWords-rest}
 use Rattle.meaning.proofs.WalkRead.{all-places, row-key-read, row-mark-read}
 use Rattle.meaning.proofs.WalkStop.{node-found}
@@ -34,10 +35,6 @@ places-named : (s : State) → Sound s → All (λ p. Named s (p .node)) (places
 places-named s v =
     all-places (Named s) (s .settings .base) (s .settings .dimensions) (s .row) (λ e. absurd (false≢true e))
     (all-map (λ x found e. found) (s .row) (node-found 0 (s .row) (v .ascends)))
-
-mark-one : (live : Bool) → mark live ≡ 1 → live ≡ true
-mark-one true e = refl
-mark-one false e = absurd (omega arith)
 
 module _ (s : State) (v : Sound s) (key : ℕ) where
   live-shown : (x : Node) → nodeAt key (s .row) ≡ some x → x .live ≡ true → Live (picture s) key

@@ -45,7 +45,6 @@ pub mod SweepStores
 pub mod SweepFinish
 pub mod SweepDrop
 pub mod SweepWords
-pub mod SweepTarget
 pub mod SweepSentences
 pub mod SentencesNumbers
 pub mod SentencesRow

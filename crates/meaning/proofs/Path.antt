@@ -21,8 +21,9 @@ use Rattle.meaning.specs.Picture.{firstWith, path}
 use Rattle.meaning.specs.Layer.Paths.{pathFor, onward}
 use Rattle.meaning.proofs.Order.{Asc}
 use Rattle.meaning.proofs.Keys.{shared-same, shared-le, shared-less, ultra}
-use Rattle.meaning.proofs.Places.{asc-left, lastFrom, dimensionFrom}
-use Rattle.meaning.proofs.Parent.{dimensionAfter, Apart, ParentPlace, asc-last, last-least, last-greatest, sharing-skips, sharing-hits, sharing-none, first-hits, first-skips, first-front, near, first-place, last-first, sharing-above}
+use Rattle.meaning.proofs.Places.{asc-left, lastFrom}
+use Rattle.meaning.proofs.Parent.{dimensionAfter, Apart, ParentPlace, asc-last, last-least, last-greatest, first-hits, first-skips}
+use Rattle.meaning.proofs.Parent.{sharing-skips, sharing-hits, sharing-none, sharing-above, first-front, near, first-place}
 use Rattle.meaning.proofs.WalkRead.{settled-above}
 
 -- The words of a path
@@ -100,14 +101,6 @@ first-holds P b D key n (z ∷ row) nowhere a = at (decLt (shared b D (z .key) k
 pub path-holds : (P : ℕ → Type 0) (b D : ℕ) (row : List Node) (key d : ℕ) → d < D → P 0 → All (λ z. P (z .cell)) row → P (getD (pathFor b D row key) d 0)
 path-holds P b D row key d h head a = rw (pathFor-at b D row key d h) (first-holds P b D key (suc d) (headNode ∷ row) head (head, a))
 
--- the dimension of a node is below D
-pub dimension-less : (b D : ℕ) (x : Node) (e : ℕ) (row : List Node) → Asc (x .key) row → e < D → dimensionFrom b D x e row < D
-unfolding dimensionFrom
-dimension-less b D x e [] a h = h
-dimension-less b D x e (y ∷ row) a h =
-    let l = a .0 in
-    dimension-less b D y (shared b D (x .key) (y .key)) row (a .1) (shared-less b D (x .key) (y .key) (omega arith) (omega arith))
-
 -- The head and the nodes up to the last of them, and a key not below that one's
 
 module _ (b D : ℕ) (pos : 0 < b) (pre : List Node) (asc : Asc 0 pre) where
@@ -129,16 +122,7 @@ module _ (b D : ℕ) (pos : 0 < b) (pre : List Node) (asc : Asc 0 pre) where
       ∙ first-alike b D key (A .key) (suc i) (headNode ∷ pre) (all-map (λ z e. omega arith) (headNode ∷ pre) (up-to-shares key h))
       ∙ sym (first-front b D (A .key) (suc i) headNode pre later (omega (arith, shared-same b D (A .key), shared-le b D (A .key) key)))
 
-  -- from its dimension on, that one's path has its own cell
-  pub path-own :
-      (later : List Node) (i : ℕ) → dimensionFrom b D headNode 0 pre ≤ i → i < D →
-      firstWith b D (lastFrom headNode pre .key) (suc i) (headNode ∷ (pre ++ later)) ≡ lastFrom headNode pre .cell
-  path-own later i h l =
-      let A = lastFrom headNode pre in
-      first-front b D (A .key) (suc i) headNode pre later (omega (arith, shared-same b D (A .key)))
-      ∙ last-first b D pos (omega arith) i headNode 0 pre asc l h
-
-  -- so has the path of the node after it, from that one's dimension on
+  -- from its dimension on, the path of the node after it has that one's cell
   pub path-next-own :
       (y : Node) (post : List Node) (i : ℕ) → lastFrom headNode pre .key ≤ y .key → dimensionAfter b D headNode pre (y .key) ≤ i → i < D →
       firstWith b D (y .key) (suc i) (headNode ∷ (pre ++ y ∷ post)) ≡ y .cell
@@ -178,13 +162,6 @@ module _ (b D : ℕ) (pos : 0 < b) (pre : List Node) where
       path-from b D (pre ++ y ∷ post) (A .key) (y .key) (shared b D (A .key) (y .key)) (y .cell) (shared-le b D (A .key) (y .key))
       (λ i l. path-same b D pos pre front (y ∷ post) (y .key) i (omega arith) l)
       (λ i h l. path-next-own b D pos pre front y post i (omega arith) h l)
-
-  -- the last word is the cell whose path it is
-  pub path-last :
-      (later : List Node) → 0 < D → Asc 0 pre → getD (pathFor b D (pre ++ later) (lastFrom headNode pre .key)) (D - 1) 0 ≡ lastFrom headNode pre .cell
-  path-last later deep asc =
-      pathFor-at b D (pre ++ later) (lastFrom headNode pre .key) (D - 1) (omega arith)
-      ∙ path-own b D pos pre asc later (D - 1) (let h = dimension-less b D headNode 0 pre asc deep in omega arith) (omega arith)
 
 -- Links of path words
 

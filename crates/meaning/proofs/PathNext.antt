@@ -1,32 +1,33 @@
--- The next standing cell in key order, on the words of a list: the highest link d of path word d that is not 0 leads to it. A link read
--- from the words is the settled one, since the dimension of path word d is at most d.
+-- The way through the standing cells in the order of their keys, on the words of a list: the highest link d of path word d that is not 0
+-- leads to the next. A link read from the words is the settled one, since the dimension of path word d is at most d.
 use mathlib.Core.Path.{_≡_, refl, sym, ap, _∙_, subst}
-use mathlib.Core.Logic.{_⊎_, inl, inr}
 use mathlib.Core.List.{List, [], _∷_, _++_, append-nil}
-use Prim.Native.Nat.{ℕ, zero, suc, _-_, _≤_, _<_}
+use Prim.Native.Nat.{ℕ, zero, suc, _≤_, _<_}
 use native.Mathlib.Decide.{ℕ-discrete, decLt}
 use native.Mathlib.Omega.{arith}
-use lib.ListN.{length, getD, replicate, List·getD-eq-default}
+use lib.ListN.{getD, replicate, List·getD-eq-default}
 use lib.Seq.{append-snoc}
 use borrow.Author.Tests.{eq-eqb, ne-eqb}
-use Rattle.lists.proofs.All.{all-map}
+use Rattle.lists.proofs.All.{All, all-map, all-left, all-at}
 use Rattle.meaning.specs.Keys.{shared}
-use Rattle.meaning.specs.Row.{Node, headNode, settledLink}
-use Rattle.meaning.specs.State.{State, positionKey}
-use Rattle.meaning.specs.Picture.{picture, path}
+use Rattle.meaning.specs.Row.{Node, headNode, places, placeOf, settledLink}
+use Rattle.meaning.specs.State.{State}
+use Rattle.meaning.specs.Picture.{mark, picture}
+use Rattle.meaning.specs.Words.{keyAt, markAt}
 use Rattle.meaning.specs.Walk.{linkRead}
-use Rattle.meaning.specs.Layer.Paths.{pathFor, onward, NextCell, nextFrom}
+use Rattle.meaning.specs.Operations.{dimensionAt, lastOf}
+use Rattle.meaning.specs.Layer.Paths.{pathFor, PathOf, dimensionIn, onward, NextCell, nextFrom}
 use Rattle.meaning.proofs.Order.{Asc}
 use Rattle.meaning.proofs.Keys.{shared-less}
 use Rattle.meaning.proofs.State.{Sound, base-positive}
 use Rattle.meaning.proofs.Cells.{row-range}
-use Rattle.meaning.proofs.KeepsState.{cell-alone, position-cases, position-head, position-node}
-use Rattle.meaning.proofs.Places.{Located, asc-left, lastFrom}
-use Rattle.meaning.proofs.Parent.{Apart, asc-last, apart-left}
+use Rattle.meaning.proofs.KeepsState.{cell-alone}
+use Rattle.meaning.proofs.Places.{lastFrom}
+use Rattle.meaning.proofs.Parent.{Apart, all-last, asc-last, apart-left, apart-before, place-at}
 use Rattle.meaning.proofs.Slot.{sound-apart, dimensions-positive}
-use Rattle.meaning.proofs.WalkRead.{link-read}
-use Rattle.meaning.proofs.Placed.{Placed, placed-has, placed-cell}
-use Rattle.meaning.proofs.Path.{path-is, pathFor-length, path-head, path-last, path-holds, PathLink, path-next, next-link, next-link-above, last-link}
+use Rattle.meaning.proofs.WalkRead.{link-read, row-key-read, row-mark-read}
+use Rattle.meaning.proofs.Placed.{Placed, placed-has, placed-cell, head-placed, place-key}
+use Rattle.meaning.proofs.Path.{pathFor-length, path-head, path-holds, PathLink, path-next, next-link, next-link-above, last-link}
 
 -- The search from link d-1 down
 
@@ -62,13 +63,27 @@ next-highest ws path (suc n) e y h there other f = at (ℕ-discrete e n) (next-h
 
 -- On a list
 
--- the path of the last of some nodes of the row, or of the head
-abbrev pub wayTo : State → List Node → List ℕ
-wayTo s front = pathFor (s .settings .base) (s .settings .dimensions) (s .row) (lastFrom headNode front .key)
+-- the last of some nodes, or the head, is the last from the head on
+pub last-from : (row : List Node) → lastOf row ≡ lastFrom headNode row
+unfolding lastOf lastFrom
+last-from [] = refl
+last-from (x ∷ []) = refl
+last-from (x ∷ y ∷ row) = last-from (y ∷ row)
+
+pub last-snoc : (x : Node) (row : List Node) (y : Node) → lastFrom x (row ++ (y ∷ [])) ≡ y
+unfolding lastFrom
+last-snoc x [] y = refl
+last-snoc x (z ∷ row) y = last-snoc z row y
+
+pub last-of : (front : List Node) (y : Node) → lastOf (front ++ (y ∷ [])) ≡ y
+last-of front y = last-from (front ++ (y ∷ [])) ∙ last-snoc headNode front y
+
+abbrev keyPath : State → ℕ → List ℕ
+keyPath s key = pathFor (s .settings .base) (s .settings .dimensions) (s .row) key
 
 module _ (s : State) (v : Sound s) where
   -- every word of a path is a cell
-  pub path-within : (key d : ℕ) → getD (pathFor (s .settings .base) (s .settings .dimensions) (s .row) key) d 0 < s .settings .cells
+  path-within : (key d : ℕ) → getD (pathFor (s .settings .base) (s .settings .dimensions) (s .row) key) d 0 < s .settings .cells
   path-within key d = at (decLt d D)
     where
       b : ℕ
@@ -85,7 +100,7 @@ module _ (s : State) (v : Sound s) where
       at (no h) = rw (List·getD-eq-default (pathFor b D (s .row) key) 0 {n = d} (let n = pathFor-length b D (s .row) key in omega arith)) some
 
   -- link d of path word d, as it is read
-  pub path-link-read :
+  path-link-read :
       (key d c : ℕ) → d < s .settings .dimensions → PathLink (s .settings .base) (s .settings .dimensions) (s .row) key d c →
       linkRead (picture s) (getD (pathFor (s .settings .base) (s .settings .dimensions) (s .row) key) d 0) d ≡ c
   path-link-read key d c l to =
@@ -97,16 +112,27 @@ module _ (s : State) (v : Sound s) where
       ∙ placed-has here (λ p. p .dimension ≤ d → linkRead (picture s) (p .node .cell) d ≡ settledLink b D p d) (link-read s v d l) (to .dimension)
       ∙ to .leads
 
-  apart-front : (pre later : List Node) → s .row ≡ pre ++ later → Apart (headNode ∷ pre)
-  apart-front pre later split = apart-left (headNode ∷ pre) later (subst (λ r. Apart (headNode ∷ r)) split (sound-apart s v))
+  apart-split : (pre later : List Node) → s .row ≡ pre ++ later → Apart (headNode ∷ (pre ++ later))
+  apart-split pre later split = subst (λ r. Apart (headNode ∷ r)) split (sound-apart s v)
+
+  -- the dimension of a node, by the last in front of it
+  pub dimension-is :
+      (pre : List Node) (y : Node) (post : List Node) → s .row ≡ pre ++ (y ∷ post) →
+      dimensionIn s (y .cell) ≡ shared (s .settings .base) (s .settings .dimensions) (lastFrom headNode pre .key) (y .key)
+  unfolding dimensionAt places
+  dimension-is pre y post split =
+      let b = s .settings .base in
+      let D = s .settings .dimensions in
+      ap (λ r. dimensionAt (placeOf (y .cell) (places b D r))) split
+      ∙ ap dimensionAt (place-at b D headNode 0 headNode 0 pre y post (apart-before (headNode ∷ pre) y post (apart-split pre (y ∷ post) split)))
 
   deep : 0 < s .settings .dimensions
   deep = dimensions-positive s v
 
   -- from the path of a node that has a next one, or of the head, to that one
-  pub next-of-path :
+  next-of-path :
       (pre : List Node) (y : Node) (post : List Node) → s .row ≡ pre ++ (y ∷ post) →
-      nextFrom (picture s) (wayTo s pre) (s .settings .dimensions)
+      nextFrom (picture s) (keyPath s (lastFrom headNode pre .key)) (s .settings .dimensions)
       ≡ record { cell = y .cell; number = shared (s .settings .base) (s .settings .dimensions) (lastFrom headNode pre .key) (y .key) }
   next-of-path pre y post split =
       let b = s .settings .base in
@@ -115,7 +141,7 @@ module _ (s : State) (v : Sound s) where
       let e = shared b D (A .key) (y .key) in
       let pos = base-positive s v in
       let asc = subst (Asc 0) split (v .ascends) in
-      let apart = apart-front pre (y ∷ post) split in
+      let apart = apart-left (headNode ∷ pre) (y ∷ post) (apart-split pre (y ∷ post) split) in
       let less = asc-last headNode pre (y ∷ post) asc .0 in
       let number : e < D = shared-less b D (A .key) (y .key) deep (omega arith) in
       next-highest (picture s) (pathFor b D (s .row) (A .key)) D e (y .cell) number
@@ -124,8 +150,8 @@ module _ (s : State) (v : Sound s) where
       (λ d h l. path-link-read (A .key) d 0 l (subst (λ r. PathLink b D r (A .key) d 0) (sym split) (next-link-above b D pos deep pre y post d asc apart h l)))
 
   -- from the path of the last node, or of the head if there is no node, there is no next
-  pub next-of-last :
-      nextFrom (picture s) (wayTo s (s .row)) (s .settings .dimensions) ≡ record { cell = 0; number = 0 }
+  next-of-last :
+      nextFrom (picture s) (keyPath s (lastFrom headNode (s .row) .key)) (s .settings .dimensions) ≡ record { cell = 0; number = 0 }
   next-of-last =
       let b = s .settings .base in
       let D = s .settings .dimensions in
@@ -134,10 +160,10 @@ module _ (s : State) (v : Sound s) where
       (λ d l. path-link-read key d 0 l (last-link b D (base-positive s v) deep (s .row) d (v .ascends) (sound-apart s v) l))
 
   -- the next one's path
-  pub path-of-next :
+  path-of-next :
       (pre : List Node) (y : Node) (post : List Node) → s .row ≡ pre ++ (y ∷ post) →
       pathFor (s .settings .base) (s .settings .dimensions) (s .row) (y .key)
-      ≡ onward (s .settings .dimensions) (wayTo s pre)
+      ≡ onward (s .settings .dimensions) (keyPath s (lastFrom headNode pre .key))
       (shared (s .settings .base) (s .settings .dimensions) (lastFrom headNode pre .key) (y .key)) (y .cell)
   path-of-next pre y post split =
       let b = s .settings .base in
@@ -146,82 +172,48 @@ module _ (s : State) (v : Sound s) where
       subst (λ r. pathFor b D r (y .key) ≡ onward D (pathFor b D r (A .key)) (shared b D (A .key) (y .key)) (y .cell)) (sym split)
       (path-next b D (base-positive s v) pre y post (subst (Asc 0) split (v .ascends)))
 
--- A path on its way through the row: the path of the last of some nodes, or of the head, and the nodes that come later. Loops that
--- go from cell to cell keep this.
-pub record PathOf (s : State) (path : List ℕ) (front later : List Node) : Type 0 where
-  pub split : s .row ≡ front ++ later
-  pub is : path ≡ wayTo s front
-
-pub last-snoc : (x : Node) (row : List Node) (y : Node) → lastFrom x (row ++ (y ∷ [])) ≡ y
-unfolding lastFrom
-last-snoc x [] y = refl
-last-snoc x (z ∷ row) y = last-snoc z row y
+-- The way through the row
 
 pub head-on-way : (s : State) → PathOf s (replicate (s .settings .dimensions) 0) [] (s .row)
-unfolding lastFrom
+unfolding lastOf
 head-on-way s = record { split = refl; is = sym (path-head (s .settings .base) (s .settings .dimensions) (s .row)) }
 
--- where the position's path is on the way
-pub record PositionPath (s : State) : Type 0 where
-  pub front : List Node
-  pub later : List Node
-  pub on-way : PathOf s (path s) front later
-  pub key : lastFrom headNode front .key ≡ positionKey s
-
-pub position-on-way : (s : State) → Sound s → PositionPath s
-unfolding lastFrom
-position-on-way s v = at (position-cases s v)
-  where
-    from : (front later : List Node) → s .row ≡ front ++ later → lastFrom headNode front .key ≡ positionKey s → PositionPath s
-    from front later split key =
-        record {
-          front = front;
-          later = later;
-          on-way = record { split = split; is = path-is s ∙ ap (pathFor (s .settings .base) (s .settings .dimensions) (s .row)) (sym key) };
-          key = key;
-        }
-
-    at : (s .position ≡ 0) ⊎ Located (s .position) (s .row) → PositionPath s
-    at (inl e) = from [] (s .row) refl (sym (position-head s e))
-    at (inr t) =
-        from (t .front ++ (t .node ∷ [])) (t .later) (t .split ∙ sym (append-snoc (t .front) (t .node) (t .later)))
-        (ap (λ x. x .key) (last-snoc headNode (t .front) (t .node)) ∙ sym (position-node s v t))
-
 module _ {s : State} (v : Sound s) {path : List ℕ} {front : List Node} where
-  pub way-length : {later : List Node} → PathOf s path front later → length path ≡ s .settings .dimensions
-  way-length t = ap length (t .is) ∙ pathFor-length (s .settings .base) (s .settings .dimensions) (s .row) (lastFrom headNode front .key)
-
   pub way-within : {later : List Node} → PathOf s path front later → (d : ℕ) → getD path d 0 < s .settings .cells
-  way-within t d = rw (t .is) (path-within s v (lastFrom headNode front .key) d)
+  way-within t d = rw (t .is) (path-within s v (lastOf front .key) d)
 
-  pub way-cell : {later : List Node} → PathOf s path front later → getD path (s .settings .dimensions - 1) 0 ≡ lastFrom headNode front .cell
-  way-cell {later} t =
-      let b = s .settings .base in
-      let D = s .settings .dimensions in
-      ap (λ p. getD p (D - 1) 0) (t .is ∙ ap (λ r. pathFor b D r (lastFrom headNode front .key)) (t .split))
-      ∙ path-last b D (base-positive s v) front later (deep s v) (asc-left 0 front later (subst (Asc 0) (t .split) (v .ascends)))
-
-  pub way-next : {y : Node} {later : List Node} → PathOf s path front (y ∷ later) →
-      nextFrom (picture s) path (s .settings .dimensions)
-      ≡ record { cell = y .cell; number = shared (s .settings .base) (s .settings .dimensions) (lastFrom headNode front .key) (y .key) }
-  way-next {y} {later} t = rw (t .is) (next-of-path s v front y later (t .split))
+  -- the key of the path's cell, as it stands in it
+  pub way-key : {later : List Node} → PathOf s path front later → keyAt (picture s) (lastOf front .cell) ≡ lastOf front .key
+  way-key {later} t =
+      let Read : Node → Type 0 = λ y. keyAt (picture s) (y .cell) ≡ y .key in
+      let fronts = all-left Read front later (subst (All Read) (t .split) (row-key-read s v)) in
+      rw (last-from front) (all-last Read headNode front (place-key v (head-placed s)) fronts)
 
   pub way-end : PathOf s path front [] → nextFrom (picture s) path (s .settings .dimensions) ≡ record { cell = 0; number = 0 }
   way-end t =
       let all : s .row ≡ front = t .split ∙ append-nil front in
-      rw (t .is, ← all) (next-of-last s v)
+      rw (t .is, last-from front, ← all) (next-of-last s v)
 
-  pub way-on : {y : Node} {later : List Node} → PathOf s path front (y ∷ later) →
-      PathOf s (onward (s .settings .dimensions) path (shared (s .settings .base) (s .settings .dimensions) (lastFrom headNode front .key) (y .key)) (y .cell))
-      (front ++ (y ∷ [])) later
-  way-on {y} {later} t =
-      let b = s .settings .base in
-      let D = s .settings .dimensions in
-      let A = lastFrom headNode front in
-      record {
-        split = t .split ∙ sym (append-snoc front y later);
-        is =
-            ap (λ p. onward D p (shared b D (A .key) (y .key)) (y .cell)) (t .is)
-            ∙ sym (path-of-next s v front y later (t .split))
-            ∙ ap (λ x. pathFor b D (s .row) (x .key)) (sym (last-snoc headNode front y));
-      }
+  module _ {y : Node} {later : List Node} (t : PathOf s path front (y ∷ later)) where
+    way-dimension : dimensionIn s (y .cell) ≡ shared (s .settings .base) (s .settings .dimensions) (lastOf front .key) (y .key)
+    way-dimension = rw (last-from front) (dimension-is s v front y later (t .split))
+
+    -- the next standing cell ..
+    pub way-next : nextFrom (picture s) path (s .settings .dimensions) ≡ record { cell = y .cell; number = dimensionIn s (y .cell) }
+    way-next = rw (way-dimension, t .is, last-from front) (next-of-path s v front y later (t .split))
+
+    -- .. with its mark, its key, and its path
+    pub way-mark : markAt (picture s) (y .cell) ≡ mark (y .live)
+    way-mark =
+        let Read : Node → Type 0 = λ z. markAt (picture s) (z .cell) ≡ mark (z .live) in
+        all-at Read front y later (subst (All Read) (t .split) (row-mark-read s v))
+
+    pub way-above : lastOf front .key < y .key
+    way-above = rw (last-from front) (asc-last headNode front (y ∷ later) (subst (Asc 0) (t .split) (v .ascends)) .0)
+
+    pub way-on : PathOf s (onward (s .settings .dimensions) path (dimensionIn s (y .cell)) (y .cell)) (front ++ (y ∷ [])) later
+    way-on =
+        record {
+          split = t .split ∙ sym (append-snoc front y later);
+          is = rw (way-dimension, t .is, last-of front y, last-from front) (sym (path-of-next s v front y later (t .split)));
+        }

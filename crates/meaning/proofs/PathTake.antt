@@ -1,242 +1,136 @@
--- Going on from the position's path finds what a take takes: the cells passed over are the dead ones between the position and the first
--- live key, one step each, and what was passed is counted in the row.
-use mathlib.Core.Path.{_≡_, refl, sym, ap, ap₂, _∙_, subst, subst₂, fun-ext}
-use mathlib.Core.Bool.{Bool, true, false, cond, _&&_, and-false}
-use mathlib.Core.List.{List, [], _∷_, _++_, map, append-nil, append-assoc}
-use Prim.Native.Nat.{ℕ, suc, _+_, _-_, _≤_, _<_}
-use native.Mathlib.Nat.{add-zero}
+-- What a take finds on the way from the position: nodes in front that are dead do not matter to where the live ones begin, and what it
+-- passes is counted in the row. Then the path that it leaves.
+use mathlib.Core.Path.{_≡_, refl, sym, ap, ap₂, _∙_, subst, fun-ext}
+use mathlib.Core.Bool.{Bool, true, false, cond, _&&_, and-true, and-false}
+use mathlib.Core.List.{List, [], _∷_, _++_, map}
+use mathlib.Core.Logic.{_⊎_, inl, inr}
+use Prim.Native.Nat.{ℕ, suc, _+_, _≤_, _<_}
 use native.Mathlib.Omega.{arith}
 use lib.Dec.{leb, ltb}
 use lib.ListN.{length, length-append}
 use lib.Seq.{append-snoc}
-use borrow.Author.Tests.{eq-eqb, ne-eqb, lt-ltb, le-ltb, le-leb, lt-leb}
-use Rattle.lists.specs.Lists.{numbersFrom}
-use Rattle.lists.proofs.Those.{those-all, those-none, those-append}
-use Rattle.lists.proofs.All.{All, all-map, all-append, all-left, all-zip, all-at}
+use borrow.Author.Tests.{lt-ltb, le-ltb, le-leb, lt-leb}
+use Rattle.lists.specs.Lists.{those, numbersFrom}
+use Rattle.lists.proofs.Those.{those-all, those-none, those-same, those-append}
+use Rattle.lists.proofs.All.{All, all-map, all-left, all-zip}
 use Rattle.lists.proofs.Tests.{and-both}
-use Rattle.meaning.specs.Keys.{shared}
 use Rattle.meaning.specs.Row.{Node, headNode}
 use Rattle.meaning.specs.State.{State, positionKey}
-use Rattle.meaning.specs.Picture.{mark, firstWith, picture, path}
-use Rattle.meaning.specs.Words.{markAt, dimensionsAt}
-use Rattle.meaning.specs.Operations.{deadFront, fromLive, deadNode, keysAbove, keysPassed, taken}
-use Rattle.meaning.specs.Layer.Paths.{pathFor, onward, nextFrom, Ahead, aheadFrom}
+use Rattle.meaning.specs.Picture.{firstWith, path}
+use Rattle.meaning.specs.Operations.{deadFront, fromLive, deadNode, keysAbove, keysPassed, taken, lastOf}
+use Rattle.meaning.specs.Layer.Paths.{pathFor, PathOf}
 use Rattle.meaning.proofs.Order.{Asc, asc-above}
 use Rattle.meaning.proofs.State.{Sound}
-use Rattle.meaning.proofs.Cells.{free-length}
-use Rattle.meaning.proofs.Picture.{picture-dimensions}
-use Rattle.meaning.proofs.Places.{asc-left, asc-smaller, asc-larger, lastFrom, Keeping, onCell, keyOf-head-changed}
-use Rattle.meaning.proofs.WalkRead.{row-mark-read}
-use Rattle.meaning.proofs.KeepsState.{cell-alone, row-split, deadFront-dead, fromLive-live}
+use Rattle.meaning.proofs.Places.{Located, asc-left, asc-smaller, asc-larger, Keeping, onCell, keyOf-head-changed}
+use Rattle.meaning.proofs.KeepsState.{position-cases, position-head, position-node}
 use Rattle.meaning.proofs.KeepsTake.{dead-keeping, taken-key}
 use Rattle.meaning.proofs.Parent.{asc-last, last-greatest}
 use Rattle.meaning.proofs.Slot.{first-changed}
 use Rattle.meaning.proofs.Path.{path-is}
-use Rattle.meaning.proofs.PathNext.{wayTo, PathOf, last-snoc, position-on-way, way-next, way-end, way-on}
+use Rattle.meaning.proofs.PathNext.{last-from, last-of}
 
--- One step onward
+-- Up to the first live node
 
-module _ (ws : List ℕ) (D : ℕ) (is-D : dimensionsAt ws ≡ D) (fuel : ℕ) (path : List ℕ) (passed : ℕ) where
-  pub ahead-end : (e : ℕ) → nextFrom ws path D ≡ record { cell = 0; number = e } → aheadFrom (suc fuel) ws path passed ≡ record { cell = 0; passed = passed; path = path }
-  unfolding aheadFrom
-  ahead-end e next = rw (is-D, next) refl
+-- the nodes in front are all before the first live one, and the later ones begin with it
+pub record Stops (row front later : List Node) : Type 0 where
+  pub dead : deadFront row ≡ front
+  pub live : fromLive row ≡ later
 
-  pub ahead-here :
-      (y e : ℕ) → nextFrom ws path D ≡ record { cell = y; number = e } → 0 < y → markAt ws y ≡ 1 →
-      aheadFrom (suc fuel) ws path passed ≡ record { cell = y; passed = suc passed; path = onward D path e y }
-  unfolding aheadFrom
-  ahead-here y e next other live =
-      rw (ap (nextFrom ws path) is-D ∙ next, ne-eqb y 0 (λ z. omega arith), eq-eqb (markAt ws y) 1 live)
-      (ap {B = Ahead} (λ n. record { cell = y; passed = suc passed; path = onward n path e y }) is-D)
+-- none come later, or a live one comes next
+abbrev pub Live : List Node → Type 0
+Live [] = Unit {0}
+Live (y ∷ later) = y .live ≡ true
 
-  pub ahead-past :
-      (y e : ℕ) → nextFrom ws path D ≡ record { cell = y; number = e } → 0 < y → (markAt ws y ≡ 1 → ⊥) →
-      aheadFrom (suc fuel) ws path passed ≡ aheadFrom fuel ws (onward D path e y) (suc passed)
-  unfolding aheadFrom
-  ahead-past y e next other dead =
-      rw (ap (nextFrom ws path) is-D ∙ next, ne-eqb y 0 (λ z. omega arith), ne-eqb (markAt ws y) 1 dead)
-      (ap (λ n. aheadFrom fuel ws (onward n path e y) (suc passed)) is-D)
-
--- Past dead cells
-
-module _ (s : State) (v : Sound s) where
-  -- the mark of a node between two parts of the row
-  pub mark-read : (front : List Node) (y : Node) (later : List Node) → s .row ≡ front ++ (y ∷ later) → markAt (picture s) (y .cell) ≡ mark (y .live)
-  mark-read front y later split =
-      all-at (λ z. markAt (picture s) (z .cell) ≡ mark (z .live)) front y later (subst (All (λ z. markAt (picture s) (z .cell) ≡ mark (z .live))) split (row-mark-read s v))
-
-  dead-past :
-      (fuel passed : ℕ) (front : List Node) (y : Node) (later : List Node) → s .row ≡ front ++ (y ∷ later) → y .live ≡ false →
-      aheadFrom (suc fuel) (picture s) (wayTo s front) passed ≡ aheadFrom fuel (picture s) (wayTo s (front ++ (y ∷ []))) (suc passed)
-  dead-past fuel passed front y later split dead =
-      let D = s .settings .dimensions in
-      let e = shared (s .settings .base) D (lastFrom headNode front .key) (y .key) in
-      let here : PathOf s (wayTo s front) front (y ∷ later) = record { split = split; is = refl } in
-      ahead-past (picture s) D (picture-dimensions s) fuel (wayTo s front) passed (y .cell) e (way-next v here) (cell-alone s v front y later split .standing)
-      (λ one. omega (arith, mark-read front y later split, ap mark dead))
-      ∙ ap (λ p. aheadFrom fuel (picture s) p (suc passed)) (way-on v here .is)
-
-  pub ahead-passes :
-      (fuel passed : ℕ) (front dead later : List Node) → s .row ≡ front ++ (dead ++ later) → All (λ y. y .live ≡ false) dead →
-      aheadFrom (length dead + fuel) (picture s) (wayTo s front) passed ≡ aheadFrom fuel (picture s) (wayTo s (front ++ dead)) (passed + length dead)
-  ahead-passes fuel passed front [] later split a =
-      let n : 0 + fuel ≡ fuel = omega arith in
-      rw (n, append-nil front, add-zero passed) refl
-  ahead-passes fuel passed front (y ∷ dead) later split a =
-      let n : suc (length dead) + fuel ≡ suc (length dead + fuel) = omega arith in
-      let m : suc passed + length dead ≡ passed + suc (length dead) = omega arith in
-      ap (λ i. aheadFrom i (picture s) (wayTo s front) passed) n
-      ∙ dead-past (length dead + fuel) passed front y (dead ++ later) split (a .0)
-      ∙ ahead-passes fuel (suc passed) (front ++ (y ∷ [])) dead later (split ∙ sym (append-snoc front y (dead ++ later))) (a .1)
-      ∙ ap₂ (λ r i. aheadFrom fuel (picture s) (wayTo s r) i) (append-snoc front y dead) m
-
-  -- to the first live cell, or to the end
-  pub ahead-live :
-      (fuel passed : ℕ) (front dead : List Node) (x : Node) (later : List Node) → s .row ≡ front ++ (dead ++ (x ∷ later)) →
-      All (λ y. y .live ≡ false) dead → x .live ≡ true → length dead < fuel →
-      aheadFrom fuel (picture s) (wayTo s front) passed
-      ≡ record { cell = x .cell; passed = suc (passed + length dead); path = pathFor (s .settings .base) (s .settings .dimensions) (s .row) (x .key) }
-  ahead-live fuel passed front dead x later split a live h =
-      let D = s .settings .dimensions in
-      let here : PathOf s (wayTo s (front ++ dead)) (front ++ dead) (x ∷ later) = record { split = split ∙ sym (append-assoc front dead (x ∷ later)); is = refl } in
-      let e = shared (s .settings .base) D (lastFrom headNode (front ++ dead) .key) (x .key) in
-      let n : fuel ≡ length dead + suc (fuel - suc (length dead)) = omega arith in
-      ap (λ i. aheadFrom i (picture s) (wayTo s front) passed) n
-      ∙ ahead-passes (suc (fuel - suc (length dead))) passed front dead (x ∷ later) split a
-      ∙ ahead-here (picture s) D (picture-dimensions s) (fuel - suc (length dead)) (wayTo s (front ++ dead)) (passed + length dead) (x .cell) e (way-next v here)
-      (cell-alone s v (front ++ dead) x later (here .split) .standing) (mark-read (front ++ dead) x later (here .split) ∙ ap mark live)
-      ∙ ap {B = Ahead} (λ p. record { cell = x .cell; passed = suc (passed + length dead); path = p })
-      (way-on v here .is ∙ ap (λ y. pathFor (s .settings .base) D (s .row) (y .key)) (last-snoc headNode (front ++ dead) x))
-
-  pub ahead-none :
-      (fuel passed : ℕ) (front dead : List Node) → s .row ≡ front ++ dead → All (λ y. y .live ≡ false) dead → length dead < fuel →
-      aheadFrom fuel (picture s) (wayTo s front) passed ≡ record { cell = 0; passed = passed + length dead; path = wayTo s (s .row) }
-  ahead-none fuel passed front dead split a h =
-      let D = s .settings .dimensions in
-      let all : s .row ≡ front ++ (dead ++ []) = split ∙ ap (λ r. front ++ r) (sym (append-nil dead)) in
-      let here : PathOf s (wayTo s (front ++ dead)) (front ++ dead) [] = record { split = split ∙ sym (append-nil (front ++ dead)); is = refl } in
-      let n : fuel ≡ length dead + suc (fuel - suc (length dead)) = omega arith in
-      ap (λ i. aheadFrom i (picture s) (wayTo s front) passed) n
-      ∙ ahead-passes (suc (fuel - suc (length dead))) passed front dead [] all a
-      ∙ ahead-end (picture s) D (picture-dimensions s) (fuel - suc (length dead)) (wayTo s (front ++ dead)) (passed + length dead) 0 (way-end v here)
-      ∙ ap {B = Ahead} (λ r. record { cell = 0; passed = passed + length dead; path = wayTo s r }) (sym split)
-
--- What a take finds
-
--- nodes in front that are dead do not matter to where the live ones begin
-pub fromLive-past : (front later : List Node) → All (λ y. y .live ≡ false) front → fromLive (front ++ later) ≡ fromLive later
-unfolding fromLive
-fromLive-past [] later a = refl
-fromLive-past (y ∷ front) later a = ap (λ t. cond t (y ∷ (front ++ later)) (fromLive (front ++ later))) (a .0) ∙ fromLive-past front later (a .1)
-
--- the keys above the position, of nodes up to it and nodes after it
-above-is : (position : ℕ) (front later : List Node) → All (λ y. y .key ≤ position) front → All (λ y. position < y .key) later →
-    keysAbove position (front ++ later) ≡ length later
-unfolding keysAbove
-above-is position front later low high =
-    let test : Node → Bool = λ y. ltb position (y .key) in
-    ap length
-    (those-append test front later
-    ∙ ap₂ _++_ (those-none test front (all-map (λ y. le-ltb position (y .key)) front low)) (those-all test later (all-map (λ y. lt-ltb position (y .key)) later high)))
-
--- those of them that are up to key x, if the nodes after the position are some up to x and others above x
-passed-is : (position key : ℕ) (front upto later : List Node) → All (λ y. y .key ≤ position) front → All (λ y. position < y .key) upto →
-    All (λ y. y .key ≤ key) upto → All (λ y. key < y .key) later → keysPassed position key (front ++ (upto ++ later)) ≡ length upto
-unfolding keysPassed
-passed-is position key front upto later low high most above =
-    let test : Node → Bool = λ y. ltb position (y .key) && leb (y .key) key in
-    ap length
-    (those-append test front (upto ++ later)
-    ∙ ap₂ _++_ (those-none test front (all-map (λ y h. ap (λ t. t && leb (y .key) key) (le-ltb position (y .key) h)) front low))
-    (those-append test upto later
-    ∙ ap₂ _++_
-    (those-all test upto (all-zip (λ y g h. and-both (ltb position (y .key)) (leb (y .key) key) (lt-ltb position (y .key) g) (le-leb (y .key) key h)) upto high most))
-    (those-none test later (all-map (λ y h. ap (λ t. ltb position (y .key) && t) (lt-leb (y .key) key h) ∙ and-false (ltb position (y .key))) later above))
-    ∙ append-nil upto))
-
--- The row from the position on: nodes up to the position, dead ones after it, and from the first live one on.
-record FromPosition (s : State) : Type 0 where
-  front : List Node
-  dead : List Node
-  split : s .row ≡ front ++ (dead ++ fromLive (s .row))
-  is : path s ≡ wayTo s front
-  key : lastFrom headNode front .key ≡ positionKey s
-  all-dead : All (λ y. y .live ≡ false) dead
-  low : All (λ y. y .key ≤ positionKey s) front
-  above : Asc (positionKey s) (dead ++ fromLive (s .row))
-
-from-position : (s : State) → Sound s → FromPosition s
-from-position s v =
-    let w = position-on-way s v in
-    let split = w .on-way .split in
-    let asc = subst (Asc 0) split (v .ascends) in
-    let low = subst (λ k. All (λ y. y .key ≤ k) (w .front)) (w .key) (last-greatest headNode (w .front) (asc-left 0 (w .front) (w .later) asc)) in
-    let dead = all-left (λ y. y .key ≤ positionKey s → y .live ≡ false) (w .front) (w .later) (subst (All (λ y. y .key ≤ positionKey s → y .live ≡ false)) split (v .dead)) in
-    let lives = ap fromLive split ∙ fromLive-past (w .front) (w .later) (all-zip (λ y d l. d l) (w .front) dead low) in
-    let parts = sym (row-split (w .later)) ∙ ap (λ r. deadFront (w .later) ++ r) (sym lives) in
+pub stops : (front later : List Node) → All (λ y. y .live ≡ false) front → Live later → Stops (front ++ later) front later
+unfolding deadFront fromLive
+stops [] [] dead live = record { dead = refl; live = refl }
+stops [] (y ∷ later) dead live =
+    record { dead = ap (λ t. cond t [] (y ∷ deadFront later)) live; live = ap (λ t. cond t (y ∷ later) (fromLive later)) live }
+stops (x ∷ front) later dead live =
+    let more = stops front later (dead .1) live in
     record {
-      front = w .front;
-      dead = deadFront (w .later);
-      split = split ∙ ap (λ r. w .front ++ r) parts;
-      is = w .on-way .is;
-      key = w .key;
-      all-dead = deadFront-dead (w .later);
-      low = low;
-      above = subst₂ Asc (w .key) parts (asc-last headNode (w .front) (w .later) asc);
+      dead = ap (λ t. cond t [] (x ∷ deadFront (front ++ later))) (dead .0) ∙ ap {B = List Node} (λ r. x ∷ r) (more .dead);
+      live = ap (λ t. cond t (x ∷ (front ++ later)) (fromLive (front ++ later))) (dead .0) ∙ more .live;
     }
 
-fits : (s : State) → Sound s → (o : FromPosition s) → length (o .dead) < s .settings .cells
-fits s v o =
-    let most = v .ranges .cells-least in
-    omega (arith, free-length s v, ap length (o .split), length-append (o .front) (o .dead ++ fromLive (s .row)), length-append (o .dead) (fromLive (s .row)))
+-- Where a take starts
 
-module _ (s : State) (v : Sound s) (fuel : ℕ) (enough : s .settings .cells ≤ fuel) where
-  -- "the least live key .. and passed: how many standing keys lie above the old position and up to the taken one"
-  pub take-ahead :
-      (x : Node) (later : List Node) → fromLive (s .row) ≡ x ∷ later →
-      aheadFrom fuel (picture s) (path s) 0
-      ≡ record { cell = x .cell; passed = keysPassed (positionKey s) (x .key) (s .row); path = pathFor (s .settings .base) (s .settings .dimensions) (s .row) (x .key) }
-  take-ahead x later e =
-      ap (λ p. aheadFrom fuel (picture s) p 0) (o .is)
-      ∙ ahead-live s v fuel 0 (o .front) dead x later split (o .all-dead) (fromLive-live (s .row) x later e) (let h = fits s v o in omega arith)
-      ∙ ap {B = Ahead} (λ n. record { cell = x .cell; passed = n; path = pathFor (s .settings .base) (s .settings .dimensions) (s .row) (x .key) }) count
-    where
-      o : FromPosition s
-      o = from-position s v
+-- the position's path on the way: what is in front is dead, and none of it is above the position
+pub record PositionPath (s : State) : Type 0 where
+  pub front : List Node
+  pub later : List Node
+  pub on-way : PathOf s (path s) front later
+  pub key : lastOf front .key ≡ positionKey s
+  pub dead : All (λ y. y .live ≡ false) front
+  pub none-above : keysAbove (positionKey s) front ≡ 0
 
-      dead : List Node
-      dead = o .dead
+pub position-on-way : (s : State) → Sound s → PositionPath s
+unfolding lastOf keysAbove
+position-on-way s v = at (position-cases s v)
+  where
+    from : (front later : List Node) → s .row ≡ front ++ later → lastOf front .key ≡ positionKey s → PositionPath s
+    from front later split key =
+        let Dead : Node → Type 0 = λ y. y .key ≤ positionKey s → y .live ≡ false in
+        let asc = asc-left 0 front later (subst (Asc 0) split (v .ascends)) in
+        let low : All (λ y. y .key ≤ positionKey s) front =
+        subst (λ k. All (λ y. y .key ≤ k) front) (ap (λ x. x .key) (sym (last-from front)) ∙ key) (last-greatest headNode front asc) in
+        record {
+          front = front;
+          later = later;
+          on-way = record { split = split; is = path-is s ∙ ap (pathFor (s .settings .base) (s .settings .dimensions) (s .row)) (sym key) };
+          key = key;
+          dead = all-zip (λ y d l. d l) front (all-left Dead front later (subst (All Dead) split (v .dead))) low;
+          none-above = ap length (those-none (λ y. ltb (positionKey s) (y .key)) front (all-map (λ y. le-ltb (positionKey s) (y .key)) front low));
+        }
 
-      split : s .row ≡ o .front ++ (dead ++ (x ∷ later))
-      split = o .split ∙ ap (λ r. o .front ++ (dead ++ r)) e
+    at : (s .position ≡ 0) ⊎ Located (s .position) (s .row) → PositionPath s
+    at (inl e) = from [] (s .row) refl (sym (position-head s e))
+    at (inr t) =
+        from (t .front ++ (t .node ∷ [])) (t .later) (t .split ∙ sym (append-snoc (t .front) (t .node) (t .later)))
+        (ap (λ x. x .key) (last-of (t .front) (t .node)) ∙ sym (position-node s v t))
 
-      up : Asc (positionKey s) (dead ++ (x ∷ later))
-      up = subst (λ r. Asc (positionKey s) (dead ++ r)) e (o .above)
+-- What is passed
 
-      upto : Asc (positionKey s) (dead ++ (x ∷ []))
-      upto = asc-left (positionKey s) (dead ++ (x ∷ [])) later (subst (Asc (positionKey s)) (sym (append-snoc dead x later)) up)
+-- one more key above the position
+pub above-more :
+    (position : ℕ) (front : List Node) (y : Node) → position < y .key → keysAbove position (front ++ (y ∷ [])) ≡ keysAbove position front + 1
+unfolding keysAbove
+above-more position front y h =
+    let test : Node → Bool = λ z. ltb position (z .key) in
+    ap length (those-append test front (y ∷ []) ∙ ap (λ r. those test front ++ r) (those-all test (y ∷ []) (lt-ltb position (y .key) h, tt)))
+    ∙ length-append (those test front) (y ∷ [])
 
-      count : suc (0 + length dead) ≡ keysPassed (positionKey s) (x .key) (s .row)
-      count =
-          (let n = length-append dead (x ∷ []) in let m : suc (0 + length dead) ≡ length (dead ++ (x ∷ [])) = omega arith in m)
-          ∙ sym (passed-is (positionKey s) (x .key) (o .front) (dead ++ (x ∷ [])) later (o .low) (asc-above (positionKey s) (dead ++ (x ∷ [])) upto)
-          (all-append (λ y. y .key ≤ x .key) dead (x ∷ []) (all-map (λ y h. omega arith) dead (asc-smaller (positionKey s) dead x later up)) (omega arith, tt))
-          (asc-larger (positionKey s) dead x later up))
-          ∙ ap (keysPassed (positionKey s) (x .key)) (ap (λ r. o .front ++ r) (append-snoc dead x later) ∙ sym split)
+-- up to a key: those in front, and itself
+pub passed-upto :
+    (position : ℕ) (front : List Node) (x : Node) (later : List Node) → Asc 0 (front ++ (x ∷ later)) → position < x .key →
+    keysPassed position (x .key) (front ++ (x ∷ later)) ≡ keysAbove position front + 1
+unfolding keysAbove keysPassed
+passed-upto position front x later asc h =
+    let above : Node → Bool = λ y. ltb position (y .key) in
+    let upto : Node → Bool = λ y. above y && leb (y .key) (x .key) in
+    let low : All (λ y. upto y ≡ above y) front =
+    all-map (λ y l. ap (λ t. above y && t) (le-leb (y .key) (x .key) (omega arith)) ∙ and-true (above y)) front (asc-smaller 0 front x later asc) in
+    let own : upto x ≡ true = and-both (above x) (leb (x .key) (x .key)) (lt-ltb position (x .key) h) (le-leb (x .key) (x .key) (omega arith)) in
+    let high : All (λ y. upto y ≡ false) later =
+    all-map (λ y l. ap (λ t. above y && t) (lt-leb (y .key) (x .key) l) ∙ and-false (above y)) later (asc-larger 0 front x later asc) in
+    ap length
+    (those-append upto front (x ∷ later)
+    ∙ ap₂ _++_ (those-same upto above front low)
+    (those-append upto (x ∷ []) later ∙ ap₂ _++_ (those-all upto (x ∷ []) (own, tt)) (those-none upto later high)))
+    ∙ length-append (those above front) (x ∷ [])
 
-  -- "nothing live": "standing keys above the position"
-  pub take-none : fromLive (s .row) ≡ [] →
-      aheadFrom fuel (picture s) (path s) 0 ≡ record { cell = 0; passed = keysAbove (positionKey s) (s .row); path = wayTo s (s .row) }
-  take-none e =
-      let o = from-position s v in
-      let split : s .row ≡ o .front ++ o .dead = o .split ∙ ap (λ r. o .front ++ (o .dead ++ r)) e ∙ ap (λ r. o .front ++ r) (append-nil (o .dead)) in
-      let up : Asc (positionKey s) (o .dead) = asc-left (positionKey s) (o .dead) (fromLive (s .row)) (o .above) in
-      let count : 0 + length (o .dead) ≡ keysAbove (positionKey s) (s .row) =
-      (omega arith) ∙ sym (above-is (positionKey s) (o .front) (o .dead) (o .low) (asc-above (positionKey s) (o .dead) up)) ∙ ap (keysAbove (positionKey s)) (sym split)
-      in
-      ap (λ p. aheadFrom fuel (picture s) p 0) (o .is)
-      ∙ ahead-none s v fuel 0 (o .front) (o .dead) split (o .all-dead) (let h = fits s v o in omega arith)
-      ∙ ap {B = Ahead} (λ n. record { cell = 0; passed = n; path = wayTo s (s .row) }) count
+-- the keys above that of the last in front are those still to come
+pub above-later :
+    {s : State} → Sound s → {path : List ℕ} {front later : List Node} → PathOf s path front later →
+    keysAbove (lastOf front .key) (s .row) ≡ length later
+unfolding keysAbove
+above-later {s} v {path} {front} {later} w =
+    let key = lastOf front .key in
+    let above : Node → Bool = λ y. ltb key (y .key) in
+    let asc = subst (Asc 0) (w .split) (v .ascends) in
+    let low = all-map (λ y. le-ltb key (y .key)) front (rw (last-from front) (last-greatest headNode front (asc-left 0 front later asc))) in
+    let high = all-map (λ y. lt-ltb key (y .key)) later (asc-above key later (rw (last-from front) (asc-last headNode front later asc))) in
+    ap length (ap (those above) (w .split) ∙ those-append above front later ∙ ap₂ _++_ (those-none above front low) (those-all above later high))
 
 -- The path after a take
 

@@ -3,7 +3,7 @@ use mathlib.Core.Path.{_≡_, refl, sym, ap, _∙_, subst}
 use mathlib.Core.Bool.{cond}
 use mathlib.Core.List.{List, [], _∷_, map}
 use mathlib.Core.Option.{Option, none, some}
-use Prim.Native.Nat.{ℕ, zero, suc, _+_, _*_, _<_}
+use Prim.Native.Nat.{ℕ, zero, suc, _+_, _*_, _<_, _-_}
 use native.Mathlib.Nat.{zero-add}
 use native.Mathlib.Decide.{ℕ-discrete}
 use native.Mathlib.Omega.{arith}
@@ -30,7 +30,7 @@ use Rattle.meaning.proofs.Cells.{cells-distinct}
 
 pub wordsOf-length : (b D c : ℕ) (free : List ℕ) (x : Option Place) → length (wordsOf b D free c x) ≡ cellWords D
 unfolding standingWords freeWords wordsOf
-wordsOf-length b D c free none = omega (arith, length-replicate {A = ℕ} (5 + 2 * D) 0)
+wordsOf-length b D c free none = omega (arith, length-replicate {A = ℕ} (cellWords D - 1) 0)
 wordsOf-length b D c free (some x) =
     omega (arith, length-append (coordinates b D (x .node .key)) (map (link b D x) (numbersFrom 0 D)), coordinates-length b D (x .node .key), made-length (link b D x) 0 D)
 
@@ -109,7 +109,7 @@ picture-word s c j hc hj =
 pub freeWords-rest : (D next j : ℕ) → 0 < j → j < cellWords D → getD (freeWords D next) j 0 ≡ 0
 unfolding freeWords
 freeWords-rest D next zero h l = absurd (omega arith)
-freeWords-rest D next (suc j) h l = getD-replicate {A = ℕ} (5 + 2 * D) j 0 0 (omega arith)
+freeWords-rest D next (suc j) h l = getD-replicate {A = ℕ} (cellWords D - 1) j 0 0 (omega arith)
 
 -- Which cells stand
 

@@ -119,6 +119,15 @@ occurs-placed s x h = at (placeOf x (placesOf s (s .row))) refl
 
 -- The words of a standing cell
 
+-- mark 1 is that of a live cell
+pub mark-one : (live : Bool) → mark live ≡ 1 → live ≡ true
+mark-one true e = refl
+mark-one false e = absurd (omega arith)
+
+pub mark-other : (live : Bool) → (mark live ≡ 1 → ⊥) → live ≡ false
+mark-other true n = absurd (n refl)
+mark-other false n = refl
+
 module _ {s : State} (v : Sound s) {x : ℕ} {p : Place} (here : Placed s x p) where
   pub placed-below : x < s .settings .cells
   placed-below =

@@ -111,7 +111,7 @@ module _ {D C : ℕ} {ws : List ℕ} (exact : Exact D C ws) (some : 0 < C) (x z 
 
 pub freeWords-length : (D next : ℕ) → length (freeWords D next) ≡ cellWords D
 unfolding freeWords
-freeWords-length D next = omega (arith, length-replicate {A = ℕ} (5 + 2 * D) 0)
+freeWords-length D next = omega (arith, length-replicate {A = ℕ} (cellWords D - 1) 0)
 
 pub exact-freed : {D C : ℕ} {ws : List ℕ} → Exact D C ws → (x : ℕ) → Exact D C (freeCell D ws x)
 unfolding freeCell

@@ -1,30 +1,29 @@
--- What a sweep writes: the picture of the swept state is the words after all that is owed is finished and then the front is dropped. Paying
--- changes neither what is freed nor what is kept; and where the first node is live, the position is the head and nothing is dropped.
+-- What a sweep writes: where nobody owes, the picture of the swept state is the words with the front dropped. Paying changes neither what is
+-- freed nor what is kept; and where the first node is live, the position is the head and nothing is dropped.
 use mathlib.Core.Path.{_≡_, refl, sym, ap, ap₂, _∙_, subst}
 use mathlib.Core.Bool.{Bool, true, false, cond}
 use mathlib.Core.List.{List, [], _∷_, _++_, map, reverseAux, map-append, dropLast}
 use mathlib.Core.Logic.{_⊎_, inl, inr}
-use Prim.Native.Nat.{ℕ, _-_, _≤_, _<_}
+use Prim.Native.Nat.{ℕ, _≤_, _<_}
 use native.Mathlib.Nat.{lt-of-not-le}
 use native.Mathlib.Omega.{arith}
 use Rattle.lists.proofs.All.{All, all-map, all-at}
 use Rattle.meaning.specs.Keys.{shared}
-use Rattle.meaning.specs.Row.{Node, headNode}
+use Rattle.meaning.specs.Row.{Node}
 use Rattle.meaning.specs.State.{State, positionKey}
 use Rattle.meaning.specs.Picture.{picture}
 use Rattle.meaning.specs.Operations.{paid, withRow, deadFront, fromLive, lastOf, lastAlone, freedBy, swept}
-use Rattle.meaning.specs.Layer.Paths.{pathFor}
-use Rattle.meaning.specs.Layer.SweepStores.{finishAll, dropFront}
+use Rattle.meaning.specs.Layer.Paths.{pathFor, dimensionIn}
+use Rattle.meaning.specs.Layer.SweepStores.{dropFront}
 use Rattle.meaning.proofs.Order.{Asc, asc-above}
 use Rattle.meaning.proofs.State.{Sound}
-use Rattle.meaning.proofs.Places.{Located, lastFrom, dimensionFrom, cells-changed}
+use Rattle.meaning.proofs.Places.{Located, cells-changed}
 use Rattle.meaning.proofs.KeepsState.{position-cases, position-node, last-split, lastAlone-is}
 use Rattle.meaning.proofs.KeepsSweep.{keptBy, swept-split, kept-all, front-all, swept-sound, paid-all-keeping}
-use Rattle.meaning.proofs.Parent.{dimensionAfter}
-use Rattle.meaning.proofs.PathTake.{pathFor-changed}
-use Rattle.meaning.proofs.SweepFinish.{paid-unowing, finish-all, paid-sound, paid-owes-nothing}
+use Rattle.meaning.proofs.PathNext.{dimension-is}
+use Rattle.meaning.proofs.SweepFinish.{paid-unowing, paid-owes-nothing}
 use Rattle.meaning.proofs.SweepStores.{Dropping}
-use Rattle.meaning.proofs.SweepDrop.{fronted, dropped, dropping, dropped-words}
+use Rattle.meaning.proofs.SweepDrop.{fronted, dropped, reached, dropping, dropped-words}
 
 -- The new position
 
@@ -37,24 +36,9 @@ last-alone (x ∷ row) ne = lastAlone-is x row
 pub swept-front : (row : List Node) → (lastOf (deadFront row) .cell ≡ 0 → ⊥) → row ≡ freedBy row ++ lastOf (deadFront row) ∷ fromLive row
 swept-front row ne = swept-split row ∙ ap (λ last. freedBy row ++ (last ++ fromLive row)) (last-alone (deadFront row) ne)
 
-pub dead-front : (row : List Node) → (lastOf (deadFront row) .cell ≡ 0 → ⊥) → deadFront row ≡ freedBy row ++ lastOf (deadFront row) ∷ []
-unfolding freedBy
-dead-front row ne = sym (last-split (deadFront row)) ∙ ap (λ last. dropLast (deadFront row) ++ last) (last-alone (deadFront row) ne)
-
-pub dimension-snoc : (b D : ℕ) (a : Node) (e : ℕ) (front : List Node) (x : Node) → dimensionFrom b D a e (front ++ x ∷ []) ≡ shared b D (lastFrom a front .key) (x .key)
-unfolding dimensionFrom lastFrom
-dimension-snoc b D a e [] x = refl
-dimension-snoc b D a e (y ∷ front) x = dimension-snoc b D y (shared b D (a .key) (y .key)) front x
-
 -- its dimension, which is the number of the link by which it is reached
 abbrev pub sweptNumber : State → ℕ
-sweptNumber s = dimensionFrom (s .settings .base) (s .settings .dimensions) headNode 0 (deadFront (s .row))
-
-number-is : (s : State) → (lastOf (deadFront (s .row)) .cell ≡ 0 → ⊥) → sweptNumber s ≡ dimensionAfter (s .settings .base) (s .settings .dimensions) headNode (freedBy (s .row)) (lastOf (deadFront (s .row)) .key)
-number-is s ne =
-    let b = s .settings .base in
-    let D = s .settings .dimensions in
-    ap (dimensionFrom b D headNode 0) (dead-front (s .row) ne) ∙ dimension-snoc b D headNode 0 (freedBy (s .row)) (lastOf (deadFront (s .row)))
+sweptNumber s = dimensionIn s (lastOf (deadFront (s .row)) .cell)
 
 -- how many coordinates it shares with the head
 abbrev pub sweptZeros : State → ℕ
@@ -63,10 +47,6 @@ sweptZeros s = shared (s .settings .base) (s .settings .dimensions) 0 (lastOf (d
 -- its path
 abbrev pub sweptPath : State → List ℕ
 sweptPath s = pathFor (s .settings .base) (s .settings .dimensions) (s .row) (lastOf (deadFront (s .row)) .key)
-
--- the front dropped from words, in a state
-abbrev pub sweptFrom : State → List ℕ → List ℕ
-sweptFrom s ws = dropFront (s .settings .dimensions) ws (lastOf (deadFront (s .row)) .cell) (sweptNumber s) (sweptPath s) (sweptZeros s) (map (λ x. x .cell) (freedBy (s .row)))
 
 -- in a state where nobody owes, what a sweep leaves is the row with its front dropped
 
@@ -87,20 +67,27 @@ module _ (s : State) (v : Sound s) (unowing : All (λ x. x .owes ≡ false) (s .
   unowing-before : All (λ x. x .owes ≡ false) (freedBy (s .row) ++ lastOf (deadFront (s .row)) ∷ fromLive (s .row))
   unowing-before = subst (All (λ y. y .owes ≡ false)) (swept-front (s .row) ne) unowing
 
-  -- the numbers fit
-  pub swept-dropping : Dropping (s .settings .dimensions) (s .settings .cells) (lastOf (deadFront (s .row)) .cell) (sweptNumber s) (sweptZeros s) (map (λ x. x .cell) (freedBy (s .row)))
-  swept-dropping =
-      subst (λ number. Dropping (s .settings .dimensions) (s .settings .cells) (lastOf (deadFront (s .row)) .cell) number (sweptZeros s) (map (λ x. x .cell) (freedBy (s .row)))) (sym (number-is s ne))
-      (dropping s (freedBy (s .row)) (lastOf (deadFront (s .row))) (fromLive (s .row)) sound-before sound-after unowing-before)
+  number-is : sweptNumber s ≡ reached s (freedBy (s .row)) (lastOf (deadFront (s .row)))
+  number-is = dimension-is s v (freedBy (s .row)) (lastOf (deadFront (s .row))) (fromLive (s .row)) (swept-front (s .row) ne)
 
-  pub unowing-swept : picture (swept s) ≡ sweptFrom s (picture s)
+  -- the numbers fit
+  pub swept-dropping :
+      Dropping (s .settings .dimensions) (s .settings .cells) (lastOf (deadFront (s .row)) .cell) (sweptNumber s) (sweptZeros s)
+      (map (λ x. x .cell) (freedBy (s .row)))
+  swept-dropping =
+      rw number-is (dropping s (freedBy (s .row)) (lastOf (deadFront (s .row))) (fromLive (s .row)) sound-before sound-after unowing-before)
+
+  pub unowing-swept :
+      picture (swept s)
+      ≡ dropFront (s .settings .dimensions) (picture s) (lastOf (deadFront (s .row)) .cell) (sweptNumber s) (sweptPath s) (sweptZeros s)
+      (map (λ x. x .cell) (freedBy (s .row)))
   unowing-swept =
       let x = lastOf (deadFront (s .row)) in
       let cells = map (λ y. y .cell) (freedBy (s .row)) in
       ap picture (unowing-after s unowing ne)
       ∙ dropped-words s (freedBy (s .row)) x (fromLive (s .row)) sound-before sound-after unowing-before
       ∙ ap₂ (λ row number. dropFront (s .settings .dimensions) (picture (withRow s row)) (x .cell) number (pathFor (s .settings .base) (s .settings .dimensions) row (x .key)) (sweptZeros s) cells)
-      (sym (swept-front (s .row) ne)) (sym (number-is s ne))
+      (sym (swept-front (s .row) ne)) (sym number-is)
 
 -- Paid nodes
 
@@ -163,34 +150,6 @@ swept-paid s =
     let position = ap (λ x. x .cell) (position-paid (s .row)) in
     λ i. record { settings = s .settings; row = row i; free = free i; position = position i }
 
--- the new position's path and dimension follow from cells and keys
-dimension-paid : (b D : ℕ) (a : Node) (e : ℕ) (row : List Node) → dimensionFrom b D (paid a) e (map paid row) ≡ dimensionFrom b D a e row
-unfolding dimensionFrom
-dimension-paid b D a e [] = refl
-dimension-paid b D a e (x ∷ row) = dimension-paid b D x (shared b D (a .key) (x .key)) row
-
-pub sweptFrom-paid : (s : State) (ws : List ℕ) → sweptFrom (withRow s (map paid (s .row))) ws ≡ sweptFrom s ws
-sweptFrom-paid s ws =
-    let b = s .settings .base in
-    let D = s .settings .dimensions in
-    let x = lastOf (deadFront (s .row)) in
-    let row = map paid (s .row) in
-    let number = ap (dimensionFrom b D headNode 0) (deadFront-paid (s .row)) ∙ dimension-paid b D headNode 0 (deadFront (s .row)) in
-    ap (λ y. dropFront D ws (y .cell) (dimensionFrom b D headNode 0 (deadFront row)) (pathFor b D row (y .key)) (shared b D 0 (y .key)) (map (λ z. z .cell) (freedBy row))) (position-paid (s .row))
-    ∙ ap₂ (λ n path. dropFront D ws (x .cell) n path (sweptZeros s) (map (λ z. z .cell) (freedBy row))) number (pathFor-changed paid paid-all-keeping b D (s .row) (x .key))
-    ∙ ap (λ cells. dropFront D ws (x .cell) (sweptNumber s) (sweptPath s) (sweptZeros s) cells) (freed-cells-paid (s .row))
-
--- The sweep, where the new position is not the head
-
-pub swept-words : (s : State) → Sound s → (lastOf (deadFront (s .row)) .cell ≡ 0 → ⊥) →
-    picture (swept s) ≡ sweptFrom s (finishAll (s .settings .dimensions) (picture s) 1 (s .settings .cells - 1))
-swept-words s v ne =
-    let all = withRow s (map paid (s .row)) in
-    ap picture (sym (swept-paid s))
-    ∙ unowing-swept all (paid-sound s v) (paid-owes-nothing (s .row)) (λ e. ne (sym (ap (λ x. x .cell) (position-paid (s .row))) ∙ e))
-    ∙ sweptFrom-paid s (picture all)
-    ∙ ap (sweptFrom s) (sym (finish-all s v))
-
 -- Where it is the head: no node is before the first live one
 
 front-none : (s : State) → Sound s → lastOf (deadFront (s .row)) .cell ≡ 0 → deadFront (s .row) ≡ []
@@ -236,6 +195,3 @@ swept-stays s v e =
     let free : reverseAux (map (λ x. x .cell) (freedBy (s .row))) (s .free) ≡ s .free = ap (λ front. reverseAux (map (λ x. x .cell) (dropLast front)) (s .free)) none in
     let position : lastOf (deadFront (s .row)) .cell ≡ s .position = e ∙ sym (position-none s v none) in
     λ i. record { settings = s .settings; row = row i; free = free i; position = position i }
-
-pub swept-words-none : (s : State) → Sound s → lastOf (deadFront (s .row)) .cell ≡ 0 → picture (swept s) ≡ finishAll (s .settings .dimensions) (picture s) 1 (s .settings .cells - 1)
-swept-words-none s v e = ap picture (swept-stays s v e) ∙ sym (finish-all s v)

@@ -19,7 +19,6 @@ use Rattle.meaning.specs.Words.{keyAt, markAt, positionAt, wordAt, dimen
 use Rattle.meaning.specs.Operations.{looked, insertOut, finishOut, takeOut, sweepOut, deadFront, fromLive, taken, revived, revivedNode, parentIn, positionAfter, slotFor, finished, withRow, linksMoved, keysAbove}
 use Rattle.meaning.specs.Calls.{outcome}
 use Rattle.meaning.specs.Writes.{Parent, Inserted, Taken, Revived, Swept, Marked}
-use Rattle.meaning.specs.Layer.SweepStores.{sweepWords}
 use Rattle.meaning.specs.Sentences.{Standing, Settled}
 use Rattle.meaning.specs.Promises.{FindWritesNothing, TakeWrites, ReviveWrites, InsertWrites, Finishes, FinishWrites, SweepWrites}
 use Rattle.meaning.specs.Layer.Stores.{writePath, writeNode}
@@ -45,7 +44,6 @@ use Rattle.meaning.proofs.FinishWords.{finish-moved, finish-own, finish
 use Rattle.meaning.proofs.TakeWords.{taken-words, revived-words, revived-path}
 use Rattle.meaning.proofs.InsertWords.{added-inserted}
 use Rattle.meaning.proofs.Outcomes.{on-read-lists, find-writes-nothing, take-outcome-none, take-outcome-first, insert-outcome-bad-key, insert-outcome-live, insert-outcome-dead, insert-outcome-new, finish-outcome-bad-key, finish-outcome-absent, finish-outcome-standing, sweep-outcome, key-cases, live-cases}
-use Rattle.meaning.proofs.SweepTarget.{sweep-words}
 use Rattle.meaning.proofs.SweepSentences.{live-marked, swept-leaves}
 use Rattle.meaning.proofs.Serves.{refused-not, new-accepted}
 
@@ -271,8 +269,5 @@ finish-writes =
 pub sweep-writes : SweepWrites
 unfolding outcome
 sweep-writes =
-    on-read-lists
-    (λ s ws. Swept ws (sweepOut ws .left) × (sweepOut ws .left ≡ sweepWords ws))
-    (λ s v.
-    let o = ap (λ (p : Outcome (List ℕ)). p .left) (sweep-outcome s v) in
-    (subst (Swept (picture s)) (sym o) (swept-leaves s v), o ∙ sweep-words s v))
+    on-read-lists (λ s ws. Swept ws (sweepOut ws .left))
+    (λ s v. subst (Swept (picture s)) (sym (ap (λ (p : Outcome (List ℕ)). p .left) (sweep-outcome s v))) (swept-leaves s v))

@@ -2,9 +2,10 @@
 use mathlib.Core.Bool.{Bool, cond}
 use mathlib.Core.List.{List, [], _∷_, _++_, map, flatMap}
 use mathlib.Core.Option.{Option, none, some}
-use Prim.Native.Nat.{ℕ, suc, _+_, _*_}
+use Prim.Native.Nat.{ℕ, suc, _+_, _*_, _-_}
 use lib.Dec.{eqb, ltb}
 use lib.ListN.{replicate}
+use Rattle.settings.specs.Numbers.{cellWords}
 use Rattle.lists.specs.Lists.{numbersFrom, firstNumber}
 use Rattle.meaning.specs.Keys.{coordinates, shared}
 use Rattle.meaning.specs.Row.{Node, headNode, Place, places, placeOf, owed, low, high, link}
@@ -28,7 +29,7 @@ nextFree c (x ∷ free) = cond (eqb x c) (firstNumber free) (nextFree c free)
 
 -- "A free cell's first word holds the next free cell, its other words are 0."
 unfoldable pub freeWords : ℕ → ℕ → List ℕ
-freeWords D next = next ∷ replicate (5 + 2 * D) 0
+freeWords D next = next ∷ replicate (cellWords D - 1) 0
 
 -- the words of cell c: of a standing cell by its place, else of a free one
 unfoldable pub wordsOf : ℕ → ℕ → List ℕ → ℕ → Option Place → List ℕ

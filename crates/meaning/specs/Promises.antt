@@ -18,7 +18,6 @@ use Rattle.meaning.specs.Rule.{rule}
 use Rattle.meaning.specs.Words.{keyAt, markAt, owedAt, lowAt, highAt, dimensionsAt, largestAt, cellsAt, baseAt, liveMark}
 use Rattle.meaning.specs.Walk.{walk, walkFrom, ends}
 use Rattle.meaning.specs.Operations.{takeOut, freedBy, slotFor}
-use Rattle.meaning.specs.Layer.SweepStores.{sweepWords}
 use Rattle.meaning.specs.Writes.{OwesNothing, OwesSame, Finished, Inserted, Taken, Revived, Swept}
 use Rattle.meaning.specs.Calls.{outcome, afterCalls, Lent}
 use Rattle.meaning.specs.Sentences.{Standing, AList}
@@ -180,11 +179,9 @@ FinishWrites =
     (ws : List ℕ) → isList ws ≡ true → (key : ℕ) → outcome (Finish key) ws .answered .refusal ≡ 0
     → Finishes ws (outcome (Finish key) ws .left) key (outcome (Finish key) ws .answered .count)
 
--- A sweep leaves what document 01 says, and writes what specs/SweepStores.antt says.
+-- A sweep leaves what document 01 says.
 abbrev pub SweepWrites : Type 0
-SweepWrites =
-    (ws : List ℕ) → isList ws ≡ true
-    → Swept ws (outcome Sweep ws .left) × (outcome Sweep ws .left ≡ sweepWords ws)
+SweepWrites = (ws : List ℕ) → isList ws ≡ true → Swept ws (outcome Sweep ws .left)
 
 -- 10. A cell freed by a sweep serves again: each cell but the head stands or is free, exactly one of the two, in every list;
 abbrev pub EachCellOnce : Type 0

@@ -6,7 +6,7 @@ use Prim.Native.Nat.{ℕ, zero, suc, _+_, _-_, _≤_, _<_}
 use native.Mathlib.Decide.{decLt}
 use native.Mathlib.Numerals.{add-one}
 use native.Mathlib.Omega.{arith}
-use lib.ListN.{length, getD, take, drop, set, replicate, length-set, length-replicate, length-drop, getD-replicate, replicate-append-replicate}
+use lib.ListN.{length, getD, take, drop, set, replicate, length-set, length-replicate, length-drop, replicate-append-replicate}
 use lib.Seq.{take-suc, take-suc-set, take-take, getD-take, getD-drop, length-take-le, sets}
 use Rattle.settings.specs.Numbers.{headerWords, mostDimensions}
 use Rattle.settings.specs.declared.Settings.{Settings}
@@ -36,9 +36,6 @@ zeros-taken (suc n) (suc m) h = ap {B = List ℕ} (λ l. 0 ∷ l) (zeros-taken n
 
 pub zeros-formed : (D : ℕ) → D ≤ mostDimensions → Formed D (record { cells = replicate mostDimensions 0; used = D })
 zeros-formed D h = record { long = length-replicate {A = ℕ} mostDimensions 0; used = refl; most = h }
-
-pub zeros-in : {s : Settings} {p : Path} → 0 < s .cells → Formed (s .dimensions) p → pathOf p ≡ replicate (s .dimensions) 0 → PathIn s p
-zeros-in {s} some f is = record { formed = f; below = λ d h. rw (is, getD-replicate {A = ℕ} (s .dimensions) d 0 0 h) some }
 
 -- Onward
 

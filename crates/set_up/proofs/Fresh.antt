@@ -72,7 +72,7 @@ next-free i (suc n) x low high = at-test (eqb i x) refl (λ above. next-free (su
 free-words : (D C x : ℕ) → suc x < C → freeWords D (nextFree (suc x) (numbersFrom 1 (C - 1))) ≡ freshCell D C (suc x)
 unfolding freeWords freshCell freshFirst freshMark
 free-words D C x h =
-    let n : 5 + 2 * D ≡ suc (suc (cellWords D - 3)) = omega arith in
+    let n : cellWords D - 1 ≡ suc (suc (cellWords D - 3)) = omega arith in
     let all : 1 + (C - 1) ≡ C = omega arith in
     rw (next-free 1 (C - 1) (suc x) (omega arith) (omega arith), all, eqb·suc-zero x, n) refl
 

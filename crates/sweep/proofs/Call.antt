@@ -19,10 +19,10 @@ use Rattle.meaning.proofs.SweepWords.{swept-paid, swept-stays}
 use Rattle.meaning.proofs.Outcomes.{sweep-outcome}
 use Rattle.finish.proofs.Debts.{listed-owes}
 use Rattle.words.proofs.Listed.{on-listed}
-use Rattle.free_between.specs.declared.Target as code
-use Rattle.free_between.specs.Between.{cellsUpTo, droppedTo}
-use Rattle.sweep.specs.Sweeping.{someOwesFrom, Paid, targetOf, sweptTo}
-use Rattle.sweep.proofs.Lists.{Moves, paid-read, target-read, moves-count, moves-swept}
+use Rattle.free_between.specs.declared.Target.{Target}
+use Rattle.free_between.specs.Between.{SweptTo, Paid}
+use Rattle.sweep.specs.Sweeping.{someOwesFrom}
+use Rattle.sweep.proofs.Lists.{paid-read}
 
 -- refusal 9's test is never met
 
@@ -48,7 +48,7 @@ listed-outcome : {ws : List ℕ} {s : Settings} → Listed ws s → sweepOut ws 
 listed-outcome = on-listed (λ t ws s. sweepOut ws ≡ accepted 0 0 (length (freedBy (t .row))) (picture (swept t))) sweep-outcome
 
 module _ {ws : List ℕ} {s : Settings} (h : Listed ws s) {all : List ℕ} (pays : all ≡ finishAll (s .dimensions) ws 1 (s .cells - 1)) where
-  swept-meets :
+  pub swept-meets :
       {r : Answer} {left : List ℕ} {count : ℕ} → left ≡ picture (swept (read all)) → count ≡ length (freedBy (read all .row)) →
       r ≡ answer 0 0 0 count → Meets (sweepOut ws) r left
   swept-meets words freed a =
@@ -59,25 +59,13 @@ module _ {ws : List ℕ} {s : Settings} (h : Listed ws s) {all : List ℕ} (pays
       rw (listed-outcome h) (record { answered = a ∙ ap (answer 0 0 0) (freed ∙ number); left = words ∙ ap picture result })
 
   -- the position stays the head
-  stays :
-      (t : code.Target) → Paid all s → targetOf t ≡ sweptTo all s → t .cell ≡ 0 →
-      (all ≡ picture (swept (read all))) × (0 ≡ length (freedBy (read all .row)))
-  stays t k is none =
-      on-listed (λ u ws s. map paid (u .row) ≡ u .row → targetOf t ≡ sweptTo ws s → (ws ≡ picture (swept u)) × (0 ≡ length (freedBy (u .row))))
-      (λ u v unowing q.
-      let head : lastOf (deadFront (u .row)) .cell ≡ 0 = sym (ap (λ g. g .cell) (q ∙ target-read u v)) ∙ none in
+  pub stays-meets : {t : Target} {r : Answer} → Paid all s → SweptTo all s t → t .cell ≡ 0 → r ≡ answer 0 0 0 0 → Meets (sweepOut ws) r all
+  stays-meets k to none a =
+      let so : (all ≡ picture (swept (read all))) × (0 ≡ length (freedBy (read all .row))) =
+      on-listed
+      (λ u ws s. map paid (u .row) ≡ u .row → lastOf (deadFront (u .row)) .cell ≡ 0 → (ws ≡ picture (swept u)) × (0 ≡ length (freedBy (u .row))))
+      (λ u v unowing head.
       let same : swept u ≡ u = swept-stays u v head ∙ ap (withRow u) unowing in
       (ap picture (sym same), omega (arith, freed-count u, ap (λ g. length (g .free)) same)))
-      (k .listed) (k .unowing) is
-
-  pub stays-meets :
-      (t : code.Target) {r : Answer} → Paid all s → targetOf t ≡ sweptTo all s → t .cell ≡ 0 → r ≡ answer 0 0 0 0 → Meets (sweepOut ws) r all
-  stays-meets t k is none a =
-      let so = stays t k is none in
+      (k .listed) (k .unowing) (sym (to .cell) ∙ none) in
       swept-meets (so .0) (so .1) a
-
-  pub moves-meets :
-      {t : code.Target} {r : Answer} {left : List ℕ} {count : ℕ} → Moves all s t →
-      left ≡ droppedTo all s t →
-      count ≡ length (cellsUpTo all s (t .cell)) → r ≡ answer 0 0 0 count → Meets (sweepOut ws) r left
-  moves-meets m words freed a = swept-meets (words ∙ moves-swept m) (freed ∙ moves-count m) a

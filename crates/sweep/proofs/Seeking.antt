@@ -1,110 +1,95 @@
--- Looking for the new position by the words. Where going from the head comes to an end, one cell more allowed changes nothing, so that a
--- step that goes on finds what is found from the cell before.
+-- Looking for the new position from the head on: past dead nodes, up to the first live one or the end.
 use mathlib.Core.Path.{_≡_, refl, sym, ap, _∙_, subst}
-use mathlib.Core.Bool.{Bool, true, false, cond}
-use mathlib.Core.List.{List, [], _∷_}
-use Prim.Native.Nat.{ℕ, zero, suc, _<_}
+use mathlib.Core.Bool.{false}
+use mathlib.Core.List.{List, [], _∷_, _++_}
+use Prim.Native.Nat.{ℕ, _<_}
 use native.Mathlib.Omega.{arith}
-use lib.Dec.{eqb}
 use lib.ListN.{length, replicate}
 use Rattle.settings.specs.declared.Settings.{Settings}
-use Rattle.meaning.specs.Words.{markAt, dimensionsAt}
-use Rattle.meaning.specs.Layer.Paths.{onward, NextCell, nextFrom}
-use Rattle.meaning.specs.Layer.SweepStores.{Target, targetFrom, cellsBefore}
-use Rattle.meaning.proofs.SweepTarget.{target-end, target-live, target-dead, before-past}
-use Rattle.words.proofs.Shaped.{shaped-dimensions}
+use Rattle.lists.proofs.All.{All, all-append}
+use Rattle.meaning.specs.Row.{Node}
+use Rattle.meaning.specs.Reading.{read}
+use Rattle.meaning.specs.Words.{keyAt, markAt}
+use Rattle.meaning.specs.Operations.{dimensionAt, keysAbove, lastOf}
+use Rattle.meaning.specs.Layer.Listed.{Listed}
+use Rattle.meaning.specs.Layer.Paths.{PathOf, dimensionIn}
+use Rattle.meaning.proofs.Placed.{mark-one, mark-other, head-placed}
+use Rattle.meaning.proofs.PathNext.{last-of, way-key}
+use Rattle.meaning.proofs.PathTake.{Stops, Live, stops, above-later}
+use Rattle.words.proofs.Listed.{on-listed}
 use Rattle.paths.specs.declared.Path.{Path}
 use Rattle.paths.specs.declared.Reached.{Reached}
-use Rattle.paths.specs.Paths.{pathOf, PathIn, Walkable, NextIs}
-use Rattle.free_between.specs.Between.{Reaches}
-use Rattle.free_between.proofs.Ways.{way-onward}
-use Rattle.sweep.specs.Sweeping.{sweptTo}
+use Rattle.paths.specs.Paths.{pathOf, Formed, PathIn, NextIs}
+use Rattle.paths.proofs.Ways.{head-starts, way-in, MovesOn, moves-on, moves-end}
+use Rattle.free_between.specs.Between.{SweptTo}
 
--- One cell more allowed
-
-target-more : (f : ℕ) (ws : List ℕ) (at : Target) → length (cellsBefore f ws 0 (at .path)) < f → targetFrom (suc f) ws at ≡ targetFrom f ws at
-unfolding cellsBefore targetFrom
-target-more zero ws at h = absurd (omega arith)
-target-more (suc f) ws at h = go (eqb (next .cell) 0) (eqb (markAt ws (next .cell)) 1) h (target-more f ws there)
-  where
-    next : NextCell
-    next = nextFrom ws (at .path) (dimensionsAt ws)
-
-    there : Target
-    there = record { cell = next .cell; number = next .number; path = onward (dimensionsAt ws) (at .path) (next .number) (next .cell) }
-
-    go : (none live : Bool) → length (cond none [] (next .cell ∷ cellsBefore f ws 0 (there .path))) < suc f →
-        (length (cellsBefore f ws 0 (there .path)) < f → targetFrom (suc f) ws there ≡ targetFrom f ws there) →
-        cond none at (cond live at (targetFrom (suc f) ws there)) ≡ cond none at (cond live at (targetFrom f ws there))
-    go true live l further = refl
-    go false true l further = refl
-    go false false l further = further (omega arith)
-
--- One step, with as many cells allowed as before
-
-module _ (ws : List ℕ) (D : ℕ) (is-D : dimensionsAt ws ≡ D) where
-  step-end : (C : ℕ) (at : Target) (e : ℕ) → 0 < C → nextFrom ws (at .path) D ≡ record { cell = 0; number = e } → targetFrom C ws at ≡ at
-  step-end zero at e h next = absurd (omega arith)
-  step-end (suc c) at e h next = target-end ws D is-D c at e next
-
-  step-live :
-      (C : ℕ) (at : Target) (y e : ℕ) → 0 < C → nextFrom ws (at .path) D ≡ record { cell = y; number = e } → 0 < y → markAt ws y ≡ 1 →
-      targetFrom C ws at ≡ at
-  step-live zero at y e h next other live = absurd (omega arith)
-  step-live (suc c) at y e h next other live = target-live ws D is-D c at y e next other live
-
-  step-dead :
-      (C : ℕ) (at : Target) (y e : ℕ) → length (cellsBefore C ws 0 (at .path)) < C → nextFrom ws (at .path) D ≡ record { cell = y; number = e } →
-      0 < y → (markAt ws y ≡ 1 → ⊥) →
-      targetFrom C ws at ≡ targetFrom C ws (record { cell = y; number = e; path = onward D (at .path) e y })
-  step-dead zero at y e h next other dead = absurd (omega arith)
-  step-dead (suc c) at y e h next other dead =
-      let first = before-past ws D is-D c 0 (at .path) y e next (λ z. omega arith) in
-      target-dead ws D is-D c at y e next other dead
-      ∙ sym (target-more c ws (record { cell = y; number = e; path = onward D (at .path) e y }) (omega (arith, ap length first)))
-
--- Looking for the new position
-
--- the search has come to cell `at` by link `number`, and from there it finds what it finds from the head
+-- the path has come past dead nodes to cell `at`, which was reached by link `number`
 pub record Seeking (ws : List ℕ) (s : Settings) (at number : ℕ) (p : Path) : Type 0 where
-  pub found : sweptTo ws s ≡ targetFrom (s .cells) ws (record { cell = at; number = number; path = pathOf p })
-  pub way : Reaches ws s 0 (pathOf p)
+  pub front : List Node
+  pub later : List Node
+  pub on-way : PathOf (read ws) (pathOf p) front later
+  pub dead : All (λ y. y .live ≡ false) front
+  pub cell : at ≡ lastOf front .cell
+  pub reached : number ≡ dimensionIn (read ws) at
   pub path-in : PathIn s p
 
 pub seeking-start :
-    {ws : List ℕ} {s : Settings} {p : Path} → Reaches ws s 0 (replicate (s .dimensions) 0) → pathOf p ≡ replicate (s .dimensions) 0 → PathIn s p →
-    Seeking ws s 0 0 p
-seeking-start {ws} {s} w is i =
+    {ws : List ℕ} {s : Settings} {p : Path} → Listed ws s → pathOf p ≡ replicate (s .dimensions) 0 → Formed (s .dimensions) p → Seeking ws s 0 0 p
+unfolding dimensionAt lastOf
+seeking-start {ws} h is f =
+    let w = head-starts h is in
     record {
-      found = ap (λ q. targetFrom (s .cells) ws (record { cell = 0; number = 0; path = q })) (sym is);
-      way = subst (Reaches ws s 0) (sym is) w;
-      path-in = i;
+      front = [];
+      later = read ws .row;
+      on-way = w;
+      dead = tt;
+      cell = refl;
+      reached = ap dimensionAt (sym (head-placed (read ws) .found));
+      path-in = way-in h f w;
     }
 
-module _ {ws : List ℕ} {s : Settings} (h : Walkable ws s) {at number : ℕ} {p : Path} (k : Seeking ws s at number p) {r : Reached} (n : NextIs ws s p r) where
-  abbrev here : Target
-  here = record { cell = at; number = number; path = pathOf p }
+-- the keys above that of a path's cell are those still to come
+above-is :
+    {ws : List ℕ} {s : Settings} → Listed ws s → {path : List ℕ} {front later : List Node} {c : ℕ} → PathOf (read ws) path front later →
+    c ≡ lastOf front .cell → keysAbove (keyAt ws c) (read ws .row) ≡ length later
+above-is h {path} {front} {later} {c} =
+    on-listed (λ t ws s. PathOf t path front later → c ≡ lastOf front .cell → keysAbove (keyAt ws c) (t .row) ≡ length later)
+    (λ t v w e. rw (e, way-key v w) (above-later v w)) h
 
-  is-D : dimensionsAt ws ≡ s .dimensions
-  is-D = shaped-dimensions (h .shaped)
+module _ {ws : List ℕ} {s : Settings} (h : Listed ws s) {at number : ℕ} {p : Path} (k : Seeking ws s at number p) {r : Reached}
+    (n : NextIs ws s p r) where
+  -- where none comes later, or a live one comes next, the new position is found
+  found : (later : List Node) → k .later ≡ later → Live later → SweptTo ws s (record { cell = at; number = number; path = p })
+  found later e live =
+      let w = subst (PathOf (read ws) (pathOf p) (k .front)) e (k .on-way) in
+      let stop = subst (λ row. Stops row (k .front) later) (sym (w .split)) (stops (k .front) later (k .dead) live) in
+      record { on-way = rw (stop .dead, stop .live) w; cell = rw (stop .dead) (k .cell); number = k .reached; path-in = k .path-in }
 
-  pub seeking-end : r .cell ≡ 0 → record { cell = at; number = number; path = pathOf p } ≡ sweptTo ws s
-  seeking-end e =
-      let next = n .is ∙ ap {B = NextCell} (λ c. record { cell = c; number = r .number }) e in
-      sym (k .found ∙ step-end ws (s .dimensions) is-D (s .cells) here (r .number) (h .head) next)
+  pub seeking-end : r .cell ≡ 0 → SweptTo ws s (record { cell = at; number = number; path = p })
+  seeking-end none = found [] (moves-end h n (k .later) (k .on-way) none) tt
 
   module _ (some : r .cell ≡ 0 → ⊥) where
-    pub seeking-live : {m : ℕ} → m ≡ markAt ws (r .cell) → m ≡ 1 → record { cell = at; number = number; path = pathOf p } ≡ sweptTo ws s
-    seeking-live e live =
-        sym (k .found ∙ step-live ws (s .dimensions) is-D (s .cells) here (r .cell) (r .number) (h .head) (n .is) (omega arith) (sym e ∙ live))
+    on : MovesOn (read ws) ws (k .front) (k .later) r
+    on = moves-on h n (k .later) (k .on-way) some
 
-    pub seeking-onward : {m : ℕ} → m ≡ markAt ws (r .cell) → (m ≡ 1 → ⊥) → Seeking ws s (r .cell) (r .number) (r .path)
-    seeking-onward e dead =
-        record {
-          found =
-              k .found
-              ∙ step-dead ws (s .dimensions) is-D (s .cells) here (r .cell) (r .number) (k .way .ends) (n .is) (omega arith) (λ z. dead (e ∙ z))
-              ∙ ap (λ q. targetFrom (s .cells) ws (record { cell = r .cell; number = r .number; path = q })) (sym (n .way some));
-          way = way-onward h (k .way) n some;
-          path-in = n .path-in;
-        }
+    pub seeking-less : keysAbove (keyAt ws (r .cell)) (read ws .row) < keysAbove (keyAt ws at) (read ws .row)
+    seeking-less =
+        let there = on .to .cell ∙ ap (λ y. y .cell) (sym (last-of (k .front) (on .node))) in
+        omega (arith, above-is h (on .to .on-way) there, above-is h (k .on-way) (k .cell), ap length (on .next))
+
+    module _ {mark : ℕ} (is : mark ≡ markAt ws (r .cell)) where
+      pub seeking-live : mark ≡ 1 → SweptTo ws s (record { cell = at; number = number; path = p })
+      seeking-live one = found (on .node ∷ on .rest) (on .next) (mark-one (on .node .live) (sym (on .to .mark) ∙ sym is ∙ one))
+
+      pub seeking-onward : (mark ≡ 1 → ⊥) → Seeking ws s (r .cell) (r .number) (r .path)
+      seeking-onward other =
+          let y = on .node in
+          record {
+            front = k .front ++ (y ∷ []);
+            later = on .rest;
+            on-way = on .to .on-way;
+            dead = all-append (λ z. z .live ≡ false) (k .front) (y ∷ []) (k .dead) (mark-other (y .live) (λ e. other (is ∙ on .to .mark ∙ e)), tt);
+            cell = on .to .cell ∙ ap (λ z. z .cell) (sym (last-of (k .front) y));
+            reached = on .to .number;
+            path-in = n .path-in;
+          }

@@ -7,8 +7,8 @@ ghost use Rattle.meaning.specs.Operations.{sweepOut};
 ghost use Rattle.meaning.specs.Layer.SweepStores.{finishAll};
 ghost use Rattle.meaning.specs.Layer.Listed.{Listed};
 ghost use Rattle.words.specs.Shaped.{Shaped};
-ghost use Rattle.paths.specs.Paths.{PathIn};
-ghost use Rattle.sweep.specs.Sweeping.{someOwesFrom, Paid, targetOf, sweptTo};
+ghost use Rattle.free_between.specs.Between.{SweptTo, Paid};
+ghost use Rattle.sweep.specs.Sweeping.{someOwesFrom};
 use free_between::Target;
 use meaning::Answer;
 use settings::Settings;
@@ -43,7 +43,7 @@ fn finish_all(list: &mut [u32], s: Settings)
 // The last dead cell below every live key, found from the head; the head if there is no other.
 fn seek_target(list: &[u32], s: Settings) -> Target
     requires { ⌜ Listed (now list) s ⌝ }
-    ensures { λ r. ⌜ (targetOf r ≡ sweptTo (now (list .entry)) s) × PathIn s (r .path) ⌝ }
+    ensures { λ r. ⌜ SweptTo (now (list .entry)) s r ⌝ }
 {
     let mut at: u32 = 0;
     let mut number: u32 = 0;

@@ -14,20 +14,22 @@ part-fill-end : tie.Need-part-fill-end
 part-fill-end c =
     let at = c .before in
     let store = at .before .before .before in
-    rest-inside (store .store .ensures .1) (store .before .before .before .pre .1) (at .word-index .ensures .0) refl
+    rest-inside (store .store .ensures .1) (store .before .before .before .pre .1) (at .word-index .ensures .0) (c .cell-words .ensures) refl
 
 returns : tie.Need-returns
 returns c =
-    let at = c .before .before .before .before .before in
+    let size = c .before .before .before .before in
+    let at = size .before in
     let store = at .before .before .before in
     let start = store .before .before .before in
     let a = start .args in
-    rw (rest-written (store .store .ensures .1) (start .pre .1) (at .word-index .ensures .0) refl (a .list .now) (a .v) (store .store .ensures .0) (c .before .before .fill .ensures))
+    rw (rest-written (store .store .ensures .1) (start .pre .1) (at .word-index .ensures .0) (size .cell-words .ensures) refl (a .list .now) (a .v)
+    (store .store .ensures .0) (c .before .before .fill .ensures))
     (refl, stores-shaped (start .pre .0) (a .x) (a .j) (a .v ∷ replicate (cellWords (a .s .dimensions) - suc (a .j)) 0))
 
 pub store-before-zeros-spec : {M : Type 1} → statement M
 store-before-zeros-spec =
     tie.close
-    (tie.spec (λ c κs. search needs) (λ c κs. search needs) (λ c. search needs) (λ c. search needs) (λ c. search needs) (λ c. search needs)
-    (λ c. search needs) (λ c. search needs) (λ c. search needs) (λ c. search needs) (λ c. search needs) (λ c. search needs) part-fill-end
+    (tie.spec (λ c κs. search needs) (λ c κs. search needs) (λ c. search needs) (λ c κs. search needs) (λ c. search needs) (λ c. search needs)
+    (λ c. search needs) (λ c. search needs) (λ c. search needs) (λ c. search needs) part-fill-end
     (λ c κs. search needs) (λ c. search needs) returns)

@@ -1,21 +1,34 @@
--- Paths: the path of any standing cell, the next standing cell in key order, the first live one after the position, and the path that the
--- walk builds. The functions on words are the ones that the code follows.
+-- Paths: the path of any standing cell, the way through the standing cells in the order of their keys, the next one on the words, and the
+-- path that the walk builds. The functions on words are the ones that the code follows.
+use mathlib.Core.Path.{_≡_}
 use mathlib.Core.Bool.{cond}
 use mathlib.Core.List.{List, _∷_, _++_, map}
 use Prim.Native.Nat.{ℕ, zero, suc, _-_}
 use lib.Dec.{eqb}
 use lib.ListN.{getD, take, replicate}
 use Rattle.lists.specs.Lists.{numbersFrom}
-use Rattle.meaning.specs.Row.{Node, headNode}
+use Rattle.meaning.specs.Row.{Node, headNode, placeOf}
+use Rattle.meaning.specs.State.{State, placesOf}
 use Rattle.meaning.specs.Picture.{firstWith}
-use Rattle.meaning.specs.Words.{markAt, dimensionsAt, liveMark}
+use Rattle.meaning.specs.Words.{dimensionsAt}
 use Rattle.meaning.specs.Walk.{linkRead, stepAt}
+use Rattle.meaning.specs.Operations.{dimensionAt, lastOf}
 use Rattle.meaning.specs.declared.Step.{Step}
 use Rattle.meaning.specs.declared.Step.the-variants.{Go, Up, End}
 
 -- The path of the standing cell with a key: word d is "the least-key standing cell sharing the first d+1 coordinates" with it.
 unfoldable pub pathFor : ℕ → ℕ → List Node → ℕ → List ℕ
 pathFor b D row key = map (λ d. firstWith b D key (suc d) (headNode ∷ row)) (numbersFrom 0 D)
+
+-- The way through the standing cells in the order of their keys: this is the path of the last of the nodes in front, or of the head where
+-- there is none, and the later ones are still to come. Whoever goes from cell to cell keeps this.
+pub record PathOf (s : State) (path : List ℕ) (front later : List Node) : Type 0 where
+  pub split : s .row ≡ front ++ later
+  pub is : path ≡ pathFor (s .settings .base) (s .settings .dimensions) (s .row) (lastOf front .key)
+
+-- the dimension of standing cell c, which is the number of the link that leads to it
+abbrev pub dimensionIn : State → ℕ → ℕ
+dimensionIn s c = dimensionAt (placeOf c (placesOf s (s .row)))
 
 -- a path of D words with cell y from word d on
 abbrev pub onward : ℕ → List ℕ → ℕ → ℕ → List ℕ
@@ -32,23 +45,6 @@ nextFrom ws path zero = record { cell = 0; number = 0 }
 nextFrom ws path (suc d) =
     let y = linkRead ws (getD path d 0) d in
     cond (eqb y 0) (nextFrom ws path d) (record { cell = y; number = d })
-
--- What stands after a path's cell: the first live cell with its path, and how many cells were passed up to it; cell 0 if there is none.
-pub record Ahead : Type 0 where
-  pub cell : ℕ
-  pub passed : ℕ
-  pub path : List ℕ
-
--- onward from a path, past dead cells, over at most `fuel` cells
-unfoldable pub aheadFrom : ℕ → List ℕ → List ℕ → ℕ → Ahead
-aheadFrom zero ws path passed = record { cell = 0; passed = passed; path = path }
-aheadFrom (suc fuel) ws path passed =
-    let D = dimensionsAt ws in
-    let next = nextFrom ws path D in
-    let there = onward D path (next .number) (next .cell) in
-    let further = aheadFrom fuel ws there (suc passed) in
-    cond (eqb (next .cell) 0) (record { cell = 0; passed = passed; path = path })
-    (cond (eqb (markAt ws (next .cell)) liveMark) (record { cell = next .cell; passed = suc passed; path = there }) further)
 
 -- the path after a step from cell x and coordinate d, if the rest of the walk makes it `further`
 abbrev pub pathAfter : (List ℕ → ℕ → ℕ → List ℕ) → ℕ → List ℕ → ℕ → ℕ → Step → List ℕ

@@ -2,8 +2,7 @@
 -- way out with refusal 9 is never gone, since on a list a cell owed from stands.
 use borrow.Author.Needs.{needs}
 use Rattle.words.proofs.Listed.{listed-shaped}
-use Rattle.sweep.proofs.Lists.{moves-droppable}
-use Rattle.sweep.proofs.Call.{never-meets, stays-meets, moves-meets}
+use Rattle.sweep.proofs.Call.{never-meets, stays-meets, swept-meets}
 use Rattle.sweep.proofs.sweep.Statement.{statement}
 use Rattle.sweep.proofs.sweep.Tie as tie
 
@@ -18,28 +17,22 @@ returns-2 c =
     let seeks = c .before .before .before in
     let pays = seeks .before .before .before .before in
     let paid = pays .finish-all .ensures in
-    let t = seeks .seek-target in
-    stays-meets (pays .before .before .before .before .before .before .pre) (paid .0) (t .result) (paid .1) (t .ensures .0) (c .before .if2 .taken) (c .accepted .ensures)
+    stays-meets (pays .before .before .before .before .before .before .pre) (paid .0) (paid .1) (seeks .seek-target .ensures) (c .before .if2 .taken)
+    (c .accepted .ensures)
 
 drop-front-requires : tie.Need-drop-front-requires
 drop-front-requires c κs =
     let other = c .before in
     let seeks = other .before .before in
-    let t = seeks .seek-target .ensures in
     let paid = seeks .before .before .before .before .finish-all .ensures .1 in
-    moves-droppable (record { paid = paid; target = t .0; other = other .if2 .left; path-in = t .1 })
+    record { paid = paid; target = seeks .seek-target .ensures; other = other .if2 .left }
 
 returns-3 : tie.Need-returns-3
 returns-3 c =
     let drops = c .before .before .before in
-    let other = drops .before .before in
-    let seeks = other .before .before in
-    let pays = seeks .before .before .before .before in
-    let paid = pays .finish-all .ensures in
-    let t = seeks .seek-target .ensures in
+    let pays = drops .before .before .before .before .before .before .before .before in
     let left = drops .drop-front .ensures in
-    moves-meets (pays .before .before .before .before .before .before .pre) (paid .0)
-    (record { paid = paid .1; target = t .0; other = other .if2 .left; path-in = t .1 }) (left .0) (left .1) (c .accepted2 .ensures)
+    swept-meets (pays .before .before .before .before .before .before .pre) (pays .finish-all .ensures .0) (left .0) (left .1) (c .accepted2 .ensures)
 
 pub sweep-spec : {M : Type 1} → statement M
 sweep-spec =

@@ -1,5 +1,5 @@
--- `take::first_live` meets its contract: at each turn the path is that of a standing cell, and what the definition finds from there is
--- what it finds from the position. The cells passed and those still ahead are fewer than C.
+-- `take::first_live` meets its contract: at each turn the path has come past dead nodes, and the keys passed and those still to come are
+-- fewer than C.
 use Prim.Native.Nat.{_-_}
 use native.Mathlib.Omega.{arith}
 use Rattle.meaning.specs.Reading.{read}
@@ -11,7 +11,7 @@ use Rattle.take.proofs.first_live.Statement.{statement}
 use Rattle.take.proofs.first_live.Tie as tie
 
 abbrev Inv-loop : tie.InvT-loop
-Inv-loop list s path₀ passed₀ path passed = Passing (read list) list s path passed
+Inv-loop list s path₀ passed₀ path passed = Passing (read list) s path passed
 
 abbrev μ-loop : tie.MeasureT-loop
 μ-loop list s path₀ passed₀ path passed = s .cells - passed
