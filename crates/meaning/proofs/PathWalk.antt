@@ -18,42 +18,25 @@ use Rattle.meaning.specs.Row.{Node, headNode, Place, placesAfter, headPl
 use Rattle.meaning.specs.State.{State}
 use Rattle.meaning.specs.Picture.{firstWith, picture}
 use Rattle.meaning.specs.Words.{keyAt, dimensionsAt, baseAt}
-use Rattle.meaning.specs.Walk.{stepAlong, stepAt, endsAfter, ends}
-use Rattle.meaning.specs.Layer.Paths.{pathFor, onward, pathAfter, pathAlong}
+use Rattle.meaning.specs.Walk.{trail}
+use Rattle.meaning.specs.Layer.Paths.{pathFor, onward, pathOver}
 use Rattle.meaning.specs.declared.Step.{Step}
-use Rattle.meaning.specs.declared.Step.the-variants.{Go, Up, End}
-use Rattle.meaning.specs.Layer.Resting.{restAfter, restFrom, rest}
+use Rattle.meaning.specs.declared.Step.the-variants.{Go, Up}
+use Rattle.meaning.specs.declared.Rest.{Rest}
+use Rattle.meaning.specs.Layer.Resting.{atHead, restAfter, restOver, rest}
 use Rattle.meaning.proofs.Order.{Asc, asc-above}
 use Rattle.meaning.proofs.Keys.{shared-same, shared-less, shared-le}
 use Rattle.meaning.proofs.State.{Sound, base-positive, base-above}
 use Rattle.meaning.proofs.Picture.{picture-dimensions, picture-base}
 use Rattle.meaning.proofs.Places.{asc-left, lastFrom}
 use Rattle.meaning.proofs.Parent.{asc-last, first-hits}
-use Rattle.meaning.proofs.RowWalk.{Next, Stop, next}
-use Rattle.meaning.proofs.WalkRead.{Read, key-read}
-use Rattle.meaning.proofs.Walk.{move-shares, along-go, StandingPlace, place-up, place-top, place-over, place-along, head-read, others-standing}
+use Rattle.meaning.proofs.RowWalk.{RowTrail, rises, moves, wants, reaches}
+use Rattle.meaning.proofs.Walk.{Own, row-trail}
 use Rattle.meaning.proofs.WalkStop.{Wanting, Moved, rests}
-use Rattle.meaning.proofs.Placed.{Placed, placed-node, placed-cell, place-key}
+use Rattle.meaning.proofs.Placed.{Placed, placed-has, placed-node, placed-cell, head-placed, place-key}
 use Rattle.meaning.proofs.Path.{path-same, path-next-own, path-head, path-from}
 use Rattle.meaning.proofs.PathNext.{last-snoc}
 use Rattle.meaning.proofs.BookRow.{node-key, node-has}
-
--- a walk that has come to its end builds no more of a path in more steps
-ends-path : (fuel more : ℕ) (ws : List ℕ) (k : ℕ) (path : List ℕ) (x d : ℕ) → ends fuel ws k x d ≡ true → fuel ≤ more → pathAlong more ws k path x d ≡ pathAlong fuel ws k path x d
-unfolding ends pathAlong
-ends-path zero more ws k path x d e h = absurd (let z : _≡_ {A = ℕ} 0 1 = cc in omega arith)
-ends-path (suc fuel) zero ws k path x d e h = absurd (omega arith)
-ends-path (suc fuel) (suc more) ws k path x d e h = go (stepAt ws k x d) e (λ p y c f. ends-path fuel more ws k p y c f (omega arith))
-  where
-    D : ℕ
-    D = dimensionsAt ws
-
-    go : (t : Step) → endsAfter (ends fuel ws k) x d t ≡ true →
-        ((p : List ℕ) (y c : ℕ) → ends fuel ws k y c ≡ true → pathAlong more ws k p y c ≡ pathAlong fuel ws k p y c) →
-        pathAfter (pathAlong more ws k) D path x d t ≡ pathAfter (pathAlong fuel ws k) D path x d t
-    go (Go y) f further = further (onward D path d y) y d f
-    go Up f further = further path x (suc d) f
-    go End f further = refl
 
 -- Words of paths, by place
 
@@ -91,210 +74,73 @@ module _ (b D : ℕ) (pos : 0 < b) (all : List Node) (asc : Asc 0 all) where
         subst (λ z. All (WayPlace b D all) (placesAfter b D z d row)) last (ways-after (front ++ (x ∷ [])) row d more),
       )
 
--- Steps
-
-module _ (ws : List ℕ) (D : ℕ) (is-D : dimensionsAt ws ≡ D) (k fuel : ℕ) (path : List ℕ) (x d : ℕ) where
-  along-end : stepAt ws k x d ≡ End → pathAlong (suc fuel) ws k path x d ≡ path
-  unfolding pathAlong
-  along-end e = ap (pathAfter (pathAlong fuel ws k) (dimensionsAt ws) path x d) e
-
-  along-up : stepAt ws k x d ≡ Up → pathAlong (suc fuel) ws k path x d ≡ pathAlong fuel ws k path x (suc d)
-  unfolding pathAlong
-  along-up e = ap (pathAfter (pathAlong fuel ws k) (dimensionsAt ws) path x d) e
-
-  along-to : (y : ℕ) → stepAt ws k x d ≡ Go y → pathAlong (suc fuel) ws k path x d ≡ pathAlong fuel ws k (onward D path d y) y d
-  unfolding pathAlong
-  along-to y e = ap (pathAfter (pathAlong fuel ws k) (dimensionsAt ws) path x d) e ∙ ap (λ n. pathAlong fuel ws k (onward n path d y) y d) is-D
-
--- a step of a walk that ends keeps the path that it builds
-
-module _ (ws : List ℕ) (D : ℕ) (is-D : dimensionsAt ws ≡ D) (k : ℕ) (path : List ℕ) (x d : ℕ) where
-  pub built-go :
-      (fuel y : ℕ) → ends fuel ws k x d ≡ true → stepAt ws k x d ≡ Go y → pathAlong fuel ws k path x d ≡ pathAlong fuel ws k (onward D path d y) y d
-  unfolding ends
-  built-go zero y e t = absurd (let z : _≡_ {A = ℕ} 0 1 = cc in omega arith)
-  built-go (suc fuel) y e t =
-      let f : ends fuel ws k y d ≡ true = sym (ap (endsAfter (ends fuel ws k) x d) t) ∙ e in
-      along-to ws D is-D k fuel path x d y t ∙ sym (ends-path fuel (suc fuel) ws k (onward D path d y) y d f (omega arith))
-
-  pub built-up : (fuel : ℕ) → ends fuel ws k x d ≡ true → stepAt ws k x d ≡ Up → pathAlong fuel ws k path x d ≡ pathAlong fuel ws k path x (suc d)
-  unfolding ends
-  built-up zero e t = absurd (let z : _≡_ {A = ℕ} 0 1 = cc in omega arith)
-  built-up (suc fuel) e t =
-      let f : ends fuel ws k x (suc d) ≡ true = sym (ap (endsAfter (ends fuel ws k) x d) t) ∙ e in
-      along-up ws D is-D k fuel path x d t ∙ sym (ends-path fuel (suc fuel) ws k path x (suc d) f (omega arith))
-
-  pub built-end : (fuel : ℕ) → ends fuel ws k x d ≡ true → stepAt ws k x d ≡ End → pathAlong fuel ws k path x d ≡ path
-  unfolding ends
-  built-end zero e t = absurd (let z : _≡_ {A = ℕ} 0 1 = cc in omega arith)
-  built-end (suc fuel) e t = along-end ws D is-D k fuel path x d t
-
-rest-step : (ws : List ℕ) (k fuel from number x d n : ℕ) (t : Step) → stepAt ws k x d ≡ t → restFrom (suc fuel) ws k from number x d n ≡ restAfter (restFrom fuel ws k) from number x d n t
-unfolding restFrom
-rest-step ws k fuel from number x d n t e = ap (restAfter (restFrom fuel ws k) from number x d n) e
-
--- what is known of a later place: its words and its path
-record WalkPlace (ws : List ℕ) (b D : ℕ) (row : List Node) (p : Place) : Type 0 where
-  standing : StandingPlace ws b D p
-  key : keyAt ws (p .node .cell) ≡ p .node .key
-  way : WayPlace b D row p
-
-module _ (ws : List ℕ) (b D k : ℕ) (is-D : dimensionsAt ws ≡ D) (is-b : baseAt ws ≡ b) (pos : 0 < b) (some-D : 0 < D) (kfits : k < b ^ D) (row : List Node) where
-  -- the walk from cell x and coordinate d makes a path that of the cell where it rests
-  abbrev Rests : ℕ → List ℕ → ℕ → ℕ → Type 0
-  Rests fuel path x d = (from number n : ℕ) → pathAlong fuel ws k path x d ≡ pathFor b D row (keyAt ws (restFrom fuel ws k from number x d n .at))
-
-  rests-none : (path : List ℕ) (x d : ℕ) → path ≡ pathFor b D row (keyAt ws x) → Rests 0 path x d
-  unfolding pathAlong restFrom
-  rests-none path x d e from number n = e
-
-  rests-end : (fuel : ℕ) (path : List ℕ) (x d : ℕ) → path ≡ pathFor b D row (keyAt ws x) → stepAt ws k x d ≡ End → Rests (suc fuel) path x d
-  rests-end fuel path x d e t from number n =
-      along-end ws D is-D k fuel path x d t ∙ e ∙ ap (λ r. pathFor b D row (keyAt ws (r .at))) (sym (rest-step ws k fuel from number x d n End t))
-
-  rests-up : (fuel : ℕ) (path : List ℕ) (x d : ℕ) → stepAt ws k x d ≡ Up → Rests fuel path x (suc d) → Rests (suc fuel) path x d
-  rests-up fuel path x d t further from number n =
-      along-up ws D is-D k fuel path x d t ∙ further from number n ∙ ap (λ r. pathFor b D row (keyAt ws (r .at))) (sym (rest-step ws k fuel from number x d n Up t))
-
-  rests-to : (fuel : ℕ) (path : List ℕ) (x d y : ℕ) → stepAt ws k x d ≡ Go y → Rests fuel (onward D path d y) y d → Rests (suc fuel) path x d
-  rests-to fuel path x d y t further from number n =
-      along-to ws D is-D k fuel path x d y t ∙ further x d (suc n) ∙ ap (λ r. pathFor b D row (keyAt ws (r .at))) (sym (rest-step ws k fuel from number x d n (Go y) t))
-
-  -- at k or above it the path is that of the cell at hand
-  rests-above : (fuel : ℕ) (path : List ℕ) (p : Place) → StandingPlace ws b D p → path ≡ pathFor b D row (keyAt ws (p .node .cell)) → k ≤ p .node .key →
-      (d : ℕ) → d < D → d ≤ shared b D (p .node .key) k → Rests fuel path (p .node .cell) d
-  rests-above zero path p at is h d l near = rests-none path (p .node .cell) d is
-  rests-above (suc fuel) path p at is h d l near =
-      go (decLe (shared b D (p .node .key) k) d) (ℕ-discrete (suc d) D) (rests-above fuel path p at is h (suc d))
-    where
-      x : ℕ
-      x = p .node .cell
-
-      go : Dec (shared b D (p .node .key) k ≤ d) → Dec (suc d ≡ D) → (suc d < D → suc d ≤ shared b D (p .node .key) k → Rests fuel path x (suc d)) → Rests (suc fuel) path x d
-      go (no m) (yes e) further = rests-end fuel path x d is (place-top ws b D k is-D is-b pos some-D kfits p (at .read) d (omega arith) e)
-      go (no m) (no ne) further =
-          rests-up fuel path x d (place-up ws b D k is-D is-b pos some-D kfits p (at .read) d (omega arith) (omega arith)) (further (omega arith) (omega arith))
-      go (yes m) top further = rests-end fuel path x d is (place-over ws b D k is-D is-b pos some-D kfits p (at .read) h (at .fits) d l (omega arith))
-
-  -- the path after a move
-  path-moves : (p q : Place) (d : ℕ) → WayPlace b D row p → WayPlace b D row q → p .node .key ≤ q .node .key → d ≡ shared b D (p .node .key) (q .node .key) → q .dimension ≡ d →
-      onward D (pathFor b D row (p .node .key)) d (q .node .cell) ≡ pathFor b D row (q .node .key)
-  path-moves p q d from to up e dim =
-      sym (path-from b D row (p .node .key) (q .node .key) d (q .node .cell) (omega (arith, shared-le b D (p .node .key) (q .node .key)))
-      (λ i l. from .same (q .node .key) i up (omega arith)) (λ i h l. to .own i (omega arith) l))
-
-  -- from a place below k
-  abbrev Below : ℕ → Type 0
-  Below fuel =
-      (p : Place) → Read ws b D p → keyAt ws (p .node .cell) ≡ p .node .key → WayPlace b D row p →
-      All (WalkPlace ws b D row) (placesAfter b D (p .node) (p .dimension) (p .later)) → p .node .key < k → Asc (p .node .key) (p .later) →
-      (d : ℕ) → p .dimension ≤ d → d ≤ shared b D (p .node .key) k → Rests fuel (pathFor b D row (p .node .key)) (p .node .cell) d
-
-  -- the rest of the walk after a move to a cell
-  rests-on : (fuel : ℕ) → Below fuel → (x d : ℕ) (later : List Node) → x < k → d ≡ shared b D x k → (to : Next b D k x later (WalkPlace ws b D row)) →
-      Rests fuel (pathFor b D row (to .to .node .key)) (to .to .node .cell) d
-  rests-on fuel further x d later h e to = go (decLe k (to .to .node .key)) (move-shares b D k x (to .to .node .key) d pos h (to .above) e (to .shares))
-    where
-      go : Dec (k ≤ to .to .node .key) → d ≤ shared b D (to .to .node .key) k → Rests fuel (pathFor b D row (to .to .node .key)) (to .to .node .cell) d
-      go (yes m) near =
-          let less = shared-less b D x k some-D (omega arith) in
-          rests-above fuel (pathFor b D row (to .to .node .key)) (to .to) (to .holds .standing) (ap (pathFor b D row) (sym (to .holds .key))) m d (omega arith) near
-      go (no m) near =
-          let dim = to .dimension in
-          further (to .to) (to .holds .standing .read) (to .holds .key) (to .holds .way) (to .after) (omega arith) (to .ascends) d (omega arith) near
-
-  rests-below : (fuel : ℕ) → Below fuel
-  rests-below zero p reads key way later h asc d up near = rests-none (pathFor b D row (p .node .key)) (p .node .cell) d (ap (pathFor b D row) (sym key))
-  rests-below (suc fuel) p reads key way later h asc d up near =
-      go (decLe (shared b D (p .node .key) k) d) (shared-less b D (p .node .key) k some-D (λ e. omega arith))
-      (next b D k pos some-D (WalkPlace ws b D row) p h asc later) (rests-below fuel)
-    where
-      x : ℕ
-      x = p .node .cell
-
-      path : List ℕ
-      path = pathFor b D row (p .node .key)
-
-      go : Dec (shared b D (p .node .key) k ≤ d) → shared b D (p .node .key) k < D →
-          Stop b D k (p .node .key) (p .later) ⊎ Next b D k (p .node .key) (p .later) (WalkPlace ws b D row) → Below fuel → Rests (suc fuel) path x d
-      go (no m) less to further =
-          rests-up fuel path x d (place-up ws b D k is-D is-b pos some-D kfits p reads d (omega arith) (omega arith))
-          (further p reads key way later h asc (suc d) (omega arith) (omega arith))
-      go (yes m) less (inl stop) further =
-          rests-end fuel path x d (ap (pathFor b D row) (sym key)) (place-along ws b D k is-D is-b pos some-D kfits p reads h d up (omega arith) ∙ ap stepAlong (stop .leads))
-      go (yes m) less (inr to) further =
-          let e : d ≡ shared b D (p .node .key) k = omega arith in
-          let above = to .above in
-          rests-to fuel path x d (to .to .node .cell)
-          (place-along ws b D k is-D is-b pos some-D kfits p reads h d up e ∙ ap stepAlong (to .leads) ∙ along-go (to .to .node .cell) (to .holds .standing .other))
-          (subst (λ r. Rests fuel r (to .to .node .cell) d)
-          (sym (path-moves p (to .to) d way (to .holds .way) (omega arith) (e ∙ sym (to .shares)) (to .dimension ∙ sym e)))
-          (rests-on fuel further (p .node .key) d (p .later) h e to))
-
 -- On a list
 
-module _ (s : State) (v : Sound s) (k : ℕ) (least : 1 ≤ k) (most : k ≤ s .settings .largest) where
-  others-stand :
-      All (WalkPlace (picture s) (s .settings .base) (s .settings .dimensions) (s .row))
-      (placesAfter (s .settings .base) (s .settings .dimensions) headNode 0 (s .row))
+module _ {s : State} (v : Sound s) where
+  placed-way : {x : ℕ} {p : Place} → Placed s x p → WayPlace (s .settings .base) (s .settings .dimensions) (s .row) p
   unfolding places lastFrom
-  others-stand =
+  placed-way here =
       let b = s .settings .base in
       let D = s .settings .dimensions in
-      let others = placesAfter b D headNode 0 (s .row) in
-      let held : All (λ p. StandingPlace (picture s) b D p × (keyAt (picture s) (p .node .cell) ≡ p .node .key)) others =
-      all-zip (λ p f g. (f, g)) others (others-standing s v) (key-read s v .1)
-      in
-      all-zip (λ p f g. record { standing = f .0; key = f .1; way = g }) others held (ways-after b D (base-positive s v) (s .row) (v .ascends) [] (s .row) 0 refl)
+      let pos = base-positive s v in
+      placed-has here (WayPlace b D (s .row)) (
+        record {
+          same = way-same b D pos (s .row) (v .ascends) [] (s .row) refl;
+          own = λ i h l. first-hits b D 0 (suc i) headNode (s .row) (omega (arith, shared-same b D 0));
+        },
+        ways-after b D pos (s .row) (v .ascends) [] (s .row) 0 refl,
+      )
 
-  head-way : WayPlace (s .settings .base) (s .settings .dimensions) (s .row) (headPlace (s .row))
-  unfolding lastFrom
-  head-way =
+  -- the path after a move
+  path-moves : {x y : ℕ} {p q : Place} (d : ℕ) → Placed s x p → Placed s y q → p .node .key ≤ q .node .key →
+      d ≡ shared (s .settings .base) (s .settings .dimensions) (p .node .key) (q .node .key) → q .dimension ≡ d →
+      onward (s .settings .dimensions) (pathFor (s .settings .base) (s .settings .dimensions) (s .row) (p .node .key)) d (q .node .cell)
+      ≡ pathFor (s .settings .base) (s .settings .dimensions) (s .row) (q .node .key)
+  path-moves {p = p} {q} d from to up e dim =
       let b = s .settings .base in
       let D = s .settings .dimensions in
-      record {
-        same = way-same b D (base-positive s v) (s .row) (v .ascends) [] (s .row) refl;
-        own = λ i h l. first-hits b D 0 (suc i) headNode (s .row) (omega (arith, shared-same b D 0));
-      }
+      sym (path-from b D (s .row) (p .node .key) (q .node .key) d (q .node .cell) (omega (arith, shared-le b D (p .node .key) (q .node .key)))
+      (λ i l. placed-way from .same (q .node .key) i up (omega arith)) (λ i h l. placed-way to .own i (omega arith) l))
 
-  -- the walk builds the path of the cell where it rests
-  pub path-of-rest :
-      pathAlong (s .settings .dimensions * s .settings .base) (picture s) k (replicate (s .settings .dimensions) 0) 0 0
-      ≡ pathFor (s .settings .base) (s .settings .dimensions) (s .row) (keyAt (picture s) (rest (picture s) k .at))
-  unfolding rest picture places
-  path-of-rest =
-      let b = s .settings .base in
-      let D = s .settings .dimensions in
-      let h = v .ranges .dimensions-least in
-      let above = base-above s v in
-      ap (λ p. pathAlong (D * b) (picture s) k p 0 0) (sym (path-head b D (s .row)))
-      ∙ rests-below (picture s) b D k (picture-dimensions s) (picture-base s) (base-positive s v) (omega arith) (omega arith) (s .row) (D * b) (headPlace (s .row))
-      (head-read s v) (key-read s v .0) head-way others-stand (omega arith) (v .ascends) 0 (omega arith) (omega arith) 0 0 0
+  -- steps make the path of the place that they start from that of the cell where they come to rest
+  path-rests : {k : ℕ} {p : Place} {d : ℕ} {steps : List Step} → RowTrail (s .settings .base) (s .settings .dimensions) k (Own s) p d steps →
+      (r : Rest) → Placed s (r .at) p →
+      pathOver (s .settings .dimensions) (pathFor (s .settings .base) (s .settings .dimensions) (s .row) (p .node .key)) d steps
+      ≡ pathFor (s .settings .base) (s .settings .dimensions) (s .row) (keyAt (picture s) (restOver r steps .at))
+  unfolding pathOver restOver
+  path-rests (rises t) r here = path-rests t (restAfter r Up) here
+  path-rests {p = p} {d} (moves {steps = steps} h up e to t) r here =
+      let above = to .above in
+      ap (λ path. pathOver (s .settings .dimensions) path d steps)
+      (path-moves d here (to .holds) (omega arith) (e ∙ sym (to .shares)) (to .dimension ∙ sym e))
+      ∙ path-rests t (restAfter r (Go (to .to .node .cell))) (to .holds)
+  path-rests (wants h up e stop) r here = ap (pathFor (s .settings .base) (s .settings .dimensions) (s .row)) (sym (place-key v here))
+  path-rests (reaches h e) r here = ap (pathFor (s .settings .base) (s .settings .dimensions) (s .row)) (sym (place-key v here))
 
-  -- for a standing key that is the cell with the key, ..
-  pub rest-at-key : (nodeAt k (s .row) ≡ none → ⊥) → keyAt (picture s) (rest (picture s) k .at) ≡ k
-  rest-at-key stands = at (rests s v k least most)
-    where
-      b : ℕ
-      b = s .settings .base
+-- for a standing key the walk rests at the cell with the key, ..
+rest-at-key : (s : State) → Sound s → (k : ℕ) → 1 ≤ k → k ≤ s .settings .largest → (nodeAt k (s .row) ≡ none → ⊥) →
+    keyAt (picture s) (rest (picture s) k .at) ≡ k
+rest-at-key s v k least most stands = at (rests s v k least most)
+  where
+    at : Wanting s k (rest (picture s) k) ⊎ Moved s k (rest (picture s) k) → keyAt (picture s) (rest (picture s) k .at) ≡ k
+    at (inl w) = absurd (stands (w .absent))
+    at (inr m) = place-key v (m .to-placed) ∙ reached (ℕ-discrete k (m .to .node .key))
+      where
+        reached : Dec (k ≡ m .to .node .key) → m .to .node .key ≡ k
+        reached (yes e) = sym e
+        reached (no ne) = absurd (stands (m .absent (let h = m .reached in omega arith)))
 
-      D : ℕ
-      D = s .settings .dimensions
-
-      at : Wanting b D k (s .row) (rest (picture s) k) ⊎ Moved b D k (s .row) (rest (picture s) k) → keyAt (picture s) (rest (picture s) k .at) ≡ k
-      at (inl w) = absurd (stands (w .absent))
-      at (inr m) = ap (keyAt (picture s)) (m .at) ∙ place-key v (record { found = m .to-found }) ∙ reached (ℕ-discrete k (m .to .node .key))
-        where
-          reached : Dec (k ≡ m .to .node .key) → m .to .node .key ≡ k
-          reached (yes e) = sym e
-          reached (no ne) = absurd (stands (m .absent (let h = m .reached in omega arith)))
-
-  -- .. so the walk builds the key's own path
-  path-of-standing :
-      (nodeAt k (s .row) ≡ none → ⊥) →
-      pathAlong (s .settings .dimensions * s .settings .base) (picture s) k (replicate (s .settings .dimensions) 0) 0 0
-      ≡ pathFor (s .settings .base) (s .settings .dimensions) (s .row) k
-  path-of-standing stands = path-of-rest ∙ ap (pathFor (s .settings .base) (s .settings .dimensions) (s .row)) (rest-at-key stands)
+-- .. so it builds the key's own path
+path-of-standing : (s : State) → Sound s → (k : ℕ) → 1 ≤ k → k ≤ s .settings .largest → (nodeAt k (s .row) ≡ none → ⊥) →
+    pathOver (s .settings .dimensions) (replicate (s .settings .dimensions) 0) 0 (trail (picture s) k)
+    ≡ pathFor (s .settings .base) (s .settings .dimensions) (s .row) k
+unfolding rest
+path-of-standing s v k least most stands =
+    let b = s .settings .base in
+    let D = s .settings .dimensions in
+    ap (λ path. pathOver D path 0 (trail (picture s) k)) (sym (path-head b D (s .row)))
+    ∙ path-rests v (row-trail s v k least most) atHead (head-placed s)
+    ∙ ap (pathFor b D (s .row)) (rest-at-key s v k least most stands)
 
 -- a key that does not stand is no node's
 node-absent : (key : ℕ) (row : List Node) → nodeAt key row ≡ none → All (λ y. y .key ≡ key → ⊥) row
@@ -309,7 +155,7 @@ node-absent key (y ∷ row) e = at (ℕ-discrete (y .key) key) e (node-absent ke
 -- The path of a standing cell other than the head is the one that the walk for its key builds (the head's is `path-head`).
 pub path-of-cell :
     {s : State} (v : Sound s) {x : ℕ} {p : Place} → Placed s x p → 0 < x →
-    pathAlong (s .settings .dimensions * s .settings .base) (picture s) (p .node .key) (replicate (s .settings .dimensions) 0) 0 0
+    pathOver (s .settings .dimensions) (replicate (s .settings .dimensions) 0) 0 (trail (picture s) (p .node .key))
     ≡ pathFor (s .settings .base) (s .settings .dimensions) (s .row) (p .node .key)
 path-of-cell {s} v {x} {p} here other =
     let key = p .node .key in
@@ -318,14 +164,3 @@ path-of-cell {s} v {x} {p} here other =
     let most = placed-node here (λ y. y .key ≤ s .settings .largest) (omega arith) (v .keys) in
     path-of-standing s v key (omega arith) (omega arith)
     (λ e. placed-node here (λ y. y .key ≡ key → ⊥) (λ z. omega arith) (node-absent key (s .row) e) refl)
-
--- The same, of a standing key.
-pub path-of-walk :
-    (s : State) → Sound s → (k : ℕ) (x : Node) → nodeAt k (s .row) ≡ some x →
-    pathAlong (s .settings .dimensions * s .settings .base) (picture s) k (replicate (s .settings .dimensions) 0) 0 0
-    ≡ pathFor (s .settings .base) (s .settings .dimensions) (s .row) k
-path-of-walk s v k x stands =
-    let same = node-key k x (s .row) stands in
-    let above = node-has (λ y. 0 < y .key) k x (s .row) stands (asc-above 0 (s .row) (v .ascends)) in
-    let most = node-has (λ y. y .key ≤ s .settings .largest) k x (s .row) stands (v .keys) in
-    path-of-standing s v k (omega arith) (omega arith) (λ e. let z : _≡_ {A = ℕ} 0 1 = cc in omega arith)

@@ -4,7 +4,7 @@ use mathlib.Core.Path.{_≡_, refl, _∙_, sym, ap}
 use mathlib.Core.Bool.{Bool, true, false, cond}
 use mathlib.Core.Logic.{_⊎_, inl, inr}
 use mathlib.Core.List.{List, [], _∷_, map}
-use Prim.Native.Nat.{ℕ, _+_, _*_, _-_, _^_, _≤_, _<_, min}
+use Prim.Native.Nat.{ℕ, suc, _+_, _*_, _-_, _^_, _≤_, _<_, min}
 use native.Mathlib.Decide.{decLe, ℕ-discrete}
 use native.Mathlib.Nat.{mul-le-mul-right}
 use native.Mathlib.Omega.{arith}
@@ -16,6 +16,9 @@ use Rattle.lists.proofs.All.{All, all-map, all-of-map, all-mapped}
 use Rattle.meaning.specs.Keys.{coordinate, shared}
 use Rattle.meaning.specs.Row.{Node, firstSharing, Place, placesAfter}
 use Rattle.meaning.specs.Rule.{rule}
+use Rattle.meaning.specs.Walk.{goneTo, ends}
+use Rattle.meaning.specs.declared.Step.{Step}
+use Rattle.meaning.specs.declared.Step.the-variants.{Go, Up, End}
 use Rattle.meaning.proofs.Order.{Asc, asc-weaken, asc-above}
 use Rattle.meaning.proofs.Keys.{shared-same, shared-less, ultra, coordinate-below, coordinate-less}
 use Rattle.meaning.proofs.Rule.{keys, met, none-met, rule-is-met}
@@ -78,6 +81,36 @@ pub record Stop (b D k x : ℕ) (later : List Node) : Type 0 where
   pub leads : firstSharing b D x (shared b D x k) later ≡ 0
   pub gone : rowWalk b D k x later ≡ []
   pub passed : All (λ y. y .key ≤ k → shared b D x k < shared b D x (y .key)) later
+
+-- The steps of the walk for k over a row, from place p and coordinate d: up as long as cell and k share the coordinate at hand, then along
+-- the link of that number. It ends for want of that link, or at the first cell gone to at k or above it, there after what is shared or at
+-- the last coordinate.
+pub data RowTrail (b D k : ℕ) (R : Place → Type 0) : Place → ℕ → List Step → Type 0 where
+  rises : {p : Place} {d : ℕ} {steps : List Step} → RowTrail b D k R p (suc d) steps → RowTrail b D k R p d (Up ∷ steps)
+  moves :
+      {p : Place} {d : ℕ} {steps : List Step} → p .node .key < k → p .dimension ≤ d → d ≡ shared b D (p .node .key) k →
+      (to : Next b D k (p .node .key) (p .later) R) → RowTrail b D k R (to .to) d steps → RowTrail b D k R p d (Go (to .to .node .cell) ∷ steps)
+  wants :
+      {p : Place} {d : ℕ} → p .node .key < k → p .dimension ≤ d → d ≡ shared b D (p .node .key) k → Stop b D k (p .node .key) (p .later) →
+      RowTrail b D k R p d (End ∷ [])
+  reaches : {p : Place} {d : ℕ} → k ≤ p .node .key → d ≡ min (shared b D (p .node .key) k) (D - 1) → RowTrail b D k R p d (End ∷ [])
+
+module _ {b D k : ℕ} {R : Place → Type 0} where
+  pub row-trail-ends : {p : Place} {d : ℕ} {steps : List Step} → RowTrail b D k R p d steps → ends steps ≡ true
+  unfolding ends
+  row-trail-ends (rises t) = row-trail-ends t
+  row-trail-ends (moves h up e to t) = row-trail-ends t
+  row-trail-ends (wants h up e stop) = refl
+  row-trail-ends (reaches h e) = refl
+
+  -- it goes to the cells that the walk over the row goes to
+  pub row-trail-goes : {p : Place} {d : ℕ} {steps : List Step} → RowTrail b D k R p d steps →
+      goneTo steps ≡ map (λ x. x .cell) (cond (ltb (p .node .key) k) (rowWalk b D k (p .node .key) (p .later)) [])
+  unfolding goneTo
+  row-trail-goes (rises t) = row-trail-goes t
+  row-trail-goes {p} (moves h up e to t) = rw (lt-ltb (p .node .key) k h, to .gone) (ap (λ l. to .to .node .cell ∷ l) (row-trail-goes t))
+  row-trail-goes {p} (wants h up e stop) = rw (lt-ltb (p .node .key) k h, stop .gone) refl
+  row-trail-goes {p} (reaches h e) = rw (le-ltb (p .node .key) k h) refl
 
 module _ (b D k : ℕ) (pos : 0 < b) (some : 0 < D) where
   -- Where the walk goes next.

@@ -1,7 +1,7 @@
 -- Paths: the path of any standing cell, the next standing cell in key order, the first live one after the position, and the path that the
 -- walk builds. The functions on words are the ones that the code follows.
 use mathlib.Core.Bool.{cond}
-use mathlib.Core.List.{List, _∷_, _++_, map}
+use mathlib.Core.List.{List, [], _∷_, _++_, map}
 use Prim.Native.Nat.{ℕ, zero, suc, _-_}
 use lib.Dec.{eqb}
 use lib.ListN.{getD, take, replicate}
@@ -9,7 +9,7 @@ use Rattle.lists.specs.Lists.{numbersFrom}
 use Rattle.meaning.specs.Row.{Node, headNode}
 use Rattle.meaning.specs.Picture.{firstWith}
 use Rattle.meaning.specs.Words.{markAt, dimensionsAt, liveMark}
-use Rattle.meaning.specs.Walk.{linkRead, stepAt}
+use Rattle.meaning.specs.Walk.{linkRead}
 use Rattle.meaning.specs.declared.Step.{Step}
 use Rattle.meaning.specs.declared.Step.the-variants.{Go, Up, End}
 
@@ -50,14 +50,9 @@ aheadFrom (suc fuel) ws path passed =
     cond (eqb (next .cell) 0) (record { cell = 0; passed = passed; path = path })
     (cond (eqb (markAt ws (next .cell)) liveMark) (record { cell = next .cell; passed = suc passed; path = there }) further)
 
--- the path after a step from cell x and coordinate d, if the rest of the walk makes it `further`
-abbrev pub pathAfter : (List ℕ → ℕ → ℕ → List ℕ) → ℕ → List ℕ → ℕ → ℕ → Step → List ℕ
-pathAfter further D path x d (Go y) = further (onward D path d y) y d
-pathAfter further D path x d Up = further path x (suc d)
-pathAfter further D path x d End = path
-
--- The path that the walk for k from cell x and coordinate d builds on a path, in at most `fuel` steps: where it goes to a cell, that cell
--- from the coordinate at hand on.
-unfoldable pub pathAlong : ℕ → List ℕ → ℕ → List ℕ → ℕ → ℕ → List ℕ
-pathAlong zero ws k path x d = path
-pathAlong (suc fuel) ws k path x d = pathAfter (pathAlong fuel ws k) (dimensionsAt ws) path x d (stepAt ws k x d)
+-- The path that steps from coordinate d on build on a path of D words: where they go to a cell, that cell from the coordinate at hand on.
+unfoldable pub pathOver : ℕ → List ℕ → ℕ → List Step → List ℕ
+pathOver D path d [] = path
+pathOver D path d (Go y ∷ steps) = pathOver D (onward D path d y) d steps
+pathOver D path d (Up ∷ steps) = pathOver D path (suc d) steps
+pathOver D path d (End ∷ steps) = path
