@@ -30,7 +30,7 @@ use Rattle.meaning.proofs.State.{Sound, base-positive, base-above}
 use Rattle.meaning.proofs.Picture.{picture-dimensions, picture-base}
 use Rattle.meaning.proofs.Places.{asc-left, lastFrom}
 use Rattle.meaning.proofs.Parent.{asc-last, first-hits}
-use Rattle.meaning.proofs.RowWalk.{RowTrail, rises, moves, wants, reaches}
+use Rattle.meaning.proofs.WalkRow.{RowTrail, rises, moves, wants, reaches}
 use Rattle.meaning.proofs.Walk.{Own, row-trail}
 use Rattle.meaning.proofs.WalkStop.{Wanting, Moved, rests}
 use Rattle.meaning.proofs.Placed.{Placed, placed-has, placed-node, placed-cell, head-placed, place-key}

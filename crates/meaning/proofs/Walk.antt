@@ -30,8 +30,9 @@ use Rattle.meaning.proofs.Keys.{shared-same, shared-sym, shared-less, u
 use Rattle.meaning.proofs.State.{Sound, base-positive, base-above}
 use Rattle.meaning.proofs.Cells.{cells-distinct, row-range}
 use Rattle.meaning.proofs.Picture.{place-found, picture-dimensions, picture-base}
-use Rattle.meaning.proofs.Placed.{Placed, placed-has}
-use Rattle.meaning.proofs.RowWalk.{rowWalk, row-walk-all, row-walk-distinct, Next, Stop, next, RowTrail, rises, moves, wants, reaches, row-trail-ends, row-trail-goes, row-walk-is-rule, row-walk-bounded}
+use Rattle.meaning.proofs.Placed.{Placed, placed-has, placed-node}
+use Rattle.meaning.proofs.Rule.{met, rule-is-met}
+use Rattle.meaning.proofs.WalkRow.{met-all, met-distinct, NextOf, StopAt, next, RowTrail, rises, moves, wants, reaches, row-trail-ends, row-trail-meets, row-trail-bounded}
 use Rattle.meaning.proofs.WalkRead.{Read, all-places, settled-above, places-read, row-key-read}
 use Rattle.meaning.proofs.WalkSteps.{trail-first, trail-enough}
 
@@ -140,7 +141,7 @@ module _ (ws : List ℕ) (b D k : ℕ) (is-D : dimensionsAt ws ≡ D) (is-b : ba
       first e t = subst (RowTrail b D k R p d) (sym (trail-first fuel ws k x d e)) t
 
       -- along the link, if there is one
-      along : Trails fuel → p .node .key < k → d ≡ shared b D (p .node .key) k → Stop b D k (p .node .key) (p .later) ⊎ Next b D k (p .node .key) (p .later) R →
+      along : Trails fuel → p .node .key < k → d ≡ shared b D (p .node .key) k → StopAt b D k p ⊎ NextOf b D k R p →
           RowTrail b D k R p d (trailFrom (suc fuel) ws k x d)
       along further h e (inl stop) = first (place-along p r h d l (up h) e ∙ ap stepAlong (stop .leads)) (wants h (up h) e stop)
       along further h e (inr to) =
@@ -164,17 +165,19 @@ module _ (ws : List ℕ) (b D k : ℕ) (is-D : dimensionsAt ws ≡ D) (is-b : ba
 
 -- On a list.
 
-pub keys-fit : (s : State) → Sound s → All (λ x. x .key < s .settings .base ^ s .settings .dimensions) (s .row)
+keys-fit : (s : State) → Sound s → All (λ x. x .key < s .settings .base ^ s .settings .dimensions) (s .row)
 keys-fit s v = all-map (λ x h. let above = base-above s v in omega arith) (s .row) (v .keys)
 
-places-stand : (s : State) → Sound s → All (StandingPlace (picture s) (s .settings .base) (s .settings .dimensions)) (placesOf s (s .row))
-places-stand s v =
+placed-stands : (s : State) → Sound s → {x : ℕ} {p : Place} → Placed s x p → StandingPlace (picture s) (s .settings .base) (s .settings .dimensions) p
+placed-stands s v here =
     let b = s .settings .base in
     let D = s .settings .dimensions in
     let above = base-above s v in
-    all-zip (λ p r o. record { read = r; other = o .0; fits = o .1 }) (placesOf s (s .row)) (places-read s v)
-    (all-places (λ x. (0 < x .key → 0 < x .cell) × (x .key < b ^ D)) b D (s .row) ((λ h. h), omega arith)
-    (all-zip (λ x c f. ((λ h. c .0), f)) (s .row) (row-range s v) (keys-fit s v)))
+    record {
+      read = placed-has here (Read (picture s) b D) (places-read s v);
+      other = placed-node here (λ x. 0 < x .key → 0 < x .cell) (λ h. h) (all-map (λ x c h. c .0) (s .row) (row-range s v));
+      fits = placed-node here (λ x. x .key < b ^ D) (omega arith) (keys-fit s v);
+    }
 
 -- p is the place of its cell
 abbrev pub Own : State → Place → Type 0
@@ -198,7 +201,7 @@ module _ (s : State) (v : Sound s) (k : ℕ) (least : 1 ≤ k) (most : k ≤ s .
       let above = base-above s v in
       let own = places-own s v in
       trail-over-row (picture s) b D k (picture-dimensions s) (picture-base s) (base-positive s v) (omega arith) (omega arith) (Own s)
-      (λ q here. placed-has here (StandingPlace (picture s) b D) (places-stand s v)) (D * b) (headPlace (s .row)) (own .0) (own .1) (v .ascends)
+      (λ q here. placed-stands s v here) (D * b) (headPlace (s .row)) (own .0) (own .1) (v .ascends)
       0 (omega arith) (omega arith) (λ m. omega arith) (omega arith)
 
   pub trail-ends : ends (trail (picture s) k) ≡ true
@@ -209,9 +212,9 @@ module _ (s : State) (v : Sound s) (k : ℕ) (least : 1 ≤ k) (most : k ≤ s .
   unfolding trail picture
   trail-more fuel h = trail-enough (s .settings .dimensions * s .settings .base) fuel (picture s) k 0 0 trail-ends h
 
-  walk-is-row-walk : walk (picture s) k ≡ map (λ x. x .cell) (rowWalk (s .settings .base) (s .settings .dimensions) k 0 (s .row))
+  walk-is-met : walk (picture s) k ≡ map (λ x. x .cell) (met (s .settings .base) (s .settings .dimensions) k 0 (s .row))
   unfolding walk
-  walk-is-row-walk = row-trail-goes row-trail ∙ rw (lt-ltb 0 k (omega arith)) refl
+  walk-is-met = row-trail-meets row-trail (v .ascends)
 
   -- "The cells gone to, each counted once, are exactly those that looked counts."
   pub walk-is-rule : map (keyAt (picture s)) (walk (picture s) k) ≡ rule (s .settings .base) (s .settings .dimensions) (map (λ x. x .key) (s .row)) k
@@ -220,39 +223,24 @@ module _ (s : State) (v : Sound s) (k : ℕ) (least : 1 ≤ k) (most : k ≤ s .
       let D = s .settings .dimensions in
       let h = v .ranges .dimensions-least in
       let above = base-above s v in
-      ap (map (keyAt (picture s))) walk-is-row-walk
-      ∙ keys-of-cells (picture s) (rowWalk b D k 0 (s .row)) (row-walk-all (λ x. keyAt (picture s) (x .cell) ≡ x .key) b D k 0 (s .row) (row-key-read s v))
-      ∙ row-walk-is-rule b D k (base-positive s v) (omega arith) (s .row) least (omega arith) (v .ascends) (keys-fit s v)
+      ap (map (keyAt (picture s))) walk-is-met
+      ∙ keys-of-cells (picture s) (met b D k 0 (s .row)) (met-all (λ x. keyAt (picture s) (x .cell) ≡ x .key) b D k 0 (s .row) (row-key-read s v))
+      ∙ sym (rule-is-met b D k (base-positive s v) (omega arith) (omega arith) (s .row) (v .ascends) (keys-fit s v))
 
   pub walk-bounded : length (walk (picture s) k) ≤ s .settings .dimensions * (s .settings .base - 1)
+  unfolding walk
   walk-bounded =
-      let b = s .settings .base in
-      let D = s .settings .dimensions in
       let h = v .ranges .dimensions-least in
-      rw (walk-is-row-walk, length-map (rowWalk b D k 0 (s .row)) (λ x. x .cell))
-      (row-walk-bounded b D k (base-positive s v) (omega arith) (s .row) least (v .ascends) (keys-fit s v))
+      omega (arith, row-trail-bounded (base-positive s v) (omega arith) (λ q here. placed-stands s v here .fits) row-trail)
 
   -- "The figure is tied to a walk, and the figure is at most D(b-1)."
   pub walk-looked : length (walk (picture s) k) ≡ looked s k
   unfolding looked
   walk-looked = sym (length-map (walk (picture s) k) (keyAt (picture s))) ∙ ap length walk-is-rule
 
-  pub looked-bounded : looked s k ≤ s .settings .dimensions * (s .settings .base - 1)
-  looked-bounded = rw (← walk-looked) walk-bounded
-
-  -- the cells gone to are standing cells other than the head, ..
-  pub walk-cells : All (λ c. 0 < occurrences c (map (λ x. x .cell) (s .row))) (walk (picture s) k)
-  walk-cells =
-      let b = s .settings .base in
-      let D = s .settings .dimensions in
-      rw walk-is-row-walk
-      (all-mapped (λ c. 0 < occurrences c (map (λ x. x .cell) (s .row))) (λ x. x .cell) (rowWalk b D k 0 (s .row))
-      (row-walk-all (λ x. 0 < occurrences (x .cell) (map (λ x. x .cell) (s .row))) b D k 0 (s .row)
-      (all-of-map (λ c. 0 < occurrences c (map (λ x. x .cell) (s .row))) (λ x. x .cell) (s .row) (all-occur (map (λ x. x .cell) (s .row))))))
-
-  -- .. "each counted once"
+  -- "The cells gone to, each counted once"
   pub walk-once : Distinct (walk (picture s) k)
   walk-once =
-      rw walk-is-row-walk
-      (row-walk-distinct (s .settings .base) (s .settings .dimensions) k 0 (s .row)
+      rw walk-is-met
+      (met-distinct (s .settings .base) (s .settings .dimensions) k 0 (s .row)
       (distinct-left (map (λ x. x .cell) (s .row)) (s .free) (cells-distinct s v .1)))

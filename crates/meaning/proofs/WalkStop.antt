@@ -23,7 +23,7 @@ use Rattle.meaning.specs.Layer.Resting.{atHead, restAfter, restOver, res
 use Rattle.meaning.proofs.Order.{Asc, asc-above}
 use Rattle.meaning.proofs.State.{Sound}
 use Rattle.meaning.proofs.Placed.{Placed, placed-has, placed-node, head-placed}
-use Rattle.meaning.proofs.RowWalk.{Next, Stop, RowTrail, rises, moves, wants, reaches}
+use Rattle.meaning.proofs.WalkRow.{RowTrail, rises, moves, wants, reaches}
 use Rattle.meaning.proofs.Walk.{Own, row-trail}
 
 -- the cells gone to are those that steps go to
