@@ -1,23 +1,23 @@
 -- The path that the walk for k builds is the path of the cell where it comes to rest; so, for a standing key, the key's own path. The walk
 -- goes from a cell x to a cell y by link d of x: d is y's dimension and what x and y share, so y's path is x's below d, and y from d on.
 use mathlib.Core.Path.{_≡_, refl, sym, ap, _∙_, subst}
-use mathlib.Core.Bool.{true, cond}
+use mathlib.Core.Bool.{cond}
 use mathlib.Core.Logic.{_⊎_, inl, inr}
 use mathlib.Core.List.{List, [], _∷_, _++_}
 use mathlib.Core.Option.{none, some}
-use Prim.Native.Nat.{ℕ, zero, suc, _*_, _^_, _≤_, _<_}
-use native.Mathlib.Decide.{decLe, ℕ-discrete}
+use Prim.Native.Nat.{ℕ, suc, _≤_, _<_}
+use native.Mathlib.Decide.{ℕ-discrete}
 use native.Mathlib.Omega.{arith}
 use lib.Dec.{eqb}
 use lib.ListN.{replicate}
 use lib.Seq.{append-snoc}
 use borrow.Author.Tests.{eq-eqb, ne-eqb}
-use Rattle.lists.proofs.All.{All, all-map, all-zip}
+use Rattle.lists.proofs.All.{All, all-map}
 use Rattle.meaning.specs.Keys.{shared}
-use Rattle.meaning.specs.Row.{Node, headNode, Place, placesAfter, headPlace, places, nodeAt}
+use Rattle.meaning.specs.Row.{Node, headNode, Place, placesAfter, places, nodeAt}
 use Rattle.meaning.specs.State.{State}
 use Rattle.meaning.specs.Picture.{firstWith, picture}
-use Rattle.meaning.specs.Words.{keyAt, dimensionsAt, baseAt}
+use Rattle.meaning.specs.Words.{keyAt}
 use Rattle.meaning.specs.Walk.{trail}
 use Rattle.meaning.specs.Layer.Paths.{pathFor, onward, pathOver}
 use Rattle.meaning.specs.declared.Step.{Step}
@@ -25,9 +25,8 @@ use Rattle.meaning.specs.declared.Step.the-variants.{Go, Up}
 use Rattle.meaning.specs.declared.Rest.{Rest}
 use Rattle.meaning.specs.Layer.Resting.{atHead, restAfter, restOver, rest}
 use Rattle.meaning.proofs.Order.{Asc, asc-above}
-use Rattle.meaning.proofs.Keys.{shared-same, shared-less, shared-le}
-use Rattle.meaning.proofs.State.{Sound, base-positive, base-above}
-use Rattle.meaning.proofs.Picture.{picture-dimensions, picture-base}
+use Rattle.meaning.proofs.Keys.{shared-same, shared-le}
+use Rattle.meaning.proofs.State.{Sound, base-positive}
 use Rattle.meaning.proofs.Places.{asc-left, lastFrom}
 use Rattle.meaning.proofs.Parent.{asc-last, first-hits}
 use Rattle.meaning.proofs.WalkRow.{RowTrail, rises, moves, wants, reaches}
@@ -36,7 +35,6 @@ use Rattle.meaning.proofs.WalkStop.{Wanting, Moved, rests}
 use Rattle.meaning.proofs.Placed.{Placed, placed-has, placed-node, placed-cell, head-placed, place-key}
 use Rattle.meaning.proofs.Path.{path-same, path-next-own, path-head, path-from}
 use Rattle.meaning.proofs.PathNext.{last-snoc}
-use Rattle.meaning.proofs.BookRow.{node-key, node-has}
 
 -- Words of paths, by place
 

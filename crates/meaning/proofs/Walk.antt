@@ -12,65 +12,52 @@ use native.Mathlib.Omega.{arith}
 use lib.Dec.{eqb, ltb}
 use lib.ListN.{length, length-map}
 use borrow.Author.Tests.{lt-ltb, le-ltb, eq-eqb, ne-eqb}
-use Rattle.lists.specs.Lists.{occurrences}
-use Rattle.lists.proofs.Occurrences.{Distinct, distinct-left, all-occur}
-use Rattle.lists.proofs.All.{All, all-map, all-zip, all-of-map, all-mapped}
+use Rattle.lists.proofs.Occurrences.{Distinct, distinct-left}
+use Rattle.lists.proofs.All.{All, all-map}
 use Rattle.meaning.specs.Keys.{coordinate, shared}
-use Rattle.meaning.specs.Row.{Node, headNode, firstSharing, Place, placesAfter, headPlace, places}
+use Rattle.meaning.specs.Row.{Node, firstSharing, Place, placesAfter, headPlace, places}
 use Rattle.meaning.specs.State.{State, placesOf}
 use Rattle.meaning.specs.Picture.{picture}
 use Rattle.meaning.specs.Operations.{looked}
 use Rattle.meaning.specs.Rule.{rule}
-use Rattle.meaning.specs.Words.{keyAt, coordinateAt, dimensionsAt, baseAt}
+use Rattle.meaning.specs.Words.{keyAt, dimensionsAt, baseAt}
 use Rattle.meaning.specs.Walk.{linkRead, stepAlong, stepAt, onFrom, trailFrom, trail, ends, walk}
 use Rattle.meaning.specs.declared.Step.{Step}
 use Rattle.meaning.specs.declared.Step.the-variants.{Go, Up, End}
 use Rattle.meaning.proofs.Order.{Asc}
-use Rattle.meaning.proofs.Keys.{shared-same, shared-sym, shared-less, ultra, coordinate-below, coordinate-same, coordinate-less}
+use Rattle.meaning.proofs.Keys.{shared-same, shared-sym, shared-less, triangle, coordinate-below, coordinate-same, coordinate-less}
 use Rattle.meaning.proofs.State.{Sound, base-positive, base-above}
 use Rattle.meaning.proofs.Cells.{cells-distinct, row-range}
 use Rattle.meaning.proofs.Picture.{place-found, picture-dimensions, picture-base}
 use Rattle.meaning.proofs.Placed.{Placed, placed-has, placed-node}
 use Rattle.meaning.proofs.Rule.{met, rule-is-met}
 use Rattle.meaning.proofs.WalkRow.{met-all, met-distinct, NextOf, StopAt, next, RowTrail, rises, moves, wants, reaches, row-trail-ends, row-trail-meets, row-trail-bounded}
-use Rattle.meaning.proofs.WalkRead.{Read, all-places, settled-above, places-read, row-key-read}
+use Rattle.meaning.proofs.WalkRead.{Read, settled-above, places-read, row-key-read}
 use Rattle.meaning.proofs.WalkSteps.{trail-first, trail-enough}
 
 -- The steps that are left: D * b, less d * b + (the cell's coordinate d).
 
-abbrev pub Room : ℕ → ℕ → ℕ → ℕ → ℕ → Type 0
+abbrev Room : ℕ → ℕ → ℕ → ℕ → ℕ → Type 0
 Room b D fuel key d = D * b ≤ fuel + (d * b + coordinate b D key d)
 
-pub room-none : (b D key d : ℕ) → 0 < b → d < D → Room b D 0 key d → ⊥
+room-none : (b D key d : ℕ) → 0 < b → d < D → Room b D 0 key d → ⊥
 room-none b D key d pos h room =
     let more = mul-le-mul-right b h in
     let digit = coordinate-below b D key d pos in
     omega arith
 
-pub room-up : (b D fuel key d : ℕ) → 0 < b → Room b D (suc fuel) key d → Room b D fuel key (suc d)
+room-up : (b D fuel key d : ℕ) → 0 < b → Room b D (suc fuel) key d → Room b D fuel key (suc d)
 room-up b D fuel key d pos room = let digit = coordinate-below b D key d pos in omega arith
 
 -- a move to y at coordinate d leaves fewer steps, and y shares at least d coordinates with k
-pub move-room : (b D k fuel x y d : ℕ) → 0 < b → x < y → y < b ^ D → d ≡ shared b D x k → shared b D x y ≡ shared b D x k →
+move-room : (b D k fuel x y d : ℕ) → 0 < b → x < y → y < b ^ D → d ≡ shared b D x k → shared b D x y ≡ shared b D x k →
     Room b D (suc fuel) x d → Room b D fuel y d
 move-room b D k fuel x y d pos l fits e s room = let raised = rw (s ∙ sym e) at (coordinate-less b D x y pos (omega arith) fits l) in omega arith
 
-pub move-shares : (b D k x y d : ℕ) → 0 < b → x < k → x < y → d ≡ shared b D x k → shared b D x y ≡ shared b D x k → d ≤ shared b D y k
-move-shares b D k x y d pos h l e s = go (decLe k y)
-  where
-    go : Dec (k ≤ y) → d ≤ shared b D y k
-    go (yes m) = omega (arith, ultra b D x k y pos (omega arith) m, shared-sym b D k y)
-    go (no m) = omega (arith, ultra b D x y k pos (omega arith) (omega arith))
+move-shares : (b D k x y d : ℕ) → 0 < b → d ≡ shared b D x k → shared b D x y ≡ shared b D x k → d ≤ shared b D y k
+move-shares b D k x y d pos e s = omega (arith, triangle b D y x k pos, shared-sym b D y x)
 
--- keys that do not share all coordinates differ
-apart : (b D x k : ℕ) → k ≤ x → shared b D x k < D → k < x
-apart b D x k h l = go (ℕ-discrete k x)
-  where
-    go : Dec (k ≡ x) → k < x
-    go (yes q) = absurd (let all : shared b D x k ≡ D = ap (λ z. shared b D x z) q ∙ shared-same b D x in omega arith)
-    go (no n) = omega arith
-
-pub along-go : (y : ℕ) → 0 < y → stepAlong y ≡ Go y
+along-go : (y : ℕ) → 0 < y → stepAlong y ≡ Go y
 along-go y h = rw (ne-eqb y 0 (λ e. omega arith)) refl
 
 -- the place of a standing cell, as the words have it
@@ -109,7 +96,8 @@ module _ (ws : List ℕ) (b D k : ℕ) (is-D : dimensionsAt ws ≡ D) (is-b : ba
   place-over p r h d l e =
       let own = coordinate b D (p .node .key) d in
       let same : shared b D k (p .node .key) ≡ d = omega (arith, shared-sym b D k (p .node .key)) in
-      let less = rw same at (coordinate-less b D k (p .node .key) pos kfits (stands p r .fits) (apart b D (p .node .key) k h (omega arith))) in
+      let other : k ≡ p .node .key → ⊥ = (λ q. omega (arith, ap (shared b D (p .node .key)) q, shared-same b D (p .node .key))) in
+      let less = rw same at (coordinate-less b D k (p .node .key) pos kfits (stands p r .fits) (omega arith)) in
       place-step p r d l ∙ rw (le-ltb own (coordinate b D k d) (omega arith), ne-eqb own (coordinate b D k d) (λ z. omega arith)) refl
 
   -- .. and along the settled link if it is below k.
@@ -151,7 +139,7 @@ module _ (ws : List ℕ) (b D k : ℕ) (is-D : dimensionsAt ws ≡ D) (is-b : ba
           let dim = to .dimension in
           first (place-along p r h d l (up h) e ∙ ap stepAlong (to .leads) ∙ along-go (y .node .cell) (at .other (omega arith)))
           (moves h (up h) e to
-          (further y (to .holds) (to .after) (to .ascends) d l (move-shares b D k (p .node .key) (y .node .key) d pos h above e (to .shares)) (λ m. omega arith)
+          (further y (to .holds) (to .after) (to .ascends) d l (move-shares b D k (p .node .key) (y .node .key) d pos e (to .shares)) (λ m. omega arith)
           (move-room b D k fuel (p .node .key) (y .node .key) d pos above (at .fits) e (to .shares) room)))
 
       go : Dec (shared b D (p .node .key) k ≤ d) → Dec (k ≤ p .node .key) → Dec (suc d ≡ D) → Trails fuel → RowTrail b D k R p d (trailFrom (suc fuel) ws k x d)

@@ -56,6 +56,15 @@ unfolding foundOf foundAt
 present-is s k present parent p c q n =
     _∙_ {A = Found} (λ i. record { standing = true; parent = parent i; p = p i; c = c i; q = q i; looked = n i }) (sym (ap (foundAt s k) present))
 
+-- what the search answers where the walk rests at r, by the key of the cell at hand, which is one of the list's
+pub record Answers (t : State) (s : Settings) (k key : ℕ) (r : Rest) : Type 0 where
+  pub below : key < k → record { standing = false; parent = r .at; p = r .coordinate; c = 0; q = 0; looked = r .looked } ≡ foundOf t k
+  pub above :
+      k < key → record { standing = false; parent = r .from; p = r .number; c = r .at; q = r .coordinate; looked = r .looked } ≡ foundOf t k
+  pub here :
+      key ≡ k → record { standing = true; parent = r .from; p = r .number; c = r .at; q = s .dimensions; looked = r .looked } ≡ foundOf t k
+  pub cell : r .at < s .cells
+
 -- the node of next larger key, where its cell is the one that has the slot
 next-is :
     (b D k d : ℕ) (pre post : List Node) {c : ℕ} {to : Place} → Apart (headNode ∷ (pre ++ post)) → 0 < c → slot.cellAfter b D k d post ≡ c →
@@ -140,58 +149,31 @@ module _ (s : State) (v : Sound s) (k : ℕ) (least : 1 ≤ k) (most : k ≤ s .
       let q : r .coordinate ≡ slotShared s k = (let c = m .coordinate in omega arith) in
       absent-is s k absent (t .0) (m .number ∙ t .1) (sym held) (rw (ne-eqb (slotCell s k) 0 some-c) q) looked-is
 
-  -- which of the three it is, by the key of the cell at hand
-
-  rested : Wanting s k r ⊎ Moved s k r
-  rested = subst (λ t. Wanting s k t ⊎ Moved s k t) (sym is) (rests s v k least most)
-
-  pub rest-below : keyAt (picture s) (r .at) < k → record { standing = false; parent = r .at; p = r .coordinate; c = 0; q = 0; looked = r .looked } ≡ foundOf s k
-  rest-below h = at rested
+  -- which of the three it is
+  pub rest-answers : Answers s (s .settings) k (keyAt (picture s) (r .at)) r
+  rest-answers = at (subst (λ t. Wanting s k t ⊎ Moved s k t) (sym is) (rests s v k least most))
     where
-      at : Wanting s k r ⊎ Moved s k r → record { standing = false; parent = r .at; p = r .coordinate; c = 0; q = 0; looked = r .looked } ≡ foundOf s k
-      at (inl w) = wanting-found w
-      at (inr m) = absurd (omega (arith, place-key v (m .to-placed), m .reached))
-
-  pub rest-above : k < keyAt (picture s) (r .at) → record { standing = false; parent = r .from; p = r .number; c = r .at; q = r .coordinate; looked = r .looked } ≡ foundOf s k
-  rest-above h = at rested
-    where
-      at : Wanting s k r ⊎ Moved s k r → record { standing = false; parent = r .from; p = r .number; c = r .at; q = r .coordinate; looked = r .looked } ≡ foundOf s k
-      at (inl w) = absurd (omega (arith, place-key v (w .placed), w .hangs .below))
-      at (inr m) = moved-absent m (omega (arith, place-key v (m .to-placed)))
-
-  pub rest-here : keyAt (picture s) (r .at) ≡ k →
-      record { standing = true; parent = r .from; p = r .number; c = r .at; q = s .settings .dimensions; looked = r .looked } ≡ foundOf s k
-  rest-here h = at rested
-    where
-      at : Wanting s k r ⊎ Moved s k r → record { standing = true; parent = r .from; p = r .number; c = r .at; q = s .settings .dimensions; looked = r .looked } ≡ foundOf s k
-      at (inl w) = absurd (omega (arith, place-key v (w .placed), w .hangs .below))
-      at (inr m) = moved-present m (sym (place-key v (m .to-placed)) ∙ h)
-
-  -- it is a cell of the list
-  pub rest-cell : r .at < s .settings .cells
-  rest-cell = at rested
-    where
-      at : Wanting s k r ⊎ Moved s k r → r .at < s .settings .cells
-      at (inl w) = placed-below v (w .placed)
-      at (inr m) = placed-below v (m .to-placed)
+      at : Wanting s k r ⊎ Moved s k r → Answers s (s .settings) k (keyAt (picture s) (r .at)) r
+      at (inl w) =
+          let key = place-key v (w .placed) in
+          record {
+            below = λ h. wanting-found w;
+            above = λ h. absurd (omega (arith, w .hangs .below));
+            here = λ h. absurd (omega (arith, w .hangs .below));
+            cell = placed-below v (w .placed);
+          }
+      at (inr m) =
+          let key = place-key v (m .to-placed) in
+          record {
+            below = λ h. absurd (omega (arith, m .reached));
+            above = λ h. moved-absent m (omega arith);
+            here = λ h. moved-present m (sym key ∙ h);
+            cell = placed-below v (m .to-placed);
+          }
 
 -- On a list, as the code has it: r is where the walk rests, and `key` the key of the cell at hand
-
-module _ {ws : List ℕ} {s : Settings} (h : Listed ws s) (k : ℕ) (least : 1 ≤ k) (most : k ≤ s .largest) {r : Rest} (is : r ≡ rest ws k) where
-  pub found-below : {key : ℕ} → key ≡ keyAt ws (r .at) → key < k → record { standing = false; parent = r .at; p = r .coordinate; c = 0; q = 0; looked = r .looked } ≡ foundOf (read ws) k
-  found-below e l =
-      on-listed (λ t ws u. k ≤ u .largest → r ≡ rest ws k → keyAt ws (r .at) < k → record { standing = false; parent = r .at; p = r .coordinate; c = 0; q = 0; looked = r .looked } ≡ foundOf t k)
-      (λ t v m q. rest-below t v k least m r q) h most is (omega arith)
-
-  pub found-above : {key : ℕ} → key ≡ keyAt ws (r .at) → k < key → record { standing = false; parent = r .from; p = r .number; c = r .at; q = r .coordinate; looked = r .looked } ≡ foundOf (read ws) k
-  found-above e l =
-      on-listed (λ t ws u. k ≤ u .largest → r ≡ rest ws k → k < keyAt ws (r .at) → record { standing = false; parent = r .from; p = r .number; c = r .at; q = r .coordinate; looked = r .looked } ≡ foundOf t k)
-      (λ t v m q. rest-above t v k least m r q) h most is (omega arith)
-
-  pub found-here : {key : ℕ} → key ≡ keyAt ws (r .at) → key ≡ k → record { standing = true; parent = r .from; p = r .number; c = r .at; q = s .dimensions; looked = r .looked } ≡ foundOf (read ws) k
-  found-here e l =
-      on-listed (λ t ws u. k ≤ u .largest → r ≡ rest ws k → keyAt ws (r .at) ≡ k → record { standing = true; parent = r .from; p = r .number; c = r .at; q = u .dimensions; looked = r .looked } ≡ foundOf t k)
-      (λ t v m q. rest-here t v k least m r q) h most is (omega arith)
-
-  pub found-cell : r .at < s .cells
-  found-cell = on-listed (λ t ws u. k ≤ u .largest → r ≡ rest ws k → r .at < u .cells) (λ t v m q. rest-cell t v k least m r q) h most is
+pub answers :
+    {ws : List ℕ} {s : Settings} → Listed ws s → (k : ℕ) → 1 ≤ k → k ≤ s .largest → {r : Rest} → r ≡ rest ws k → {key : ℕ} → key ≡ keyAt ws (r .at) →
+    Answers (read ws) s k key r
+answers h k least most {r} is e =
+    rw e (on-listed (λ t ws u. k ≤ u .largest → r ≡ rest ws k → Answers t u k (keyAt ws (r .at)) r) (λ t v m q. rest-answers t v k least m r q) h most is)
