@@ -1,18 +1,15 @@
 -- The path that the walk for k builds is the path of the cell where it comes to rest; so, for a standing key, the key's own path. The walk
 -- goes from a cell x to a cell y by link d of x: d is y's dimension and what x and y share, so y's path is x's below d, and y from d on.
 use mathlib.Core.Path.{_≡_, refl, sym, ap, _∙_, subst}
-use mathlib.Core.Bool.{cond}
 use mathlib.Core.Logic.{_⊎_, inl, inr}
 use mathlib.Core.List.{List, [], _∷_, _++_}
-use mathlib.Core.Option.{none, some}
+use mathlib.Core.Option.{none}
 use Prim.Native.Nat.{ℕ, suc, _≤_, _<_}
 use native.Mathlib.Decide.{ℕ-discrete}
 use native.Mathlib.Omega.{arith}
-use lib.Dec.{eqb}
 use lib.ListN.{replicate}
 use lib.Seq.{append-snoc}
-use borrow.Author.Tests.{eq-eqb, ne-eqb}
-use Rattle.lists.proofs.All.{All, all-map}
+use Rattle.lists.proofs.All.{All}
 use Rattle.meaning.specs.Keys.{shared}
 use Rattle.meaning.specs.Row.{Node, headNode, Place, placesAfter, places, nodeAt}
 use Rattle.meaning.specs.State.{State}
@@ -24,15 +21,15 @@ use Rattle.meaning.specs.declared.Step.{Step}
 use Rattle.meaning.specs.declared.Step.the-variants.{Go, Up}
 use Rattle.meaning.specs.declared.Rest.{Rest}
 use Rattle.meaning.specs.Layer.Resting.{atHead, restAfter, restOver, rest}
-use Rattle.meaning.proofs.Order.{Asc, asc-above}
+use Rattle.meaning.proofs.Order.{Asc}
 use Rattle.meaning.proofs.Keys.{shared-same, shared-le}
 use Rattle.meaning.proofs.State.{Sound, base-positive}
 use Rattle.meaning.proofs.Places.{asc-left, lastFrom}
 use Rattle.meaning.proofs.Parent.{asc-last, first-hits}
 use Rattle.meaning.proofs.WalkRow.{RowTrail, rises, moves, wants, reaches}
-use Rattle.meaning.proofs.Walk.{Own, row-trail}
+use Rattle.meaning.proofs.Walk.{row-trail}
 use Rattle.meaning.proofs.WalkStop.{Wanting, Moved, rests}
-use Rattle.meaning.proofs.Placed.{Placed, placed-has, placed-node, placed-cell, head-placed, place-key}
+use Rattle.meaning.proofs.Placed.{Placed, Own, placed-has, placed-most, placed-above, placed-at, head-placed, place-key}
 use Rattle.meaning.proofs.Path.{path-same, path-next-own, path-head, path-from}
 use Rattle.meaning.proofs.PathNext.{last-snoc}
 
@@ -115,7 +112,7 @@ module _ {s : State} (v : Sound s) where
   path-rests (wants h up e stop) r here = ap (pathFor (s .settings .base) (s .settings .dimensions) (s .row)) (sym (place-key v here))
   path-rests (reaches h e) r here = ap (pathFor (s .settings .base) (s .settings .dimensions) (s .row)) (sym (place-key v here))
 
--- for a standing key the walk rests at the cell with the key, ..
+-- for a standing key the walk rests at the cell with the key
 rest-at-key : (s : State) → Sound s → (k : ℕ) → 1 ≤ k → k ≤ s .settings .largest → (nodeAt k (s .row) ≡ none → ⊥) →
     keyAt (picture s) (rest (picture s) k .at) ≡ k
 rest-at-key s v k least most stands = at (rests s v k least most)
@@ -128,37 +125,19 @@ rest-at-key s v k least most stands = at (rests s v k least most)
         reached (yes e) = sym e
         reached (no ne) = absurd (stands (m .absent (let h = m .reached in omega arith)))
 
--- .. so it builds the key's own path
-path-of-standing : (s : State) → Sound s → (k : ℕ) → 1 ≤ k → k ≤ s .settings .largest → (nodeAt k (s .row) ≡ none → ⊥) →
-    pathOver (s .settings .dimensions) (replicate (s .settings .dimensions) 0) 0 (trail (picture s) k)
-    ≡ pathFor (s .settings .base) (s .settings .dimensions) (s .row) k
-unfolding rest
-path-of-standing s v k least most stands =
-    let b = s .settings .base in
-    let D = s .settings .dimensions in
-    ap (λ path. pathOver D path 0 (trail (picture s) k)) (sym (path-head b D (s .row)))
-    ∙ path-rests v (row-trail s v k least most) atHead (head-placed s)
-    ∙ ap (pathFor b D (s .row)) (rest-at-key s v k least most stands)
-
--- a key that does not stand is no node's
-node-absent : (key : ℕ) (row : List Node) → nodeAt key row ≡ none → All (λ y. y .key ≡ key → ⊥) row
-unfolding nodeAt
-node-absent key [] e = tt
-node-absent key (y ∷ row) e = at (ℕ-discrete (y .key) key) e (node-absent key row)
-  where
-    at : Dec (y .key ≡ key) → cond (eqb (y .key) key) (some y) (nodeAt key row) ≡ none → (nodeAt key row ≡ none → All (λ z. z .key ≡ key → ⊥) row) → All (λ z. z .key ≡ key → ⊥) (y ∷ row)
-    at (yes q) f more = absurd (let g = rw (eq-eqb (y .key) key q) at f in let z : _≡_ {A = ℕ} 0 1 = cc in omega arith)
-    at (no q) f more = (q, more (rw (ne-eqb (y .key) key q) at f))
-
 -- The path of a standing cell other than the head is the one that the walk for its key builds (the head's is `path-head`).
 pub path-of-cell :
     {s : State} (v : Sound s) {x : ℕ} {p : Place} → Placed s x p → 0 < x →
     pathOver (s .settings .dimensions) (replicate (s .settings .dimensions) 0) 0 (trail (picture s) (p .node .key))
     ≡ pathFor (s .settings .base) (s .settings .dimensions) (s .row) (p .node .key)
-path-of-cell {s} v {x} {p} here other =
+unfolding rest
+path-of-cell {s} v {p = p} here other =
+    let b = s .settings .base in
+    let D = s .settings .dimensions in
     let key = p .node .key in
-    let cell : 0 < p .node .cell = rw (placed-cell here) other in
-    let above = placed-node here (λ y. 0 < y .cell → 0 < y .key) (λ h. h) (all-map (λ y h c. h) (s .row) (asc-above 0 (s .row) (v .ascends))) cell in
-    let most = placed-node here (λ y. y .key ≤ s .settings .largest) (omega arith) (v .keys) in
-    path-of-standing s v key (omega arith) (omega arith)
-    (λ e. placed-node here (λ y. y .key ≡ key → ⊥) (λ z. omega arith) (node-absent key (s .row) e) refl)
+    let above = placed-above v here other in
+    let most = placed-most v here in
+    let at = placed-at v here above in
+    ap (λ path. pathOver D path 0 (trail (picture s) key)) (sym (path-head b D (s .row)))
+    ∙ path-rests v (row-trail s v key above most) atHead (head-placed s)
+    ∙ ap (pathFor b D (s .row)) (rest-at-key s v key above most (λ e. let z : _≡_ {A = ℕ} 0 1 = cc in omega arith))

@@ -16,7 +16,7 @@ use Rattle.lists.proofs.Occurrences.{Distinct, distinct-left}
 use Rattle.lists.proofs.All.{All, all-map}
 use Rattle.meaning.specs.Keys.{coordinate, shared}
 use Rattle.meaning.specs.Row.{Node, firstSharing, Place, placesAfter, headPlace, places}
-use Rattle.meaning.specs.State.{State, placesOf}
+use Rattle.meaning.specs.State.{State}
 use Rattle.meaning.specs.Picture.{picture}
 use Rattle.meaning.specs.Operations.{looked}
 use Rattle.meaning.specs.Rule.{rule}
@@ -27,9 +27,10 @@ use Rattle.meaning.specs.declared.Step.the-variants.{Go, Up, End}
 use Rattle.meaning.proofs.Order.{Asc}
 use Rattle.meaning.proofs.Keys.{shared-same, shared-sym, shared-less, triangle, coordinate-below, coordinate-same, coordinate-less}
 use Rattle.meaning.proofs.State.{Sound, base-positive, base-above}
-use Rattle.meaning.proofs.Cells.{cells-distinct, row-range}
-use Rattle.meaning.proofs.Picture.{place-found, picture-dimensions, picture-base}
-use Rattle.meaning.proofs.Placed.{Placed, placed-has, placed-node}
+use Rattle.meaning.proofs.Cells.{cells-distinct}
+use Rattle.meaning.proofs.Picture.{picture-dimensions, picture-base}
+use Rattle.meaning.proofs.Placed.{Own, placed-has, placed-other}
+use Rattle.meaning.proofs.SentencesShape.{places-placed, key-below}
 use Rattle.meaning.proofs.Rule.{met, rule-is-met}
 use Rattle.meaning.proofs.WalkRow.{met-all, met-distinct, NextOf, StopAt, next, RowTrail, rises, moves, wants, reaches, row-trail-ends, row-trail-meets, row-trail-bounded}
 use Rattle.meaning.proofs.WalkRead.{Read, settled-above, places-read, row-key-read}
@@ -153,26 +154,13 @@ module _ (ws : List ℕ) (b D k : ℕ) (is-D : dimensionsAt ws ≡ D) (is-b : ba
 
 -- On a list.
 
-keys-fit : (s : State) → Sound s → All (λ x. x .key < s .settings .base ^ s .settings .dimensions) (s .row)
-keys-fit s v = all-map (λ x h. let above = base-above s v in omega arith) (s .row) (v .keys)
-
-placed-stands : (s : State) → Sound s → {x : ℕ} {p : Place} → Placed s x p → StandingPlace (picture s) (s .settings .base) (s .settings .dimensions) p
-placed-stands s v here =
-    let b = s .settings .base in
-    let D = s .settings .dimensions in
-    let above = base-above s v in
+placed-stands : {s : State} (v : Sound s) {p : Place} → Own s p → StandingPlace (picture s) (s .settings .base) (s .settings .dimensions) p
+placed-stands {s} v here =
     record {
-      read = placed-has here (Read (picture s) b D) (places-read s v);
-      other = placed-node here (λ x. 0 < x .key → 0 < x .cell) (λ h. h) (all-map (λ x c h. c .0) (s .row) (row-range s v));
-      fits = placed-node here (λ x. x .key < b ^ D) (omega arith) (keys-fit s v);
+      read = placed-has here (Read (picture s) (s .settings .base) (s .settings .dimensions)) (places-read s v);
+      other = placed-other v here;
+      fits = key-below v here;
     }
-
--- p is the place of its cell
-abbrev pub Own : State → Place → Type 0
-Own s p = Placed s (p .node .cell) p
-
-pub places-own : (s : State) → Sound s → All (Own s) (placesOf s (s .row))
-places-own s v = all-map (λ p f. record { found = f }) (placesOf s (s .row)) (place-found s v)
 
 keys-of-cells : (ws : List ℕ) (row : List Node) → All (λ x. keyAt ws (x .cell) ≡ x .key) row → map (keyAt ws) (map (λ x. x .cell) row) ≡ map (λ x. x .key) row
 keys-of-cells ws [] a = refl
@@ -187,9 +175,9 @@ module _ (s : State) (v : Sound s) (k : ℕ) (least : 1 ≤ k) (most : k ≤ s .
       let D = s .settings .dimensions in
       let h = v .ranges .dimensions-least in
       let above = base-above s v in
-      let own = places-own s v in
+      let own = places-placed v in
       trail-over-row (picture s) b D k (picture-dimensions s) (picture-base s) (base-positive s v) (omega arith) (omega arith) (Own s)
-      (λ q here. placed-stands s v here) (D * b) (headPlace (s .row)) (own .0) (own .1) (v .ascends)
+      (λ q here. placed-stands v here) (D * b) (headPlace (s .row)) (own .0) (own .1) (v .ascends)
       0 (omega arith) (omega arith) (λ m. omega arith) (omega arith)
 
   pub trail-ends : ends (trail (picture s) k) ≡ true
@@ -213,13 +201,13 @@ module _ (s : State) (v : Sound s) (k : ℕ) (least : 1 ≤ k) (most : k ≤ s .
       let above = base-above s v in
       ap (map (keyAt (picture s))) walk-is-met
       ∙ keys-of-cells (picture s) (met b D k 0 (s .row)) (met-all (λ x. keyAt (picture s) (x .cell) ≡ x .key) b D k 0 (s .row) (row-key-read s v))
-      ∙ sym (rule-is-met b D k (base-positive s v) (omega arith) (omega arith) (s .row) (v .ascends) (keys-fit s v))
+      ∙ sym (rule-is-met b D k (base-positive s v) (omega arith) (omega arith) (s .row) (v .ascends) (all-map (λ x h. omega arith) (s .row) (v .keys)))
 
   pub walk-bounded : length (walk (picture s) k) ≤ s .settings .dimensions * (s .settings .base - 1)
   unfolding walk
   walk-bounded =
       let h = v .ranges .dimensions-least in
-      omega (arith, row-trail-bounded (base-positive s v) (omega arith) (λ q here. placed-stands s v here .fits) row-trail)
+      omega (arith, row-trail-bounded (base-positive s v) (omega arith) (λ q here. key-below v here) row-trail)
 
   -- "The figure is tied to a walk, and the figure is at most D(b-1)."
   pub walk-looked : length (walk (picture s) k) ≡ looked s k

@@ -14,7 +14,8 @@ use Rattle.meaning.specs.declared.Step.{Step}
 use Rattle.meaning.specs.declared.Step.the-variants.{Go, Up, End}
 
 -- the first step, and those that follow
-pub trail-first : (fuel : ℕ) (ws : List ℕ) (k x d : ℕ) {t : Step} → stepAt ws k x d ≡ t → trailFrom (suc fuel) ws k x d ≡ t ∷ onFrom (trailFrom fuel ws k) x d t
+pub trail-first :
+    (fuel : ℕ) (ws : List ℕ) (k x d : ℕ) {t : Step} → stepAt ws k x d ≡ t → trailFrom (suc fuel) ws k x d ≡ t ∷ onFrom (trailFrom fuel ws k) x d t
 unfolding trailFrom
 trail-first fuel ws k x d e = ap (λ t. t ∷ onFrom (trailFrom fuel ws k) x d t) e
 
@@ -29,7 +30,8 @@ on-enough f g x d End e same = refl
 
 -- a trail that has come to its end is the same with more steps allowed
 pub trail-enough :
-    (fuel more : ℕ) (ws : List ℕ) (k x d : ℕ) → ends (trailFrom fuel ws k x d) ≡ true → fuel ≤ more → trailFrom more ws k x d ≡ trailFrom fuel ws k x d
+    (fuel more : ℕ) (ws : List ℕ) (k x d : ℕ) → ends (trailFrom fuel ws k x d) ≡ true → fuel ≤ more →
+    trailFrom more ws k x d ≡ trailFrom fuel ws k x d
 unfolding ends trailFrom
 trail-enough zero more ws k x d e h = absurd (false≢true e)
 trail-enough (suc fuel) zero ws k x d e h = absurd (omega arith)
@@ -49,28 +51,15 @@ trail-step (suc fuel) ws k x d {t} e s =
     ∙ ap (λ l. t ∷ l) (sym (on-enough (trailFrom fuel ws k) (trailFrom (suc fuel) ws k) x d t (sym (ap ends first) ∙ e)
     (λ y c f. trail-enough fuel (suc fuel) ws k y c f (omega arith))))
 
--- What one step tells
+-- What a step from cell x and coordinate d tells: it goes where link d of x leads, and up to below D only.
+abbrev pub Tells : List ℕ → ℕ → ℕ → Step → Type 0
+Tells ws x d (Go y) = y ≡ linkRead ws x d
+Tells ws x d Up = suc d ≡ dimensionsAt ws → ⊥
+Tells ws x d End = Unit {0}
 
-pub step-leads : (ws : List ℕ) (k x d y : ℕ) → stepAt ws k x d ≡ Go y → y ≡ linkRead ws x d
+pub step-tells : (ws : List ℕ) (k x d : ℕ) → Tells ws x d (stepAt ws k x d)
 unfolding stepAt
-step-leads ws k x d y e = at (ltb own sought) (eqb own sought) (eqb (suc d) (dimensionsAt ws)) (eqb (linkRead ws x d) 0) e
-  where
-    own : ℕ
-    own = coordinateAt ws x d
-
-    sought : ℕ
-    sought = coordinate (baseAt ws) (dimensionsAt ws) k d
-
-    at : (below same top none : Bool) → cond below (cond none End (Go (linkRead ws x d))) (cond same (cond top End Up) End) ≡ Go y → y ≡ linkRead ws x d
-    at true same top true f = absurd (let z : _≡_ {A = ℕ} 0 1 = cc in omega arith)
-    at true same top false f = cc
-    at false true true none f = absurd (let z : _≡_ {A = ℕ} 0 1 = cc in omega arith)
-    at false true false none f = absurd (let z : _≡_ {A = ℕ} 0 1 = cc in omega arith)
-    at false false top none f = absurd (let z : _≡_ {A = ℕ} 0 1 = cc in omega arith)
-
-pub step-rises : (ws : List ℕ) (k x d : ℕ) → stepAt ws k x d ≡ Up → suc d ≡ dimensionsAt ws → ⊥
-unfolding stepAt
-step-rises ws k x d e = at (ltb own sought) (eqb own sought) (eqb (suc d) (dimensionsAt ws)) refl (eqb (linkRead ws x d) 0) e
+step-tells ws k x d = at (ltb own sought) (eqb own sought) (eqb (suc d) (dimensionsAt ws)) refl (eqb (linkRead ws x d) 0)
   where
     own : ℕ
     own = coordinateAt ws x d
@@ -79,9 +68,9 @@ step-rises ws k x d e = at (ltb own sought) (eqb own sought) (eqb (suc d) (dimen
     sought = coordinate (baseAt ws) (dimensionsAt ws) k d
 
     at : (below same top : Bool) → eqb (suc d) (dimensionsAt ws) ≡ top → (none : Bool) →
-        cond below (cond none End (Go (linkRead ws x d))) (cond same (cond top End Up) End) ≡ Up → suc d ≡ dimensionsAt ws → ⊥
-    at true same top t true f q = let z : _≡_ {A = ℕ} 0 1 = cc in omega arith
-    at true same top t false f q = let z : _≡_ {A = ℕ} 0 1 = cc in omega arith
-    at false true true t none f q = let z : _≡_ {A = ℕ} 0 1 = cc in omega arith
-    at false true false t none f q = eqb-false (suc d) (dimensionsAt ws) t q
-    at false false top t none f q = let z : _≡_ {A = ℕ} 0 1 = cc in omega arith
+        Tells ws x d (cond below (cond none End (Go (linkRead ws x d))) (cond same (cond top End Up) End))
+    at true same top t true = tt
+    at true same top t false = refl
+    at false true true t none = tt
+    at false true false t none = eqb-false (suc d) (dimensionsAt ws) t
+    at false false top t none = tt

@@ -9,10 +9,9 @@ use Prim.Native.Nat.{ℕ, suc, _+_, _-_, _≤_, _<_, min}
 use native.Mathlib.Decide.{decLe}
 use native.Mathlib.Omega.{arith}
 use lib.ListN.{length}
-use borrow.Author.Tests.{eq-eqb, ne-eqb}
-use Rattle.lists.proofs.All.{All, all-map, all-zip}
+use Rattle.lists.proofs.All.{All, all-map}
 use Rattle.meaning.specs.Keys.{shared}
-use Rattle.meaning.specs.Row.{Node, headNode, firstSharing, Place, placesAfter, places, nodeAt}
+use Rattle.meaning.specs.Row.{Node, firstSharing, Place, nodeAt}
 use Rattle.meaning.specs.State.{State}
 use Rattle.meaning.specs.Picture.{picture}
 use Rattle.meaning.specs.Walk.{trail, goneTo, walk}
@@ -20,11 +19,11 @@ use Rattle.meaning.specs.declared.Rest.{Rest}
 use Rattle.meaning.specs.declared.Step.{Step}
 use Rattle.meaning.specs.declared.Step.the-variants.{Go, Up, End}
 use Rattle.meaning.specs.Layer.Resting.{atHead, restAfter, restOver, rest}
-use Rattle.meaning.proofs.Order.{Asc, asc-above}
 use Rattle.meaning.proofs.State.{Sound}
-use Rattle.meaning.proofs.Placed.{Placed, placed-has, placed-node, head-placed}
+use Rattle.meaning.proofs.Places.{node-past}
+use Rattle.meaning.proofs.Placed.{Placed, Own, placed-at, placed-passed, head-placed}
 use Rattle.meaning.proofs.WalkRow.{RowTrail, rises, moves, wants, reaches}
-use Rattle.meaning.proofs.Walk.{Own, row-trail}
+use Rattle.meaning.proofs.Walk.{row-trail}
 
 -- the cells gone to are those that steps go to
 pub rest-looked : (r : Rest) (steps : List Step) → restOver r steps .looked ≡ r .looked + length (goneTo steps)
@@ -68,52 +67,17 @@ pub record Moved (s : State) (k : ℕ) (r : Rest) : Type 0 where
   pub absent : k < to .node .key → nodeAt k (s .row) ≡ none
   pub coordinate : r .coordinate ≡ min (shared (s .settings .base) (s .settings .dimensions) (to .node .key) k) (s .settings .dimensions - 1)
 
--- Nodes by key.
-
-node-past : (key : ℕ) (x : Node) (row : List Node) → (x .key ≡ key → ⊥) → nodeAt key (x ∷ row) ≡ nodeAt key row
-unfolding nodeAt
-node-past key x row n = rw (ne-eqb (x .key) key n) refl
-
-node-here : (x : Node) (row : List Node) → nodeAt (x .key) (x ∷ row) ≡ some x
-unfolding nodeAt
-node-here x row = rw (eq-eqb (x .key) (x .key) refl) refl
-
+-- Nodes up to k that share more with x than k does are not k's.
 node-none : (key : ℕ) (row : List Node) → All (λ x. x .key ≡ key → ⊥) row → nodeAt key row ≡ none
 unfolding nodeAt
 node-none key [] a = refl
 node-none key (x ∷ row) a = node-past key x row (a .0) ∙ node-none key row (a .1)
 
--- k does not stand among nodes that, up to k, share more with x than k does
 node-between : (b D k x : ℕ) (later : List Node) → All (λ y. y .key ≤ k → shared b D x k < shared b D x (y .key)) later → nodeAt k later ≡ none
 node-between b D k x later a =
     node-none k later (all-map (λ y f q. let more = f (omega arith) in let same = ap (λ z. shared b D x z) q in omega arith) later a)
 
--- each node of an ascending row is found by its key
-pub node-found : (key : ℕ) (row : List Node) → Asc key row → All (λ x. nodeAt (x .key) row ≡ some x) row
-node-found key [] asc = tt
-node-found key (x ∷ row) asc = (
-  node-here x row,
-  all-zip (λ y l e. node-past (y .key) x row (λ q. omega arith) ∙ e) row (asc-above (x .key) row (asc .1)) (node-found (x .key) row (asc .1)),
-)
-
--- what stands at k stands after each place below k
-nodes-passed : (b D k : ℕ) (all : List Node) (a : Node) (e : ℕ) (row : List Node) → (a .key < k → nodeAt k all ≡ nodeAt k row) → Asc (a .key) row →
-    All (λ p. p .node .key < k → nodeAt k all ≡ nodeAt k (p .later)) (placesAfter b D a e row)
-unfolding placesAfter
-nodes-passed b D k all a e [] f asc = tt
-nodes-passed b D k all a e (x ∷ row) f asc =
-    let l = asc .0 in
-    let g : x .key < k → nodeAt k all ≡ nodeAt k row = (λ h. f (omega arith) ∙ node-past k x row (λ q. omega arith)) in
-    (g, nodes-passed b D k all x (shared b D (a .key) (x .key)) row g (asc .1))
-
 module _ {s : State} (v : Sound s) {k : ℕ} where
-  -- what stands at k stands after a place below k
-  placed-passed : {x : ℕ} {p : Place} → Placed s x p → p .node .key < k → nodeAt k (s .row) ≡ nodeAt k (p .later)
-  unfolding places
-  placed-passed here =
-      placed-has here (λ q. q .node .key < k → nodeAt k (s .row) ≡ nodeAt k (q .later))
-      ((λ h. refl), nodes-passed (s .settings .base) (s .settings .dimensions) k (s .row) headNode 0 (s .row) (λ h. refl) (v .ascends))
-
   -- at k or above it the walk rests at the cell itself
   rest-reached : {p : Place} {d : ℕ} {steps : List Step} → RowTrail (s .settings .base) (s .settings .dimensions) k (Own s) p d steps →
       k ≤ p .node .key → (r : Rest) → r .coordinate ≡ d →
@@ -163,16 +127,11 @@ module _ {s : State} (v : Sound s) {k : ℕ} where
             to = y;
             to-placed = to .holds;
             reached = m;
-            present = λ q. ap (λ z. nodeAt z (s .row)) (sym q) ∙ stands;
-            absent = λ over. placed-passed here h ∙ node-between b D k (p .node .key) (p .later) (all-map (λ z f g. f (omega arith)) (p .later) (to .passed));
+            present = λ q. ap (λ z. nodeAt z (s .row)) (sym q) ∙ placed-at v (to .holds) (let above = to .above in omega arith);
+            absent = λ over.
+                placed-passed v here k h ∙ node-between b D k (p .node .key) (p .later) (all-map (λ z f g. f (omega arith)) (p .later) (to .passed));
             coordinate = refl;
           }))
-        where
-          stands : nodeAt (y .node .key) (s .row) ≡ some (y .node)
-          stands =
-              let above = to .above in
-              placed-node (to .holds) (λ x. 0 < x .key → nodeAt (x .key) (s .row) ≡ some x) (λ z. absurd (omega arith))
-              (all-map (λ x f z. f) (s .row) (node-found 0 (s .row) (v .ascends))) (omega arith)
   rests-from {p} (wants h up e stop) l r here c =
       let b = s .settings .base in
       let D = s .settings .dimensions in
@@ -183,7 +142,7 @@ module _ {s : State} (v : Sound s) {k : ℕ} where
         hangs = record { below = h; dimension = omega arith; between = all-map (λ y f g. f (omega arith)) (p .later) (stop .passed) };
         coordinate = c ∙ e;
         leads = ap (λ n. firstSharing b D (p .node .key) n (p .later)) (c ∙ e) ∙ stop .leads;
-        absent = placed-passed here h ∙ node-between b D k (p .node .key) (p .later) (stop .passed);
+        absent = placed-passed v here k h ∙ node-between b D k (p .node .key) (p .later) (stop .passed);
       })
   rests-from (reaches l e) h r here c = absurd (omega arith)
 

@@ -4,12 +4,11 @@
 use mathlib.Core.Path.{_≡_, refl, sym, ap, _∙_, subst}
 use mathlib.Core.Bool.{true}
 use mathlib.Core.List.{List, _∷_, map}
-use Prim.Native.Nat.{ℕ, _≤_, _<_}
+use Prim.Native.Nat.{ℕ, _<_}
 use native.Mathlib.Omega.{arith}
 use lib.ListN.{getD, replicate}
 use Rattle.settings.specs.declared.Settings.{Settings}
 use Rattle.lists.specs.Lists.{occurrences}
-use Rattle.lists.proofs.All.{all-map}
 use Rattle.meaning.specs.Row.{headNode, Place}
 use Rattle.meaning.specs.State.{State, keyOf}
 use Rattle.meaning.specs.Picture.{path, picture}
@@ -19,13 +18,12 @@ use Rattle.meaning.specs.Walk.{trail, ends}
 use Rattle.meaning.specs.Layer.Paths.{pathFor, pathOver}
 use Rattle.meaning.specs.Layer.Stores.{writePath}
 use Rattle.meaning.specs.Layer.Listed.{Listed}
-use Rattle.meaning.proofs.Order.{asc-above}
 use Rattle.meaning.proofs.State.{Sound, valid-sound, sound-valid, base-positive}
 use Rattle.meaning.proofs.Picture.{path-length, picture-dimensions}
 use Rattle.meaning.proofs.Walk.{trail-ends}
 use Rattle.meaning.proofs.Stores.{path-sets-header}
 use Rattle.meaning.proofs.Changed.{path-rewritten}
-use Rattle.meaning.proofs.Placed.{Placed, placed-node, placed-cell, placed-keyOf, placed-below, place-key, occurs-placed}
+use Rattle.meaning.proofs.Placed.{Placed, placed-keyOf, placed-below, placed-most, placed-above, place-key, occurs-placed}
 use Rattle.meaning.proofs.CellsWithin.{owed-within, linkRead-within}
 use Rattle.meaning.proofs.Path.{path-is, path-head}
 use Rattle.meaning.proofs.PathWalk.{path-of-cell}
@@ -89,10 +87,7 @@ module _ {ws : List ℕ} {s : Settings} {x : ℕ} {t : State} (h : StandsIn ws s
     stands-ends =
         let v = stands-sound in
         let here = stands-placed .1 in
-        let own = placed-cell here in
-        let above = placed-node here (λ y. 0 < y .cell → 0 < y .key) (λ l. l) (all-map (λ y l c. l) (t .row) (asc-above 0 (t .row) (v .ascends))) (omega arith) in
-        let most = placed-node here (λ y. y .key ≤ t .settings .largest) (omega arith) (v .keys) in
-        rw (alike-trail stands-alike k) (trail-ends t v k (omega (arith, key-is)) (omega (arith, key-is)))
+        rw (alike-trail stands-alike k, key-is) (trail-ends t v (stands-placed .0 .node .key) (placed-above v here (omega arith)) (placed-most v here))
 
     -- .. and builds its path
     stands-path :

@@ -10,7 +10,6 @@ use native.Mathlib.Omega.{arith}
 use lib.Dec.{eqb}
 use borrow.Author.Tests.{eq-eqb, ne-eqb}
 use Rattle.settings.specs.declared.Settings.{Settings}
-use Rattle.lists.proofs.All.{all-map}
 use Rattle.meaning.specs.Keys.{shared}
 use Rattle.meaning.specs.Row.{Node, headNode, firstOf, firstSharing, Place, places, placeOf, nodeAt}
 use Rattle.meaning.specs.State.{State}
@@ -24,7 +23,6 @@ use Rattle.meaning.specs.Layer.Listed.{Listed}
 use Rattle.meaning.proofs.Order.{Asc}
 use Rattle.meaning.proofs.Keys.{shared-sym, shared-less}
 use Rattle.meaning.proofs.State.{Sound, base-positive}
-use Rattle.meaning.proofs.Cells.{row-range}
 use Rattle.meaning.proofs.Places.{asc-left, lastFrom, dimensionFrom}
 use Rattle.meaning.proofs.Parent.{dimensionAfter, Apart, asc-last, apart-left, apart-before, place-at}
 use Rattle.meaning.proofs.Slot as slot
@@ -32,7 +30,7 @@ use Rattle.meaning.proofs.KeepsInsert.{node-split, slot-first}
 use Rattle.meaning.proofs.WalkRead.{settled-above}
 use Rattle.meaning.proofs.Walk.{walk-looked}
 use Rattle.meaning.proofs.WalkStop.{rest-walk, Hangs, Wanting, Moved, rests}
-use Rattle.meaning.proofs.Placed.{Placed, placed-node, placed-cell, placed-below, place-key}
+use Rattle.meaning.proofs.Placed.{Placed, placed-cell, placed-below, placed-other, place-key}
 use Rattle.search.specs.Found.{slotNumber, slotParent, slotShared, slotCell, foundAt, foundOf}
 use Rattle.search.specs.declared.Found.{Found}
 use Rattle.words.proofs.Listed.{on-listed}
@@ -137,11 +135,10 @@ module _ (s : State) (v : Sound s) (k : ℕ) (least : 1 ≤ k) (most : k ≤ s .
       let t = hangs-parent v least (m .placed) (m .hangs) sides in
       let is = slot-at s v k least sides in
       let held : slotCell s k ≡ r .at = slot-leads v least (m .placed) (m .hangs) absent ∙ rw (m .number) at (m .leads) in
-      let own = placed-cell (m .to-placed) in
-      let other = placed-node (m .to-placed) (λ y. 0 < y .key → 0 < y .cell) (λ h. h) (all-map (λ y h n. h .0) (s .row) (row-range s v)) (omega arith) in
+      let other = placed-other v (m .to-placed) (omega arith) in
       let next : firstOf (g .post) .key ≡ m .to .node .key =
       next-is b D k (dimensionAfter b D headNode (g .pre) k) (g .pre) (g .post)
-      (subst (λ r. Apart (headNode ∷ r)) (g .splits) (slot.sound-apart s v)) (omega arith) (sym (is .cell) ∙ held)
+      (subst (λ r. Apart (headNode ∷ r)) (g .splits) (slot.sound-apart s v)) other (sym (is .cell) ∙ held)
       (subst (λ row. placeOf (r .at) (places b D row) ≡ some (m .to)) (g .splits) (m .to-placed .found)) in
       let some-c : slotCell s k ≡ 0 → ⊥ = (λ e. omega arith) in
       let less = shared-less b D (m .to .node .key) k (slot.dimensions-positive s v) (omega arith) in

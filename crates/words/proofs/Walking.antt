@@ -1,6 +1,6 @@
 -- A walk under way on words with the shape of a list, whose links lead to cells of the list: a step of the code keeps it, and leaves a
 -- trail that is one step shorter.
-use mathlib.Core.Path.{_≡_, sym, ap, _∙_}
+use mathlib.Core.Path.{_≡_, sym, ap, _∙_, subst}
 use mathlib.Core.Bool.{true}
 use mathlib.Core.List.{List, _∷_}
 use Prim.Native.Nat.{ℕ, _+_, _*_, _<_}
@@ -12,7 +12,7 @@ use Rattle.meaning.specs.Words.{dimensionsAt, baseAt}
 use Rattle.meaning.specs.Walk.{linkRead, stepAt, onFrom, trailFrom, trail, ends}
 use Rattle.meaning.specs.declared.Step.{Step}
 use Rattle.meaning.specs.declared.Step.the-variants.{Go, Up}
-use Rattle.meaning.proofs.WalkSteps.{trail-step, step-leads, step-rises}
+use Rattle.meaning.proofs.WalkSteps.{trail-step, Tells, step-tells}
 use Rattle.words.specs.Shaped.{Shaped}
 use Rattle.words.proofs.Shaped.{shaped-dimensions}
 
@@ -35,19 +35,22 @@ module _ {ws : List ℕ} {s : Settings} {k x d : ℕ} (w : Walking ws s k x d) {
   pub walked : {t : Step} → r ≡ t → trailAt ws k x d ≡ t ∷ onFrom (trailAt ws k) x d t
   walked e = trail-step (dimensionsAt ws * baseAt ws) ws k x d (w .ended) (sym is ∙ e)
 
+  tells : {t : Step} → r ≡ t → Tells ws x d t
+  tells e = subst (Tells ws x d) (sym is ∙ e) (step-tells ws k x d)
+
   pub walking-go : ((x d : ℕ) → x < s .cells → d < s .dimensions → linkRead ws x d < s .cells) → {y : ℕ} → r ≡ Go y → Walking ws s k y d
   unfolding ends
-  walking-go links {y} e =
+  walking-go links e =
       record {
         ended = sym (ap ends (walked e)) ∙ w .ended;
-        cell = omega (arith, step-leads ws k x d y (sym is ∙ e), links x d (w .cell) (w .inside));
+        cell = omega (arith, tells e, links x d (w .cell) (w .inside));
         inside = w .inside;
       }
 
   pub walking-up : Shaped ws s → r ≡ Up → Walking ws s k x (d + 1)
   unfolding ends
   walking-up h e =
-      let more = step-rises ws k x d (sym is ∙ e) in
+      let more = tells e in
       rw (add-one d)
       (record { ended = sym (ap ends (walked e)) ∙ w .ended; cell = w .cell; inside = omega (arith, w .inside, shaped-dimensions h) })
 
