@@ -61,7 +61,8 @@ node-found key (x ∷ row) asc = (
 )
 
 -- what stands at k stands after each place below k
-pub nodes-passed : (b D k : ℕ) (all : List Node) (a : Node) (e : ℕ) (row : List Node) → (a .key < k → nodeAt k all ≡ nodeAt k row) → Asc (a .key) row →
+pub nodes-passed :
+    (b D k : ℕ) (all : List Node) (a : Node) (e : ℕ) (row : List Node) → (a .key < k → nodeAt k all ≡ nodeAt k row) → Asc (a .key) row →
     All (λ p. p .node .key < k → nodeAt k all ≡ nodeAt k (p .later)) (placesAfter b D a e row)
 unfolding placesAfter
 nodes-passed b D k all a e [] f asc = tt

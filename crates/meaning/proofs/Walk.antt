@@ -90,7 +90,8 @@ module _ (ws : List ℕ) (b D k : ℕ) (is-D : dimensionsAt ws ≡ D) (is-b : ba
   place-top p r d h e =
       let own = coordinate b D (p .node .key) d in
       let same = coordinate-same b D (p .node .key) k d h in
-      place-step p r d (omega arith) ∙ rw (le-ltb own (coordinate b D k d) (omega arith), eq-eqb own (coordinate b D k d) same, eq-eqb (suc d) D e) refl
+      place-step p r d (omega arith)
+      ∙ rw (le-ltb own (coordinate b D k d) (omega arith), eq-eqb own (coordinate b D k d) same, eq-eqb (suc d) D e) refl
 
   -- .. where they first differ, the end if the cell is above k, ..
   place-over : (p : Place) → R p → k ≤ p .node .key → (d : ℕ) → d < D → d ≡ shared b D (p .node .key) k → stepAt ws k (p .node .cell) d ≡ End
@@ -126,12 +127,14 @@ module _ (ws : List ℕ) (b D k : ℕ) (is-D : dimensionsAt ws ≡ D) (is-b : ba
       x : ℕ
       x = p .node .cell
 
-      first : {t : Step} → stepAt ws k x d ≡ t → RowTrail b D k R p d (t ∷ onFrom (trailFrom fuel ws k) x d t) → RowTrail b D k R p d (trailFrom (suc fuel) ws k x d)
+      Whole : Type 0
+      Whole = RowTrail b D k R p d (trailFrom (suc fuel) ws k x d)
+
+      first : {t : Step} → stepAt ws k x d ≡ t → RowTrail b D k R p d (t ∷ onFrom (trailFrom fuel ws k) x d t) → Whole
       first e t = subst (RowTrail b D k R p d) (sym (trail-first fuel ws k x d e)) t
 
       -- along the link, if there is one
-      along : Trails fuel → p .node .key < k → d ≡ shared b D (p .node .key) k → StopAt b D k p ⊎ NextOf b D k R p →
-          RowTrail b D k R p d (trailFrom (suc fuel) ws k x d)
+      along : Trails fuel → p .node .key < k → d ≡ shared b D (p .node .key) k → StopAt b D k p ⊎ NextOf b D k R p → Whole
       along further h e (inl stop) = first (place-along p r h d l (up h) e ∙ ap stepAlong (stop .leads)) (wants h (up h) e stop)
       along further h e (inr to) =
           let y = to .to in
@@ -140,13 +143,15 @@ module _ (ws : List ℕ) (b D k : ℕ) (is-D : dimensionsAt ws ≡ D) (is-b : ba
           let dim = to .dimension in
           first (place-along p r h d l (up h) e ∙ ap stepAlong (to .leads) ∙ along-go (y .node .cell) (at .other (omega arith)))
           (moves h (up h) e to
-          (further y (to .holds) (to .after) (to .ascends) d l (move-shares b D k (p .node .key) (y .node .key) d pos e (to .shares)) (λ m. omega arith)
+          (further y (to .holds) (to .after) (to .ascends) d l
+          (move-shares b D k (p .node .key) (y .node .key) d pos e (to .shares)) (λ m. omega arith)
           (move-room b D k fuel (p .node .key) (y .node .key) d pos above (at .fits) e (to .shares) room)))
 
-      go : Dec (shared b D (p .node .key) k ≤ d) → Dec (k ≤ p .node .key) → Dec (suc d ≡ D) → Trails fuel → RowTrail b D k R p d (trailFrom (suc fuel) ws k x d)
+      go : Dec (shared b D (p .node .key) k ≤ d) → Dec (k ≤ p .node .key) → Dec (suc d ≡ D) → Trails fuel → Whole
       go (no m) h (no n) further =
           first (place-up p r d (omega arith) (omega arith))
-          (rises (further p r after asc (suc d) (omega arith) (omega arith) (λ h. let low = up h in omega arith) (room-up b D fuel (p .node .key) d pos room)))
+          (rises
+          (further p r after asc (suc d) (omega arith) (omega arith) (λ h. let low = up h in omega arith) (room-up b D fuel (p .node .key) d pos room)))
       go (no m) (yes h) (yes e) further = first (place-top p r d (omega arith) e) (reaches h (omega arith))
       go (no m) (no h) (yes e) further = absurd (let less = shared-less b D (p .node .key) k some (omega arith) in omega arith)
       go (yes m) (yes h) top further = first (place-over p r h d l (omega arith)) (reaches h (omega arith))
@@ -201,7 +206,8 @@ module _ (s : State) (v : Sound s) (k : ℕ) (least : 1 ≤ k) (most : k ≤ s .
       let above = base-above s v in
       ap (map (keyAt (picture s))) walk-is-met
       ∙ keys-of-cells (picture s) (met b D k 0 (s .row)) (met-all (λ x. keyAt (picture s) (x .cell) ≡ x .key) b D k 0 (s .row) (row-key-read s v))
-      ∙ sym (rule-is-met b D k (base-positive s v) (omega arith) (omega arith) (s .row) (v .ascends) (all-map (λ x h. omega arith) (s .row) (v .keys)))
+      ∙ sym
+      (rule-is-met b D k (base-positive s v) (omega arith) (omega arith) (s .row) (v .ascends) (all-map (λ x h. omega arith) (s .row) (v .keys)))
 
   pub walk-bounded : length (walk (picture s) k) ≤ s .settings .dimensions * (s .settings .base - 1)
   unfolding walk

@@ -94,7 +94,8 @@ module _ (b D k : ℕ) (pos : 0 < b) (some : 0 < D) where
   next-from R [] x a e h l near asc all = inl (record { leads = refl; gone = refl; passed = tt })
   next-from R (y ∷ later) x a e h l near asc all =
       let m = asc .0 in
-      go (ℕ-discrete s₀ s) (decLe s₀ s) (decLe k (y .key)) (meets-as x (a .key) (y .key) h l m near) (next-from R later x y (shared b D (a .key) (y .key)))
+      go (ℕ-discrete s₀ s) (decLe s₀ s) (decLe k (y .key)) (meets-as x (a .key) (y .key) h l m near)
+      (next-from R later x y (shared b D (a .key) (y .key)))
     where
       -- what x shares with k, and with y
       s : ℕ
@@ -159,8 +160,8 @@ module _ (b D k : ℕ) (pos : 0 < b) (some : 0 < D) where
               })
 
   -- from a place below k
-  pub next : (R : Place → Type 0) (p : Place) → p .node .key < k → Asc (p .node .key) (p .later) → All R (placesAfter b D (p .node) (p .dimension) (p .later)) →
-      StopAt b D k p ⊎ NextOf b D k R p
+  pub next : (R : Place → Type 0) (p : Place) → p .node .key < k → Asc (p .node .key) (p .later) →
+      All R (placesAfter b D (p .node) (p .dimension) (p .later)) → StopAt b D k p ⊎ NextOf b D k R p
   next R p h asc all =
       let less = shared-less b D (p .node .key) k some (omega arith) in
       let same = shared-same b D (p .node .key) in
@@ -174,7 +175,9 @@ pub data RowTrail (b D k : ℕ) (R : Place → Type 0) : Place → ℕ → List 
   moves :
       {p : Place} {d : ℕ} {steps : List Step} → p .node .key < k → p .dimension ≤ d → d ≡ shared b D (p .node .key) k →
       (to : NextOf b D k R p) → RowTrail b D k R (to .to) d steps → RowTrail b D k R p d (Go (to .to .node .cell) ∷ steps)
-  wants : {p : Place} {d : ℕ} → p .node .key < k → p .dimension ≤ d → d ≡ shared b D (p .node .key) k → StopAt b D k p → RowTrail b D k R p d (End ∷ [])
+  wants :
+      {p : Place} {d : ℕ} → p .node .key < k → p .dimension ≤ d → d ≡ shared b D (p .node .key) k → StopAt b D k p →
+      RowTrail b D k R p d (End ∷ [])
   reaches : {p : Place} {d : ℕ} → k ≤ p .node .key → d ≡ min (shared b D (p .node .key) k) (D - 1) → RowTrail b D k R p d (End ∷ [])
 
 last-bounded : (b D key d : ℕ) → 0 < b → d < D → d * (b - 1) + coordinate b D key d ≤ D * (b - 1)

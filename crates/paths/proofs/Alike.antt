@@ -115,7 +115,8 @@ module _ {ws vs : List ℕ} (a : Alike ws vs) where
   alike-trail-from (suc fuel) k x d =
       ap (λ t. t ∷ onFrom (trailFrom fuel ws k) x d t) (alike-step k x d) ∙ go (stepAt vs k x d) (alike-trail-from fuel k)
     where
-      go : (t : Step) → ((y e : ℕ) → trailFrom fuel ws k y e ≡ trailFrom fuel vs k y e) → t ∷ onFrom (trailFrom fuel ws k) x d t ≡ t ∷ onFrom (trailFrom fuel vs k) x d t
+      go : (t : Step) → ((y e : ℕ) → trailFrom fuel ws k y e ≡ trailFrom fuel vs k y e) →
+          t ∷ onFrom (trailFrom fuel ws k) x d t ≡ t ∷ onFrom (trailFrom fuel vs k) x d t
       go (Go y) further = ap (λ l. Go y ∷ l) (further y d)
       go Up further = ap (λ l. Up ∷ l) (further x (suc d))
       go End further = refl

@@ -87,17 +87,20 @@ module _ {ws : List ℕ} {s : Settings} {x : ℕ} {t : State} (h : StandsIn ws s
     stands-ends =
         let v = stands-sound in
         let here = stands-placed .1 in
-        rw (alike-trail stands-alike k, key-is) (trail-ends t v (stands-placed .0 .node .key) (placed-above v here (omega arith)) (placed-most v here))
+        rw (alike-trail stands-alike k, key-is)
+        (trail-ends t v (stands-placed .0 .node .key) (placed-above v here (omega arith)) (placed-most v here))
 
     -- .. and builds its path
     stands-path :
-        pathOver (s .dimensions) (replicate (s .dimensions) 0) 0 (trail ws k) ≡ pathFor (s .base) (s .dimensions) (t .row) (keyOf x (headNode ∷ t .row))
+        pathOver (s .dimensions) (replicate (s .dimensions) 0) 0 (trail ws k)
+        ≡ pathFor (s .base) (s .dimensions) (t .row) (keyOf x (headNode ∷ t .row))
     stands-path =
         let here = stands-placed .1 in
         let key = stands-placed .0 .node .key in
         rw (alike-trail stands-alike k, key-is, placed-keyOf here)
-        (subst (λ u. pathOver (u .dimensions) (replicate (u .dimensions) 0) 0 (trail (picture t) key) ≡ pathFor (u .base) (u .dimensions) (t .row) key) (h .settings)
-        (path-of-cell stands-sound here (omega arith)))
+        (subst
+        (λ u. pathOver (u .dimensions) (replicate (u .dimensions) 0) 0 (trail (picture t) key) ≡ pathFor (u .base) (u .dimensions) (t .row) key)
+        (h .settings) (path-of-cell stands-sound here (omega arith)))
 
 -- what `path_of` answers for the head, and for another cell
 

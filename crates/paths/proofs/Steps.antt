@@ -24,12 +24,17 @@ module _ {ws : List ℕ} {s : Settings} (h : Walkable ws s) {k : ℕ} {p : Path}
   pub building-start : ends (trail ws k) ≡ true → pathOf p ≡ replicate (s .dimensions) 0 → Formed (s .dimensions) p → Building ws s k p 0 0
   unfolding trail
   building-start e is f =
-      record { walking = walking-start (h .shaped) (h .head) e; built = ap (λ path. pathOver (s .dimensions) path 0 (trail ws k)) (sym is); formed = f }
+      record {
+        walking = walking-start (h .shaped) (h .head) e;
+        built = ap (λ path. pathOver (s .dimensions) path 0 (trail ws k)) (sym is);
+        formed = f;
+      }
 
   module _ {x d : ℕ} (w : Building ws s k p x d) {r : Step} (is : r ≡ stepAt ws k x d) where
     -- a step, in what the trail makes of the path
     built-step : {t : Step} → r ≡ t →
-        pathOver (s .dimensions) (replicate (s .dimensions) 0) 0 (trail ws k) ≡ pathOver (s .dimensions) (pathOf p) d (t ∷ onFrom (trailAt ws k) x d t)
+        pathOver (s .dimensions) (replicate (s .dimensions) 0) 0 (trail ws k)
+        ≡ pathOver (s .dimensions) (pathOf p) d (t ∷ onFrom (trailAt ws k) x d t)
     built-step e = w .built ∙ ap (pathOver (s .dimensions) (pathOf p) d) (walked (w .walking) is e)
 
     pub building-go : {y : ℕ} {q : Path} → r ≡ Go y → pathOf q ≡ onward (p .used) (pathOf p) d y → Formed (p .used) q → Building ws s k q y d

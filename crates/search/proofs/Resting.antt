@@ -75,7 +75,8 @@ next-is b D k d pre (x ∷ post) {c} {to} o nz e found =
     let same : to ≡ record { node = x; dimension = dimensionAfter b D headNode pre (x .key); before = lastFrom headNode pre; beforeDimension = dimensionFrom b D headNode 0 pre; later = post } = cc in
     ap (λ p. p .node .key) (sym same)
 
-module _ {s : State} (v : Sound s) {k : ℕ} (least : 1 ≤ k) {x : ℕ} {p : Place} (here : Placed s x p) (h : Hangs (s .settings .base) (s .settings .dimensions) k p) where
+module _ {s : State} (v : Sound s) {k : ℕ} (least : 1 ≤ k) {x : ℕ} {p : Place} (here : Placed s x p)
+    (h : Hangs (s .settings .base) (s .settings .dimensions) k p) where
   -- parent and number of a slot, where k would hang from place p
   hangs-parent : {pre middle post : List Node} → Sides k (s .row) pre middle post →
       (x ≡ slotParent s k) × (shared (s .settings .base) (s .settings .dimensions) (p .node .key) k ≡ slotNumber s k)
@@ -173,4 +174,6 @@ pub answers :
     {ws : List ℕ} {s : Settings} → Listed ws s → (k : ℕ) → 1 ≤ k → k ≤ s .largest → {r : Rest} → r ≡ rest ws k → {key : ℕ} → key ≡ keyAt ws (r .at) →
     Answers (read ws) s k key r
 answers h k least most {r} is e =
-    rw e (on-listed (λ t ws u. k ≤ u .largest → r ≡ rest ws k → Answers t u k (keyAt ws (r .at)) r) (λ t v m q. rest-answers t v k least m r q) h most is)
+    rw e
+    (on-listed (λ t ws u. k ≤ u .largest → r ≡ rest ws k → Answers t u k (keyAt ws (r .at)) r) (λ t v m q. rest-answers t v k least m r q)
+    h most is)

@@ -38,7 +38,8 @@ module _ {ws : List ℕ} {s : Settings} (h : Listed ws s) {k : ℕ} {r : Rest} (
   looked-fits least most =
       let bound : length (walk ws k) ≤ s .dimensions * (s .base - 1) =
       on-listed (λ t l u. k ≤ u .largest → length (walk l k) ≤ u .dimensions * (u .base - 1)) (λ t v m. walk-bounded t v k least m) h most in
-      let base : s .base ≤ 65536 = on-listed (λ t l u. u .base ≤ 65536) (λ t v. base-at-most (v .ranges .dimensions-least) (v .ranges .largest-most) (base-of t v)) h in
+      let base : s .base ≤ 65536 =
+      on-listed (λ t l u. u .base ≤ 65536) (λ t v. base-at-most (v .ranges .dimensions-least) (v .ranges .largest-most) (base-of t v)) h in
       let low : s .base - 1 ≤ 65535 = omega arith in
       let product : s .dimensions * (s .base - 1) ≤ 16 * 65535 = mul-le-mul (listed-shaped h .dimensions-most) low in
       omega (arith, ap (λ t. t .looked) (w .rested), rest-walk ws k, rest-looked r (trailAt ws k (r .at) (r .coordinate)))
@@ -48,7 +49,8 @@ module _ {ws : List ℕ} {s : Settings} (h : Listed ws s) {k : ℕ} {r : Rest} (
         Searching ws s k (record { from = r .at; number = r .coordinate; at = y; coordinate = r .coordinate; looked = r .looked + 1 })
     unfolding restOver
     searching-go e =
-        rw (add-one (r .looked)) (record { walking = walking-go (w .walking) is (listed-link h) e; rested = w .rested ∙ ap (restOver r) (walked (w .walking) is e) })
+        rw (add-one (r .looked))
+        (record { walking = walking-go (w .walking) is (listed-link h) e; rested = w .rested ∙ ap (restOver r) (walked (w .walking) is e) })
 
     pub searching-up : t ≡ Up →
         Searching ws s k (record { from = r .from; number = r .number; at = r .at; coordinate = r .coordinate + 1; looked = r .looked })
