@@ -16,8 +16,6 @@ use Rattle.meaning.specs.Words.{wordAt, owedAt, lowAt, highAt, linkAt, dimensio
 use Rattle.meaning.specs.Walk.{linkRead, stepAt, onFrom, trailFrom, trail}
 use Rattle.meaning.specs.Layer.Paths.{NextCell, nextFrom}
 use Rattle.meaning.specs.Layer.Stores.{store, writePath}
-use Rattle.meaning.specs.declared.Step.{Step}
-use Rattle.meaning.specs.declared.Step.the-variants.{Go, Up, End}
 use Rattle.meaning.proofs.Stores.{store-other, store-below, path-sets-header, path-sets-word}
 use Rattle.words.specs.Shaped.{Shaped}
 use Rattle.words.proofs.Shaped.{shaped-dimensions, store-shaped}
@@ -112,14 +110,7 @@ module _ {ws vs : List ℕ} (a : Alike ws vs) where
   alike-trail-from : (fuel k x d : ℕ) → trailFrom fuel ws k x d ≡ trailFrom fuel vs k x d
   unfolding trailFrom
   alike-trail-from zero k x d = refl
-  alike-trail-from (suc fuel) k x d =
-      ap (λ t. t ∷ onFrom (trailFrom fuel ws k) x d t) (alike-step k x d) ∙ go (stepAt vs k x d) (alike-trail-from fuel k)
-    where
-      go : (t : Step) → ((y e : ℕ) → trailFrom fuel ws k y e ≡ trailFrom fuel vs k y e) →
-          t ∷ onFrom (trailFrom fuel ws k) x d t ≡ t ∷ onFrom (trailFrom fuel vs k) x d t
-      go (Go y) further = ap (λ l. Go y ∷ l) (further y d)
-      go Up further = ap (λ l. Up ∷ l) (further x (suc d))
-      go End further = refl
+  alike-trail-from (suc fuel) k x d = λ i. alike-step k x d i ∷ onFrom (λ y e. alike-trail-from fuel k y e i) x d (alike-step k x d i)
 
   pub alike-trail : (k : ℕ) → trail ws k ≡ trail vs k
   unfolding trail
