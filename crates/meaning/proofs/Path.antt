@@ -13,14 +13,14 @@ use lib.ListN.{length, getD, take, replicate, length-append, length-replicate, g
 use lib.Seq.{getD-append-add, getD-take, length-take-le, ext-getD}
 use borrow.Author.Tests.{lt-ltb, le-ltb}
 use Rattle.lists.proofs.Numbers.{made-at, made-length}
-use Rattle.lists.proofs.All.{All, all-map}
+use Rattle.lists.proofs.All.{All, all-map, all-each}
 use Rattle.meaning.specs.Keys.{shared}
 use Rattle.meaning.specs.Row.{Node, headNode, firstSharing, Place, places, settledLink, placeOf}
 use Rattle.meaning.specs.State.{State, positionKey}
 use Rattle.meaning.specs.Picture.{firstWith, path}
 use Rattle.meaning.specs.Layer.Paths.{pathFor, onward}
 use Rattle.meaning.proofs.Order.{Asc}
-use Rattle.meaning.proofs.Keys.{shared-same, shared-le, shared-less, ultra}
+use Rattle.meaning.proofs.Keys.{shared-same, shared-sym, shared-le, shared-less, ultra, triangle}
 use Rattle.meaning.proofs.Places.{asc-left, lastFrom, dimensionFrom}
 use Rattle.meaning.proofs.Parent.{dimensionAfter, Apart, ParentPlace, asc-last, last-least, last-greatest, sharing-skips, sharing-hits, sharing-none, first-hits, first-skips, first-front, near, first-place, last-first, sharing-above}
 use Rattle.meaning.proofs.WalkRead.{settled-above}
@@ -86,6 +86,12 @@ module _ (b D : ℕ) where
       at (yes h) more = let e = a .0 in first-skips b D k n z row h ∙ more ∙ sym (first-skips b D l n z row (omega arith))
       at (no h) more = let e = a .0 in first-hits b D k n z row (omega arith) ∙ sym (first-hits b D l n z row (omega arith))
 
+-- so below what two keys share, their paths have the same words
+pub path-same : (b D : ℕ) → 0 < b → (x y i : ℕ) (row : List Node) → i < shared b D x y → firstWith b D y (suc i) row ≡ firstWith b D x (suc i) row
+path-same b D pos x y i row h =
+    first-alike b D y x (suc i) row
+    (all-each (λ z. omega (arith, triangle b D (z .key) x y pos, triangle b D (z .key) y x pos, shared-sym b D x y)) row)
+
 -- what holds of 0 and of the cell of each node holds of the first that shares enough
 pub first-holds : (P : ℕ → Type 0) (b D key n : ℕ) (row : List Node) → P 0 → All (λ z. P (z .cell)) row → P (firstWith b D key n row)
 unfolding firstWith
@@ -118,16 +124,6 @@ module _ (b D : ℕ) (pos : 0 < b) (pre : List Node) (asc : Asc 0 pre) where
       (key : ℕ) → lastFrom headNode pre .key ≤ key →
       All (λ z. shared b D (z .key) key ≡ min (shared b D (z .key) (lastFrom headNode pre .key)) (shared b D (lastFrom headNode pre .key) key)) (headNode ∷ pre)
   up-to-shares key h = all-map (λ z l. ultra b D (z .key) (lastFrom headNode pre .key) key pos l h) (headNode ∷ pre) up-to-last
-
-  -- below what that one and the key share, their paths have the same words
-  pub path-same :
-      (later : List Node) (key i : ℕ) → lastFrom headNode pre .key ≤ key → i < shared b D (lastFrom headNode pre .key) key →
-      firstWith b D key (suc i) (headNode ∷ (pre ++ later)) ≡ firstWith b D (lastFrom headNode pre .key) (suc i) (headNode ∷ (pre ++ later))
-  path-same later key i h l =
-      let A = lastFrom headNode pre in
-      first-front b D key (suc i) headNode pre later l
-      ∙ first-alike b D key (A .key) (suc i) (headNode ∷ pre) (all-map (λ z e. omega arith) (headNode ∷ pre) (up-to-shares key h))
-      ∙ sym (first-front b D (A .key) (suc i) headNode pre later (omega (arith, shared-same b D (A .key), shared-le b D (A .key) key)))
 
   -- from its dimension on, that one's path has its own cell
   pub path-own :
@@ -176,7 +172,7 @@ module _ (b D : ℕ) (pos : 0 < b) (pre : List Node) where
       let front = asc-left 0 pre (y ∷ post) asc in
       let less = asc-last headNode pre (y ∷ post) asc .0 in
       path-from b D (pre ++ y ∷ post) (A .key) (y .key) (shared b D (A .key) (y .key)) (y .cell) (shared-le b D (A .key) (y .key))
-      (λ i l. path-same b D pos pre front (y ∷ post) (y .key) i (omega arith) l)
+      (λ i l. path-same b D pos (A .key) (y .key) i (headNode ∷ (pre ++ y ∷ post)) l)
       (λ i h l. path-next-own b D pos pre front y post i (omega arith) h l)
 
   -- the last word is the cell whose path it is

@@ -20,7 +20,7 @@ use Rattle.meaning.proofs.Order.{Asc, asc-above}
 use Rattle.meaning.proofs.Keys.{shared-same, shared-less, ultra}
 use Rattle.meaning.proofs.State.{Sound, base-positive}
 use Rattle.meaning.proofs.Places.{asc-left, asc-smaller, asc-larger, places-nodes, lastFrom}
-use Rattle.meaning.proofs.Parent.{dimensionAfter, parentAfter, placesFrom, all-last, last-least, last-greatest, first-skips, first-hits, first-front}
+use Rattle.meaning.proofs.Parent.{dimension-least, dimensionAfter, parentAfter, placesFrom, all-last, last-least, last-greatest, first-skips, first-hits, first-front}
 use Rattle.meaning.proofs.Slot as slot
 use Rattle.meaning.proofs.Placed.{Placed, placed-has}
 use Rattle.meaning.proofs.WalkStop.{Hangs}
@@ -132,18 +132,6 @@ slot-at s v k h {pre} {middle} {post} g =
 -- Where k hangs
 
 module _ (b D : ℕ) (pos : 0 < b) (deep : 0 < D) where
-  -- a place shares no more with an earlier node than its dimension
-  dimension-least : (y : Node) (e : ℕ) (row : List Node) → Asc (y .key) row → All (λ p. shared b D (y .key) (p .node .key) ≤ p .dimension) (placesAfter b D y e row)
-  unfolding placesAfter
-  dimension-least y e [] a = tt
-  dimension-least y e (z ∷ row) a =
-      let f = shared b D (y .key) (z .key) in
-      let h = a .0 in (
-        omega arith,
-        all-zip (λ p l g. omega (arith, l, ultra b D (y .key) (z .key) (p .node .key) pos (omega arith) (omega arith))) (placesAfter b D z f row)
-            (dimension-least z f row (a .1)) (places-nodes (λ x. z .key < x .key) b D z f row (asc-above (z .key) row (a .1))),
-      )
-
   -- where y and the nodes `pre` are below k and the `rest` is not, each place from which k would hang is the parent
   hung :
       (k : ℕ) (w : Node) (f : ℕ) (y : Node) (e : ℕ) (pre rest : List Node) → y .key < k → Asc (y .key) (pre ++ rest) → All (λ z. z .key < k) pre → All (λ z. k ≤ z .key) rest →
@@ -191,7 +179,7 @@ module _ (b D : ℕ) (pos : 0 < b) (deep : 0 < D) where
       known : All Known (placesAfter b D y e later)
       known =
           all-zip (λ p m n. (m, n)) (placesAfter b D y e later) (places-nodes (λ x. y .key < x .key) b D y e later (asc-above (y .key) later a))
-          (all-zip (λ p m n. (m, n)) (placesAfter b D y e later) (places-nodes (λ x. x .key < k → x .key ≤ A .key) b D y e later reach) (dimension-least y e later a))
+          (all-zip (λ p m n. (m, n)) (placesAfter b D y e later) (places-nodes (λ x. x .key < k → x .key ≤ A .key) b D y e later reach) (dimension-least b D pos y e later a))
 
       -- y comes before the place p, and so shares too little
       past : (p : Place) → Known p → Hangs b D k p → Is (z ∷ pre) p → Is (y ∷ z ∷ pre) p
