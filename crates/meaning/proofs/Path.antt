@@ -13,7 +13,7 @@ use lib.ListN.{length, getD, take, replicate, length-append, length-replicate, g
 use lib.Seq.{getD-append-add, getD-take, length-take-le, ext-getD}
 use borrow.Author.Tests.{lt-ltb, le-ltb}
 use Rattle.lists.proofs.Numbers.{made-at, made-length}
-use Rattle.lists.proofs.All.{All, all-map, all-each}
+use Rattle.lists.proofs.All.{All, all-map}
 use Rattle.meaning.specs.Keys.{shared}
 use Rattle.meaning.specs.Row.{Node, headNode, firstSharing, Place, places, settledLink, placeOf}
 use Rattle.meaning.specs.State.{State, positionKey}
@@ -76,21 +76,16 @@ module _ (b D : ℕ) where
   first-past key n [] later a = refl
   first-past key n (z ∷ pre) later a = first-skips b D key n z (pre ++ later) (a .0) ∙ first-past key n pre later (a .1)
 
-  -- with two keys that all nodes share as much with, as far as n
-  pub first-alike : (k l n : ℕ) (row : List Node) → All (λ z. min n (shared b D (z .key) k) ≡ min n (shared b D (z .key) l)) row → firstWith b D k n row ≡ firstWith b D l n row
+  -- it is the same for keys that share n coordinates
+  pub first-alike : 0 < b → (k l n : ℕ) → n ≤ shared b D k l → (row : List Node) → firstWith b D k n row ≡ firstWith b D l n row
   unfolding firstWith
-  first-alike k l n [] a = refl
-  first-alike k l n (z ∷ row) a = at (decLt (shared b D (z .key) k) n) (first-alike k l n row (a .1))
+  first-alike pos k l n h [] = refl
+  first-alike pos k l n h (z ∷ row) = at (decLt (shared b D (z .key) k) n) (first-alike pos k l n h row)
     where
       at : Dec (shared b D (z .key) k < n) → firstWith b D k n row ≡ firstWith b D l n row → firstWith b D k n (z ∷ row) ≡ firstWith b D l n (z ∷ row)
-      at (yes h) more = let e = a .0 in first-skips b D k n z row h ∙ more ∙ sym (first-skips b D l n z row (omega arith))
-      at (no h) more = let e = a .0 in first-hits b D k n z row (omega arith) ∙ sym (first-hits b D l n z row (omega arith))
-
--- so below what two keys share, their paths have the same words
-pub path-same : (b D : ℕ) → 0 < b → (x y i : ℕ) (row : List Node) → i < shared b D x y → firstWith b D y (suc i) row ≡ firstWith b D x (suc i) row
-path-same b D pos x y i row h =
-    first-alike b D y x (suc i) row
-    (all-each (λ z. omega (arith, triangle b D (z .key) x y pos, triangle b D (z .key) y x pos, shared-sym b D x y)) row)
+      at (yes g) more =
+          first-skips b D k n z row g ∙ more ∙ sym (first-skips b D l n z row (omega (arith, triangle b D (z .key) l k pos, shared-sym b D k l)))
+      at (no g) more = first-hits b D k n z row (omega arith) ∙ sym (first-hits b D l n z row (omega (arith, triangle b D (z .key) k l pos)))
 
 -- what holds of 0 and of the cell of each node holds of the first that shares enough
 pub first-holds : (P : ℕ → Type 0) (b D key n : ℕ) (row : List Node) → P 0 → All (λ z. P (z .cell)) row → P (firstWith b D key n row)
@@ -117,10 +112,10 @@ dimension-less b D x e (y ∷ row) a h =
 -- The head and the nodes up to the last of them, and a key not below that one's
 
 module _ (b D : ℕ) (pos : 0 < b) (pre : List Node) (asc : Asc 0 pre) where
-  pub up-to-last : All (λ z. z .key ≤ lastFrom headNode pre .key) (headNode ∷ pre)
+  up-to-last : All (λ z. z .key ≤ lastFrom headNode pre .key) (headNode ∷ pre)
   up-to-last = (last-least headNode pre asc, last-greatest headNode pre asc)
 
-  pub up-to-shares :
+  up-to-shares :
       (key : ℕ) → lastFrom headNode pre .key ≤ key →
       All (λ z. shared b D (z .key) key ≡ min (shared b D (z .key) (lastFrom headNode pre .key)) (shared b D (lastFrom headNode pre .key) key)) (headNode ∷ pre)
   up-to-shares key h = all-map (λ z l. ultra b D (z .key) (lastFrom headNode pre .key) key pos l h) (headNode ∷ pre) up-to-last
@@ -135,7 +130,7 @@ module _ (b D : ℕ) (pos : 0 < b) (pre : List Node) (asc : Asc 0 pre) where
       ∙ last-first b D pos (omega arith) i headNode 0 pre asc l h
 
   -- so has the path of the node after it, from that one's dimension on
-  pub path-next-own :
+  path-next-own :
       (y : Node) (post : List Node) (i : ℕ) → lastFrom headNode pre .key ≤ y .key → dimensionAfter b D headNode pre (y .key) ≤ i → i < D →
       firstWith b D (y .key) (suc i) (headNode ∷ (pre ++ y ∷ post)) ≡ y .cell
   path-next-own y post i g h l =
@@ -172,7 +167,7 @@ module _ (b D : ℕ) (pos : 0 < b) (pre : List Node) where
       let front = asc-left 0 pre (y ∷ post) asc in
       let less = asc-last headNode pre (y ∷ post) asc .0 in
       path-from b D (pre ++ y ∷ post) (A .key) (y .key) (shared b D (A .key) (y .key)) (y .cell) (shared-le b D (A .key) (y .key))
-      (λ i l. path-same b D pos (A .key) (y .key) i (headNode ∷ (pre ++ y ∷ post)) l)
+      (λ i l. sym (first-alike b D pos (A .key) (y .key) (suc i) l (headNode ∷ (pre ++ y ∷ post))))
       (λ i h l. path-next-own b D pos pre front y post i (omega arith) h l)
 
   -- the last word is the cell whose path it is

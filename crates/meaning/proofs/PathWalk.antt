@@ -28,7 +28,7 @@ use Rattle.meaning.proofs.WalkRow.{RowTrail, rises, moves, wants, reach
 use Rattle.meaning.proofs.Walk.{row-trail}
 use Rattle.meaning.proofs.WalkStop.{Wanting, Moved, rests}
 use Rattle.meaning.proofs.Placed.{Placed, Own, placed-has, placed-most, placed-above, placed-at, head-placed, place-key}
-use Rattle.meaning.proofs.Path.{path-same, path-head, path-from}
+use Rattle.meaning.proofs.Path.{first-alike, path-head, path-from}
 
 -- from a place's dimension on, its path has its cell
 path-has-own : (b D : ℕ) → 0 < b → (y : Node) (e : ℕ) (row : List Node) → Asc (y .key) row →
@@ -57,14 +57,16 @@ module _ {s : State} (v : Sound s) where
       )
 
   -- the path after a move
-  path-moves : {y : ℕ} {q : Place} (x d : ℕ) → Placed s y q → d ≡ shared (s .settings .base) (s .settings .dimensions) x (q .node .key) → q .dimension ≡ d →
+  path-moves : {y : ℕ} {q : Place} (x d : ℕ) → Placed s y q →
+      d ≡ shared (s .settings .base) (s .settings .dimensions) x (q .node .key) → q .dimension ≡ d →
       onward (s .settings .dimensions) (pathFor (s .settings .base) (s .settings .dimensions) (s .row) x) d (q .node .cell)
       ≡ pathFor (s .settings .base) (s .settings .dimensions) (s .row) (q .node .key)
   path-moves {q = q} x d there e dim =
       let b = s .settings .base in
       let D = s .settings .dimensions in
       sym (path-from b D (s .row) x (q .node .key) d (q .node .cell) (omega (arith, shared-le b D x (q .node .key)))
-      (λ i l. path-same b D (base-positive s v) x (q .node .key) i (headNode ∷ s .row) (omega arith)) (λ i h l. placed-path-own there i (omega arith) l))
+      (λ i l. sym (first-alike b D (base-positive s v) x (q .node .key) (suc i) (omega arith) (headNode ∷ s .row)))
+      (λ i h l. placed-path-own there i (omega arith) l))
 
   -- steps make the path of the place that they start from that of the cell where they come to rest
   path-rests : {k : ℕ} {p : Place} {d : ℕ} {steps : List Step} → RowTrail (s .settings .base) (s .settings .dimensions) k (Own s) p d steps →
