@@ -21,7 +21,7 @@ use Rattle.meaning.proofs.Cells.{row-range}
 use Rattle.meaning.proofs.Placed.{mark-one}
 use Rattle.meaning.proofs.Picture.{picture-largest, picture-cells, picture-word, Told, told, freeWords-rest}
 use Rattle.meaning.proofs.WalkRead.{all-places, row-key-read, row-mark-read}
-use Rattle.meaning.proofs.WalkStop.{node-found}
+use Rattle.meaning.proofs.Places.{node-found}
 use Rattle.meaning.proofs.Outcomes.{on-lists, insert-outcome-live, insert-outcome-dead, insert-outcome-full, insert-outcome-new, find-outcome-absent, find-outcome-dead, find-outcome-live}
 use Rattle.meaning.proofs.BookRow.{isLive, node-key, node-has}
 

@@ -13,7 +13,7 @@ pub mod Places
 pub mod Put
 pub mod Reading
 pub mod Rule
-pub mod RowWalk
+pub mod WalkRow
 pub mod WalkRead
 pub mod Walk
 pub mod WalkStop

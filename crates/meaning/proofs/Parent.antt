@@ -18,7 +18,7 @@ use Rattle.meaning.specs.Picture.{firstWith}
 use Rattle.meaning.specs.Operations.{leadsTo, dimensionAt, parentIn}
 use Rattle.meaning.proofs.Order.{Asc, asc-above}
 use Rattle.meaning.proofs.Keys.{shared-same, shared-less, ultra}
-use Rattle.meaning.proofs.Places.{asc-left, lastFrom, dimensionFrom}
+use Rattle.meaning.proofs.Places.{asc-left, places-nodes, lastFrom, dimensionFrom}
 
 -- the dimension of a key that comes next after y and some nodes
 abbrev pub dimensionAfter : ℕ → ℕ → Node → List Node → ℕ → ℕ
@@ -53,6 +53,20 @@ pub record ParentPlace (b D d : ℕ) (a : Node) (later : List Node) (p : Place) 
   pub shares : d < shared b D (p .node .key) (a .key)
 
 -- Rows
+
+-- a place shares no more with an earlier node than its dimension
+pub dimension-least :
+    (b D : ℕ) → 0 < b → (y : Node) (e : ℕ) (row : List Node) → Asc (y .key) row →
+    All (λ p. shared b D (y .key) (p .node .key) ≤ p .dimension) (placesAfter b D y e row)
+unfolding placesAfter
+dimension-least b D pos y e [] a = tt
+dimension-least b D pos y e (z ∷ row) a =
+    let f = shared b D (y .key) (z .key) in
+    let h = a .0 in (
+      omega arith,
+      all-zip (λ p l g. omega (arith, l, ultra b D (y .key) (z .key) (p .node .key) pos (omega arith) (omega arith))) (placesAfter b D z f row)
+          (dimension-least b D pos z f row (a .1)) (places-nodes (λ x. z .key < x .key) b D z f row (asc-above (z .key) row (a .1))),
+    )
 
 pub all-last : (P : Node → Type 0) (y : Node) (row : List Node) → P y → All P row → P (lastFrom y row)
 unfolding lastFrom

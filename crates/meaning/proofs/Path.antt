@@ -20,10 +20,9 @@ use Rattle.meaning.specs.State.{State, positionKey}
 use Rattle.meaning.specs.Picture.{firstWith, path}
 use Rattle.meaning.specs.Layer.Paths.{pathFor, onward}
 use Rattle.meaning.proofs.Order.{Asc}
-use Rattle.meaning.proofs.Keys.{shared-same, shared-le, shared-less, ultra}
+use Rattle.meaning.proofs.Keys.{shared-same, shared-sym, shared-le, shared-less, ultra, triangle}
 use Rattle.meaning.proofs.Places.{asc-left, lastFrom}
-use Rattle.meaning.proofs.Parent.{dimensionAfter, Apart, ParentPlace, asc-last, last-least, last-greatest, first-hits, first-skips}
-use Rattle.meaning.proofs.Parent.{sharing-skips, sharing-hits, sharing-none, sharing-above, first-front, near, first-place}
+use Rattle.meaning.proofs.Parent.{dimensionAfter, Apart, ParentPlace, asc-last, last-least, last-greatest, sharing-skips, sharing-hits, sharing-none, first-hits, first-skips, first-front, near, first-place, sharing-above}
 use Rattle.meaning.proofs.WalkRead.{settled-above}
 
 -- The words of a path
@@ -77,15 +76,16 @@ module _ (b D : ℕ) where
   first-past key n [] later a = refl
   first-past key n (z ∷ pre) later a = first-skips b D key n z (pre ++ later) (a .0) ∙ first-past key n pre later (a .1)
 
-  -- with two keys that all nodes share as much with, as far as n
-  pub first-alike : (k l n : ℕ) (row : List Node) → All (λ z. min n (shared b D (z .key) k) ≡ min n (shared b D (z .key) l)) row → firstWith b D k n row ≡ firstWith b D l n row
+  -- it is the same for keys that share n coordinates
+  pub first-alike : 0 < b → (k l n : ℕ) → n ≤ shared b D k l → (row : List Node) → firstWith b D k n row ≡ firstWith b D l n row
   unfolding firstWith
-  first-alike k l n [] a = refl
-  first-alike k l n (z ∷ row) a = at (decLt (shared b D (z .key) k) n) (first-alike k l n row (a .1))
+  first-alike pos k l n h [] = refl
+  first-alike pos k l n h (z ∷ row) = at (decLt (shared b D (z .key) k) n) (first-alike pos k l n h row)
     where
       at : Dec (shared b D (z .key) k < n) → firstWith b D k n row ≡ firstWith b D l n row → firstWith b D k n (z ∷ row) ≡ firstWith b D l n (z ∷ row)
-      at (yes h) more = let e = a .0 in first-skips b D k n z row h ∙ more ∙ sym (first-skips b D l n z row (omega arith))
-      at (no h) more = let e = a .0 in first-hits b D k n z row (omega arith) ∙ sym (first-hits b D l n z row (omega arith))
+      at (yes g) more =
+          first-skips b D k n z row g ∙ more ∙ sym (first-skips b D l n z row (omega (arith, triangle b D (z .key) l k pos, shared-sym b D k l)))
+      at (no g) more = first-hits b D k n z row (omega arith) ∙ sym (first-hits b D l n z row (omega (arith, triangle b D (z .key) k l pos)))
 
 -- what holds of 0 and of the cell of each node holds of the first that shares enough
 pub first-holds : (P : ℕ → Type 0) (b D key n : ℕ) (row : List Node) → P 0 → All (λ z. P (z .cell)) row → P (firstWith b D key n row)
@@ -104,26 +104,16 @@ path-holds P b D row key d h head a = rw (pathFor-at b D row key d h) (first-hol
 -- The head and the nodes up to the last of them, and a key not below that one's
 
 module _ (b D : ℕ) (pos : 0 < b) (pre : List Node) (asc : Asc 0 pre) where
-  pub up-to-last : All (λ z. z .key ≤ lastFrom headNode pre .key) (headNode ∷ pre)
+  up-to-last : All (λ z. z .key ≤ lastFrom headNode pre .key) (headNode ∷ pre)
   up-to-last = (last-least headNode pre asc, last-greatest headNode pre asc)
 
-  pub up-to-shares :
+  up-to-shares :
       (key : ℕ) → lastFrom headNode pre .key ≤ key →
       All (λ z. shared b D (z .key) key ≡ min (shared b D (z .key) (lastFrom headNode pre .key)) (shared b D (lastFrom headNode pre .key) key)) (headNode ∷ pre)
   up-to-shares key h = all-map (λ z l. ultra b D (z .key) (lastFrom headNode pre .key) key pos l h) (headNode ∷ pre) up-to-last
 
-  -- below what that one and the key share, their paths have the same words
-  pub path-same :
-      (later : List Node) (key i : ℕ) → lastFrom headNode pre .key ≤ key → i < shared b D (lastFrom headNode pre .key) key →
-      firstWith b D key (suc i) (headNode ∷ (pre ++ later)) ≡ firstWith b D (lastFrom headNode pre .key) (suc i) (headNode ∷ (pre ++ later))
-  path-same later key i h l =
-      let A = lastFrom headNode pre in
-      first-front b D key (suc i) headNode pre later l
-      ∙ first-alike b D key (A .key) (suc i) (headNode ∷ pre) (all-map (λ z e. omega arith) (headNode ∷ pre) (up-to-shares key h))
-      ∙ sym (first-front b D (A .key) (suc i) headNode pre later (omega (arith, shared-same b D (A .key), shared-le b D (A .key) key)))
-
   -- from its dimension on, the path of the node after it has that one's cell
-  pub path-next-own :
+  path-next-own :
       (y : Node) (post : List Node) (i : ℕ) → lastFrom headNode pre .key ≤ y .key → dimensionAfter b D headNode pre (y .key) ≤ i → i < D →
       firstWith b D (y .key) (suc i) (headNode ∷ (pre ++ y ∷ post)) ≡ y .cell
   path-next-own y post i g h l =
@@ -160,7 +150,7 @@ module _ (b D : ℕ) (pos : 0 < b) (pre : List Node) where
       let front = asc-left 0 pre (y ∷ post) asc in
       let less = asc-last headNode pre (y ∷ post) asc .0 in
       path-from b D (pre ++ y ∷ post) (A .key) (y .key) (shared b D (A .key) (y .key)) (y .cell) (shared-le b D (A .key) (y .key))
-      (λ i l. path-same b D pos pre front (y ∷ post) (y .key) i (omega arith) l)
+      (λ i l. sym (first-alike b D pos (A .key) (y .key) (suc i) l (headNode ∷ (pre ++ y ∷ post))))
       (λ i h l. path-next-own b D pos pre front y post i (omega arith) h l)
 
 -- Links of path words

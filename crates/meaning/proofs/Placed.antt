@@ -6,7 +6,7 @@ use mathlib.Core.Bool.{Bool, true, false, cond}
 use mathlib.Core.List.{List, [], _∷_, map}
 use mathlib.Core.Logic.{_⊎_, inl, inr}
 use mathlib.Core.Option.{Option, none, some}
-use Prim.Native.Nat.{ℕ, zero, suc, _+_, _<_}
+use Prim.Native.Nat.{ℕ, zero, suc, _+_, _≤_, _<_}
 use native.Mathlib.Decide.{ℕ-discrete}
 use native.Mathlib.Omega.{arith}
 use lib.ListN.{length, getD}
@@ -15,7 +15,7 @@ use Rattle.lists.specs.Lists.{occurrences, firstNumber}
 use Rattle.lists.proofs.Occurrences.{occurrences-past, occurrences-append, occurrences-more, occurs-has}
 use Rattle.lists.proofs.All.{All, all-map, all-append, all-right, all-each, all-zip, all-mapped}
 use Rattle.meaning.specs.Keys.{coordinate, shared}
-use Rattle.meaning.specs.Row.{Node, headNode, Place, headPlace, placesAfter, places, owed, low, high, link, placeOf, firstOf}
+use Rattle.meaning.specs.Row.{Node, headNode, Place, headPlace, placesAfter, places, owed, low, high, link, placeOf, firstOf, nodeAt}
 use Rattle.meaning.specs.State.{State, keyOf, placesOf}
 use Rattle.meaning.specs.Picture.{mark, standingWords, nextFree, freeWords, wordsOf, picture, pathWord}
 use Rattle.meaning.specs.Words.{wordAt, keyAt, valueAt, markAt, owedAt, lowAt, highAt, coordinateAt, linkAt, dimensionsAt, cellsAt, baseAt, firstFreeAt}
@@ -23,9 +23,10 @@ use Rattle.meaning.specs.Sentences.{Free, Standing}
 use Rattle.meaning.specs.Writes.{OwesNothing}
 use Rattle.meaning.specs.Reading.{settingsAt}
 use Rattle.meaning.proofs.State.{Sound, cellsIn}
+use Rattle.meaning.proofs.Order.{asc-above}
 use Rattle.meaning.proofs.Cells.{row-range, free-range}
 use Rattle.meaning.proofs.Picture.{picture-word, place-here, place-past, Told, told, places-cells, free-found, freeWords-rest, shownWords, picture-path, place-found}
-use Rattle.meaning.proofs.Places.{keyOf-same, keyOf-other}
+use Rattle.meaning.proofs.Places.{keyOf-same, keyOf-other, node-found, nodes-passed}
 use Rattle.meaning.proofs.SentencesNumbers.{cells-cover}
 use Rattle.meaning.proofs.WalkRead.{Held, all-places, places-held, standing-word, standing-coordinate, standing-link}
 use Rattle.meaning.proofs.Stores.{picture-exact, field-cases, words-equal}
@@ -65,6 +66,10 @@ keyOf-after b D c a e (x ∷ row) p f = at (ℕ-discrete (x .cell) c) (keyOf-aft
 -- cell x of a state stands, in place p
 pub record Placed (s : State) (x : ℕ) (p : Place) : Type 0 where
   pub found : placeOf x (placesOf s (s .row)) ≡ some p
+
+-- p is the place of its cell
+abbrev pub Own : State → Place → Type 0
+Own s p = Placed s (p .node .cell) p
 
 module _ {s : State} {x : ℕ} {p : Place} (here : Placed s x p) where
   placed-told : (P : Place → Type 0) → All P (placesOf s (s .row)) → (p .node .cell ≡ x) × P p
@@ -134,6 +139,33 @@ module _ {s : State} (v : Sound s) {x : ℕ} {p : Place} (here : Placed s x p) w
       let least = v .ranges .cells-least in
       let below = placed-node here (λ y. y .cell < s .settings .cells) (omega arith) (all-map (λ y r. r .1) (s .row) (row-range s v)) in
       omega (arith, placed-cell here)
+
+  -- its key is one of the list's, and 0 exactly if it is the head
+  pub placed-most : p .node .key ≤ s .settings .largest
+  placed-most = placed-node here (λ y. y .key ≤ s .settings .largest) (omega arith) (v .keys)
+
+  pub placed-above : 0 < x → 0 < p .node .key
+  placed-above h =
+      placed-node here (λ y. 0 < y .cell → 0 < y .key) (λ l. l) (all-map (λ y l c. l) (s .row) (asc-above 0 (s .row) (v .ascends)))
+      (rw (placed-cell here) h)
+
+  pub placed-other : 0 < p .node .key → 0 < x
+  placed-other h =
+      let own = placed-cell here in
+      let other = placed-node here (λ y. 0 < y .key → 0 < y .cell) (λ l. l) (all-map (λ y r l. r .0) (s .row) (row-range s v)) h in
+      omega arith
+
+  -- it is the node with its key, and what stands at a larger key stands after it
+  pub placed-at : 0 < p .node .key → nodeAt (p .node .key) (s .row) ≡ some (p .node)
+  placed-at =
+      placed-node here (λ y. 0 < y .key → nodeAt (y .key) (s .row) ≡ some y) (λ h. absurd (omega arith))
+      (all-map (λ y e h. e) (s .row) (node-found 0 (s .row) (v .ascends)))
+
+  pub placed-passed : (k : ℕ) → p .node .key < k → nodeAt k (s .row) ≡ nodeAt k (p .later)
+  unfolding places
+  placed-passed k =
+      placed-has here (λ q. q .node .key < k → nodeAt k (s .row) ≡ nodeAt k (q .later))
+      ((λ h. refl), nodes-passed (s .settings .base) (s .settings .dimensions) k (s .row) headNode 0 (s .row) (λ h. refl) (v .ascends))
 
   pub place-word : (j : ℕ) → j < cellWords (s .settings .dimensions) →
       wordAt (picture s) x j ≡ getD (standingWords (s .settings .base) (s .settings .dimensions) p) j 0

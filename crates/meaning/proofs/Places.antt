@@ -1,19 +1,20 @@
--- Laws of rows and of their places under append and map, by induction on the row: members, how often a number occurs, the key of a
--- cell, ascending keys, and places. An operation that changes only values, marks and debts is a map, and keeps cells, keys and
+-- Laws of rows and of their places under append and map, by induction on the row: members, how often a number occurs, the node with a key,
+-- the key of a cell, ascending keys, and places. An operation that changes only values, marks and debts is a map, and keeps cells, keys and
 -- dimensions.
 use mathlib.Core.Path.{_≡_, refl, sym, _∙_, ap, ap₂}
 use mathlib.Core.Bool.{Bool, true, false, cond}
 use mathlib.Core.List.{List, [], _∷_, _++_, map}
-use Prim.Native.Nat.{ℕ, _+_, _≤_, _<_}
+use mathlib.Core.Option.{some}
+use Prim.Native.Nat.{ℕ, _+_, _<_}
 use native.Mathlib.Decide.{ℕ-discrete}
 use native.Mathlib.Omega.{arith}
 use lib.Dec.{eqb}
 use borrow.Author.Tests.{eq-eqb, ne-eqb, eqb-true, eqb-false}
 use Rattle.lists.specs.Lists.{occurrences}
 use Rattle.lists.proofs.Occurrences.{occurrences-past, occurrences-none, none-occurs}
-use Rattle.lists.proofs.All.{All}
+use Rattle.lists.proofs.All.{All, all-zip}
 use Rattle.meaning.specs.Keys.{shared}
-use Rattle.meaning.specs.Row.{Node, headNode, firstOf, Place, headPlace, placesAfter, places}
+use Rattle.meaning.specs.Row.{Node, headNode, firstOf, Place, headPlace, placesAfter, places, nodeAt}
 use Rattle.meaning.specs.State.{keyOf}
 use Rattle.meaning.proofs.Order.{Asc, asc-weaken, asc-above}
 
@@ -40,6 +41,35 @@ occurs-found c (x ∷ row) h = at-test (ℕ-discrete (x .cell) c) (occurs-found 
     at-test (no ne) ih =
         let t = ih (rw (occurrences-past c (x .cell) (map (λ y. y .cell) row) ne) at h) in
         record { front = x ∷ t .front; node = t .node; later = t .later; split = ap {B = List Node} (λ r. x ∷ r) (t .split); cell = t .cell }
+
+-- The node with a key
+
+pub node-past : (key : ℕ) (x : Node) (row : List Node) → (x .key ≡ key → ⊥) → nodeAt key (x ∷ row) ≡ nodeAt key row
+unfolding nodeAt
+node-past key x row n = rw (ne-eqb (x .key) key n) refl
+
+node-here : (x : Node) (row : List Node) → nodeAt (x .key) (x ∷ row) ≡ some x
+unfolding nodeAt
+node-here x row = rw (eq-eqb (x .key) (x .key) refl) refl
+
+-- each node of an ascending row is found by its key
+pub node-found : (key : ℕ) (row : List Node) → Asc key row → All (λ x. nodeAt (x .key) row ≡ some x) row
+node-found key [] asc = tt
+node-found key (x ∷ row) asc = (
+  node-here x row,
+  all-zip (λ y l e. node-past (y .key) x row (λ q. omega arith) ∙ e) row (asc-above (x .key) row (asc .1)) (node-found (x .key) row (asc .1)),
+)
+
+-- what stands at k stands after each place below k
+pub nodes-passed :
+    (b D k : ℕ) (all : List Node) (a : Node) (e : ℕ) (row : List Node) → (a .key < k → nodeAt k all ≡ nodeAt k row) → Asc (a .key) row →
+    All (λ p. p .node .key < k → nodeAt k all ≡ nodeAt k (p .later)) (placesAfter b D a e row)
+unfolding placesAfter
+nodes-passed b D k all a e [] f asc = tt
+nodes-passed b D k all a e (x ∷ row) f asc =
+    let l = asc .0 in
+    let g : x .key < k → nodeAt k all ≡ nodeAt k row = (λ h. f (omega arith) ∙ node-past k x row (λ q. omega arith)) in
+    (g, nodes-passed b D k all x (shared b D (a .key) (x .key)) row g (asc .1))
 
 -- The key of a cell
 

@@ -16,7 +16,7 @@ use Rattle.meaning.specs.Operations.{looked, insertOut, findOut}
 use Rattle.meaning.specs.Calls.{outcome}
 use Rattle.meaning.specs.Rule.{rule}
 use Rattle.meaning.specs.Words.{keyAt, dimensionsAt, largestAt, baseAt}
-use Rattle.meaning.specs.Walk.{walk, walkFrom, ends}
+use Rattle.meaning.specs.Walk.{trailFrom, trail, ends, walk}
 use Rattle.meaning.specs.Book.{standingKeys}
 use Rattle.meaning.specs.Promises.{ListsStayLists, CallsKeepLists, RefusedAltersNothing, Looks, answersLooked, LookedIsWalk, PresentMeansThatKey, TakesInTurn, TakesEnd, CallsAreBooked, FindWritesNothing, TakeWrites, ReviveWrites, InsertWrites, FinishWrites, SweepWrites, EachCellOnce, SweptCellsFirst, InsertUsesFirst, SharedMeansLeading, ListMeansSentences, WalkIsRule, WalkOnce, WalkBounded, WalkEnds, WalkByKeysAlone, OrderIsLexicographic, OneOutcome}
 use Rattle.meaning.proofs.Keys.{shared-agreed, lexicographic, coordinates-determine}
@@ -30,7 +30,7 @@ use Rattle.meaning.proofs.Writes as leaves
 use Rattle.meaning.proofs.Serves as serves
 use Rattle.meaning.proofs.BookPresent as present
 use Rattle.meaning.proofs.Walk as walks
-use Rattle.meaning.proofs.Walk.{walk-more, walk-looked}
+use Rattle.meaning.proofs.Walk.{trail-ends, trail-more, walk-looked}
 use Rattle.meaning.proofs.Converse.{list-exactly-if}
 
 -- keys up to K are below b to the power D
@@ -71,8 +71,8 @@ unfolding picture
 walk-ends =
     on-lists
     (λ ws. (k : ℕ) → 1 ≤ k → k ≤ largestAt ws
-    → (ends (dimensionsAt ws * baseAt ws) ws k 0 0 ≡ true) × ((fuel : ℕ) → dimensionsAt ws * baseAt ws ≤ fuel → walkFrom fuel ws k 0 0 ≡ walk ws k))
-    (λ s v k h l. (walks.walk-ends s v k h l, walk-more s v k h l))
+    → (ends (trail ws k) ≡ true) × ((fuel : ℕ) → dimensionsAt ws * baseAt ws ≤ fuel → trailFrom fuel ws k 0 0 ≡ trail ws k))
+    (λ s v k h l. (trail-ends s v k h l, trail-more s v k h l))
 
 -- the base of a list follows from its dimensions and its largest key
 list-base : (ws : List ℕ) → isList ws ≡ true → baseAt ws ≡ baseOf (dimensionsAt ws) (largestAt ws)

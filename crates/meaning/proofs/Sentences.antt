@@ -31,7 +31,7 @@ use Rattle.meaning.proofs.SentencesRow.{Compared, Least, SharesAtLeast,
 use Rattle.meaning.proofs.SentencesRow.Led.{head, led}
 use Rattle.meaning.proofs.SentencesRow.Compared.{same, later, earlier}
 use Rattle.meaning.proofs.SentencesRow.Least.{least, nowhere}
-use Rattle.meaning.proofs.Placed.{Placed, placed-has, placed-node, placed-cell, placed-keyOf, head-placed, place-key, place-value, place-mark, place-owed, place-low, place-high, place-coordinate, place-link, place-standing, free-cell-first, free-cell-rest, free-cell-free, cell-standing, cell-unfound, cell-free, free-cell, position-placed, place-unowing}
+use Rattle.meaning.proofs.Placed.{Placed, placed-has, placed-node, placed-cell, placed-keyOf, placed-most, head-placed, place-key, place-value, place-mark, place-owed, place-low, place-high, place-coordinate, place-link, place-standing, free-cell-first, free-cell-rest, free-cell-free, cell-standing, cell-unfound, cell-free, free-cell, position-placed, place-unowing}
 use Rattle.meaning.proofs.SentencesShape.{NextIn, LedIn, HasPlace, placed-shared, placed-digit, placed-led, placed-compared, next-larger, place-after, place-next-smaller, place-dimension, row-placed, place-settled}
 
 -- What a cell owes
@@ -288,8 +288,7 @@ module _ {s : State} (v : Sound s) where
   pub key-sentence : {x : ℕ} {p : Place} → Placed s x p → 0 < x → (0 < keyAt (picture s) x) × (keyAt (picture s) x ≤ s .settings .largest)
   key-sentence {x} here h =
       let above = place-next-smaller v here h .smaller in
-      let most = placed-node here (λ y. y .key ≤ s .settings .largest) (omega arith) (v .keys) in
-      (omega arith, omega (arith, place-key v here))
+      (omega arith, omega (arith, placed-most v here, place-key v here))
 
   -- "Mark: 0 free, 1 live, 2 dead."
   mark-sentence : (x : ℕ) → x < s .settings .cells → markAt (picture s) x ≤ 2

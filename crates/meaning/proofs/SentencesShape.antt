@@ -27,17 +27,17 @@ use Rattle.meaning.proofs.SentencesRow.Followed.{last, followed}
 use Rattle.meaning.proofs.SentencesRow.Led.{head, led}
 use Rattle.meaning.proofs.SentencesRow.Compared.{same, later, earlier}
 use Rattle.meaning.proofs.SentencesRow.Least.{least, nowhere}
-use Rattle.meaning.proofs.Placed.{Placed, placed-has, placed-node, placed-cell, place-key, place-standing, cell-standing}
+use Rattle.meaning.proofs.Placed.{Placed, Own, placed-has, placed-cell, placed-most, place-key, place-standing, cell-standing}
 
 -- q is the place after p; p is the head's or has a place before it; p is the last or has a place after it
 abbrev pub NextIn : State → Place → Place → Type 0
 NextIn s p q = Next (s .settings .base) (s .settings .dimensions) p q
 
 abbrev pub LedIn : State → Place → Type 0
-LedIn s p = Led (s .settings .base) (s .settings .dimensions) (λ q. Placed s (q .node .cell) q) (s .row) p
+LedIn s p = Led (s .settings .base) (s .settings .dimensions) (Own s) (s .row) p
 
 abbrev pub FollowedIn : State → Place → Type 0
-FollowedIn s p = Followed (s .settings .base) (s .settings .dimensions) (λ q. Placed s (q .node .cell) q) p
+FollowedIn s p = Followed (s .settings .base) (s .settings .dimensions) (Own s) p
 
 -- a node that has a place
 pub record HasPlace (s : State) (y : Node) : Type 0 where
@@ -72,15 +72,13 @@ settled-link ws b D x p d dimension first = at (decLe (p .dimension) d)
     at (no h) = rw (lt-leb (p .dimension) d (omega arith)) (below-dimension dimension (omega arith))
 
 module _ {s : State} (v : Sound s) where
-  pub places-placed : All (λ p. Placed s (p .node .cell) p) (placesOf s (s .row))
+  pub places-placed : All (Own s) (placesOf s (s .row))
   places-placed = all-map (λ p e. record { found = e }) (placesOf s (s .row)) (place-found s v)
 
   -- Keys
 
   pub key-below : {x : ℕ} {p : Place} → Placed s x p → p .node .key < s .settings .base ^ s .settings .dimensions
-  key-below here =
-      let most = placed-node here (λ y. y .key ≤ s .settings .largest) (omega arith) (v .keys) in
-      omega (arith, base-above s v)
+  key-below here = omega (arith, placed-most v here, base-above s v)
 
   pub placed-shared : {x y : ℕ} {p q : Place} → Placed s x p → Placed s y q →
       sharedAt (picture s) x y ≡ shared (s .settings .base) (s .settings .dimensions) (p .node .key) (q .node .key)
@@ -110,12 +108,12 @@ module _ {s : State} (v : Sound s) where
   pub placed-led : {x : ℕ} {p : Place} → Placed s x p → LedIn s p
   placed-led here =
       placed-has here (LedIn s)
-      (places-led (s .settings .base) (s .settings .dimensions) (λ q. Placed s (q .node .cell) q) (s .row) places-placed)
+      (places-led (s .settings .base) (s .settings .dimensions) (Own s) (s .row) places-placed)
 
   pub placed-followed : {x : ℕ} {p : Place} → Placed s x p → FollowedIn s p
   placed-followed here =
       placed-has here (FollowedIn s)
-      (places-followed (s .settings .base) (s .settings .dimensions) (λ q. Placed s (q .node .cell) q) (s .row) places-placed)
+      (places-followed (s .settings .base) (s .settings .dimensions) (Own s) (s .row) places-placed)
 
   pub next-smaller : {x y : ℕ} {p q : Place} → Placed s x p → Placed s y q → NextIn s q p → NextSmaller (picture s) x y
   next-smaller {x} {y} {p} {q} here there next =
@@ -193,7 +191,7 @@ module _ {s : State} (v : Sound s) where
   -- Settled links
 
   -- each node of the row has a place, and so has each node later than a place
-  placed-after : (b D : ℕ) (a : Node) (e : ℕ) (row : List Node) → All (λ p. Placed s (p .node .cell) p) (placesAfter b D a e row) → All (HasPlace s) row
+  placed-after : (b D : ℕ) (a : Node) (e : ℕ) (row : List Node) → All (Own s) (placesAfter b D a e row) → All (HasPlace s) row
   unfolding placesAfter
   placed-after b D a e [] all = tt
   placed-after b D a e (x ∷ row) all = (record { place = _; placed = all .0; node = refl }, placed-after b D x (shared b D (a .key) (x .key)) row (all .1))

@@ -20,7 +20,7 @@ use Rattle.meaning.specs.Words.{cellsAt}
 use Rattle.meaning.proofs.State.{Sound, cellsIn}
 use Rattle.meaning.proofs.SentencesNumbers.{cells-cover}
 use Rattle.meaning.proofs.Reading.{read-of-picture}
-use Rattle.meaning.proofs.WalkStop.{node-found}
+use Rattle.meaning.proofs.Places.{node-found}
 use Rattle.meaning.proofs.Ascending.{member-past}
 use Rattle.meaning.proofs.Slot.{gap, slot-is}
 use Rattle.meaning.proofs.KeepsSweep.{swept-sound}

@@ -16,7 +16,7 @@ use Rattle.meaning.specs.Reading.{read, isList}
 use Rattle.meaning.specs.Refusals.{Outcome, Meets}
 use Rattle.meaning.specs.Rule.{rule}
 use Rattle.meaning.specs.Words.{keyAt, markAt, owedAt, lowAt, highAt, dimensionsAt, largestAt, cellsAt, baseAt, liveMark}
-use Rattle.meaning.specs.Walk.{walk, walkFrom, ends}
+use Rattle.meaning.specs.Walk.{walk, trailFrom, trail, ends}
 use Rattle.meaning.specs.Operations.{takeOut, freedBy, slotFor}
 use Rattle.meaning.specs.Writes.{OwesNothing, OwesSame, Finished, Inserted, Taken, Revived, Swept}
 use Rattle.meaning.specs.Calls.{outcome, afterCalls, Lent}
@@ -84,7 +84,7 @@ WalkBounded =
 abbrev pub WalkEnds : Type 0
 WalkEnds =
     (ws : List ℕ) → isList ws ≡ true → (k : ℕ) → 1 ≤ k → k ≤ largestAt ws
-    → (ends (dimensionsAt ws * baseAt ws) ws k 0 0 ≡ true) × ((fuel : ℕ) → dimensionsAt ws * baseAt ws ≤ fuel → walkFrom fuel ws k 0 0 ≡ walk ws k)
+    → (ends (trail ws k) ≡ true) × ((fuel : ℕ) → dimensionsAt ws * baseAt ws ≤ fuel → trailFrom fuel ws k 0 0 ≡ trail ws k)
 
 -- .. and the keys depend on the settings, the standing keys and the key sought alone.
 abbrev pub WalkByKeysAlone : Type 0

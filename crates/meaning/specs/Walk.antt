@@ -26,28 +26,37 @@ stepAt ws k x d =
     let sought = coordinate (baseAt ws) (dimensionsAt ws) k d in
     cond (ltb own sought) (stepAlong (linkRead ws x d)) (cond (eqb own sought) (cond (eqb (suc d) (dimensionsAt ws)) End Up) End)
 
--- what is gone to after a step from cell x and coordinate d, if the rest of the walk is `further`
-abbrev pub after : (ℕ → ℕ → List ℕ) → ℕ → ℕ → Step → List ℕ
-after further x d (Go y) = y ∷ further y d
-after further x d Up = further x (suc d)
-after further x d End = []
+-- the steps that follow a step from cell x and coordinate d, if `further` are those from a cell and a coordinate on
+abbrev pub onFrom : (ℕ → ℕ → List Step) → ℕ → ℕ → Step → List Step
+onFrom further x d (Go y) = further y d
+onFrom further x d Up = further x (suc d)
+onFrom further x d End = []
 
--- the cells gone to for k from cell x and coordinate d, in at most `fuel` steps
-unfoldable pub walkFrom : ℕ → List ℕ → ℕ → ℕ → ℕ → List ℕ
-walkFrom zero ws k x d = []
-walkFrom (suc fuel) ws k x d = after (walkFrom fuel ws k) x d (stepAt ws k x d)
-
--- the walk from cell x and coordinate d says its end within `fuel` steps
-abbrev pub endsAfter : (ℕ → ℕ → Bool) → ℕ → ℕ → Step → Bool
-endsAfter further x d (Go y) = further y d
-endsAfter further x d Up = further x (suc d)
-endsAfter further x d End = true
-
-unfoldable pub ends : ℕ → List ℕ → ℕ → ℕ → ℕ → Bool
-ends zero ws k x d = false
-ends (suc fuel) ws k x d = endsAfter (ends fuel ws k) x d (stepAt ws k x d)
+-- the trail of the walk for k from cell x and coordinate d: its steps, each from where the one before leads, at most `fuel` of them
+unfoldable pub trailFrom : ℕ → List ℕ → ℕ → ℕ → ℕ → List Step
+trailFrom zero ws k x d = []
+trailFrom (suc fuel) ws k x d = stepAt ws k x d ∷ onFrom (trailFrom fuel ws k) x d (stepAt ws k x d)
 
 -- "The walk for k starts at the head with coordinate 0." Each step but the last raises the coordinate, or at the same coordinate the
 -- cell's digit there, so D times b steps are enough on a list.
+unfoldable pub trail : List ℕ → ℕ → List Step
+trail ws k = trailFrom (dimensionsAt ws * baseAt ws) ws k 0 0
+
+-- the cells that steps go to
+unfoldable pub goneTo : List Step → List ℕ
+goneTo [] = []
+goneTo (Go y ∷ steps) = y ∷ goneTo steps
+goneTo (Up ∷ steps) = goneTo steps
+goneTo (End ∷ steps) = goneTo steps
+
+-- the last of some steps is the walk's end
+unfoldable pub ends : List Step → Bool
+ends [] = false
+ends (Go y ∷ steps) = ends steps
+ends (Up ∷ steps) = ends steps
+ends (End ∷ []) = true
+ends (End ∷ step ∷ steps) = ends (step ∷ steps)
+
+-- the cells gone to
 unfoldable pub walk : List ℕ → ℕ → List ℕ
-walk ws k = walkFrom (dimensionsAt ws * baseAt ws) ws k 0 0
+walk ws k = goneTo (trail ws k)

@@ -2,8 +2,8 @@
 -- cell of a path stays.
 use mathlib.Core.Path.{_≡_, refl, sym, ap, ap₂, _∙_}
 use mathlib.Core.Bool.{cond, _&&_, not}
-use mathlib.Core.List.{List}
-use Prim.Native.Nat.{ℕ, zero, suc, _+_, _<_}
+use mathlib.Core.List.{List, _∷_}
+use Prim.Native.Nat.{ℕ, zero, suc, _+_, _*_, _<_}
 use native.Mathlib.Omega.{arith}
 use lib.Dec.{eqb}
 use lib.ListN.{length, getD}
@@ -12,12 +12,10 @@ use Rattle.settings.specs.Numbers.{headerWords, fieldsBeforeCoordinates, cellWo
 use Rattle.settings.specs.declared.Settings.{Settings}
 use Rattle.meaning.specs.Row.{between}
 use Rattle.meaning.specs.Reading.{settingsAt}
-use Rattle.meaning.specs.Words.{wordAt, owedAt, lowAt, highAt, linkAt, dimensionsAt}
-use Rattle.meaning.specs.Walk.{linkRead, stepAt, endsAfter, ends}
-use Rattle.meaning.specs.Layer.Paths.{onward, NextCell, nextFrom, pathAfter, pathAlong}
+use Rattle.meaning.specs.Words.{wordAt, owedAt, lowAt, highAt, linkAt, dimensionsAt, baseAt}
+use Rattle.meaning.specs.Walk.{linkRead, stepAt, onFrom, trailFrom, trail}
+use Rattle.meaning.specs.Layer.Paths.{NextCell, nextFrom}
 use Rattle.meaning.specs.Layer.Stores.{store, writePath}
-use Rattle.meaning.specs.declared.Step.{Step}
-use Rattle.meaning.specs.declared.Step.the-variants.{Go, Up, End}
 use Rattle.meaning.proofs.Stores.{store-other, store-below, path-sets-header, path-sets-word}
 use Rattle.words.specs.Shaped.{Shaped}
 use Rattle.words.proofs.Shaped.{shaped-dimensions, store-shaped}
@@ -109,27 +107,14 @@ module _ {ws vs : List ℕ} (a : Alike ws vs) where
   alike-step k x d =
       rw (← a .cells x (fieldsBeforeCoordinates + d), ← alike-linkRead x d, ← a .header 3 (omega arith), ← a .header 0 (omega arith)) refl
 
-  pub alike-ends : (fuel k x d : ℕ) → ends fuel ws k x d ≡ ends fuel vs k x d
-  unfolding ends
-  alike-ends zero k x d = refl
-  alike-ends (suc fuel) k x d = ap (endsAfter (ends fuel ws k) x d) (alike-step k x d) ∙ go (stepAt vs k x d) (alike-ends fuel k)
-    where
-      go : (t : Step) → ((y e : ℕ) → ends fuel ws k y e ≡ ends fuel vs k y e) → endsAfter (ends fuel ws k) x d t ≡ endsAfter (ends fuel vs k) x d t
-      go (Go y) further = further y d
-      go Up further = further x (suc d)
-      go End further = refl
+  alike-trail-from : (fuel k x d : ℕ) → trailFrom fuel ws k x d ≡ trailFrom fuel vs k x d
+  unfolding trailFrom
+  alike-trail-from zero k x d = refl
+  alike-trail-from (suc fuel) k x d = λ i. alike-step k x d i ∷ onFrom (λ y e. alike-trail-from fuel k y e i) x d (alike-step k x d i)
 
-  pub alike-along : (fuel k : ℕ) (path : List ℕ) (x d : ℕ) → pathAlong fuel ws k path x d ≡ pathAlong fuel vs k path x d
-  unfolding pathAlong
-  alike-along zero k path x d = refl
-  alike-along (suc fuel) k path x d =
-      ap₂ (λ n t. pathAfter (pathAlong fuel ws k) n path x d t) (a .header 0 (omega arith)) (alike-step k x d) ∙ go (stepAt vs k x d) (alike-along fuel k)
-    where
-      go : (t : Step) → ((p : List ℕ) (y e : ℕ) → pathAlong fuel ws k p y e ≡ pathAlong fuel vs k p y e) →
-          pathAfter (pathAlong fuel ws k) (dimensionsAt vs) path x d t ≡ pathAfter (pathAlong fuel vs k) (dimensionsAt vs) path x d t
-      go (Go y) further = further (onward (dimensionsAt vs) path d y) y d
-      go Up further = further path x (suc d)
-      go End further = refl
+  pub alike-trail : (k : ℕ) → trail ws k ≡ trail vs k
+  unfolding trail
+  alike-trail k = rw (a .header 0 (omega arith), a .header 3 (omega arith)) (alike-trail-from (dimensionsAt vs * baseAt vs) k 0 0)
 
   alike-settings : settingsAt ws ≡ settingsAt vs
   alike-settings = rw (a .header 0 (omega arith), a .header 1 (omega arith), a .header 2 (omega arith), a .header 3 (omega arith)) refl

@@ -4,36 +4,33 @@
 use mathlib.Core.Path.{_≡_, refl, sym, ap, _∙_, subst}
 use mathlib.Core.Bool.{true}
 use mathlib.Core.List.{List, _∷_, map}
-use Prim.Native.Nat.{ℕ, _≤_, _<_}
+use Prim.Native.Nat.{ℕ, _<_}
 use native.Mathlib.Omega.{arith}
 use lib.ListN.{getD, replicate}
 use Rattle.settings.specs.declared.Settings.{Settings}
 use Rattle.lists.specs.Lists.{occurrences}
-use Rattle.lists.proofs.All.{all-map}
 use Rattle.meaning.specs.Row.{headNode, Place}
 use Rattle.meaning.specs.State.{State, keyOf}
 use Rattle.meaning.specs.Picture.{path, picture}
 use Rattle.meaning.specs.Reading.{read}
 use Rattle.meaning.specs.Words.{keyAt, dimensionsAt}
-use Rattle.meaning.specs.Walk.{ends}
-use Rattle.meaning.specs.Layer.Paths.{pathFor, pathAlong}
+use Rattle.meaning.specs.Walk.{trail, ends}
+use Rattle.meaning.specs.Layer.Paths.{pathFor, pathOver}
 use Rattle.meaning.specs.Layer.Stores.{writePath}
 use Rattle.meaning.specs.Layer.Listed.{Listed}
-use Rattle.meaning.proofs.Order.{asc-above}
 use Rattle.meaning.proofs.State.{Sound, valid-sound, sound-valid, base-positive}
 use Rattle.meaning.proofs.Picture.{path-length, picture-dimensions}
-use Rattle.meaning.proofs.Walk.{walk-ends}
+use Rattle.meaning.proofs.Walk.{trail-ends}
 use Rattle.meaning.proofs.Stores.{path-sets-header}
 use Rattle.meaning.proofs.Changed.{path-rewritten}
-use Rattle.meaning.proofs.Placed.{Placed, placed-node, placed-cell, placed-keyOf, placed-below, place-key, occurs-placed}
+use Rattle.meaning.proofs.Placed.{Placed, placed-keyOf, placed-below, placed-most, placed-above, place-key, occurs-placed}
 use Rattle.meaning.proofs.CellsWithin.{owed-within, linkRead-within}
 use Rattle.meaning.proofs.Path.{path-is, path-head}
 use Rattle.meaning.proofs.PathWalk.{path-of-cell}
 use Rattle.words.proofs.Listed.{picture-shaped, on-listed}
 use Rattle.paths.specs.declared.Path.{Path}
 use Rattle.paths.specs.Paths.{pathOf, Formed, Walkable, StandsIn, CellPath}
-use Rattle.paths.proofs.Steps.{enough}
-use Rattle.paths.proofs.Alike.{Alike, path-alike, alike-walkable, alike-ends, alike-along}
+use Rattle.paths.proofs.Alike.{Alike, path-alike, alike-walkable, alike-trail}
 
 pub picture-walkable : (t : State) → Sound t → Walkable (picture t) (t .settings)
 picture-walkable t v =
@@ -86,27 +83,24 @@ module _ {ws : List ℕ} {s : Settings} {x : ℕ} {t : State} (h : StandsIn ws s
     key-is = key ∙ stands-alike .cells x 0 ∙ place-key stands-sound (stands-placed .1)
 
     -- the walk for the cell's key ends, ..
-    pub stands-ends : ends (enough s) ws k 0 0 ≡ true
+    pub stands-ends : ends (trail ws k) ≡ true
     stands-ends =
         let v = stands-sound in
         let here = stands-placed .1 in
-        let own = placed-cell here in
-        let above = placed-node here (λ y. 0 < y .cell → 0 < y .key) (λ l. l) (all-map (λ y l c. l) (t .row) (asc-above 0 (t .row) (v .ascends))) (omega arith) in
-        let most = placed-node here (λ y. y .key ≤ t .settings .largest) (omega arith) (v .keys) in
-        alike-ends stands-alike (enough s) k 0 0
-        ∙ subst (λ u. ends (enough u) (picture t) k 0 0 ≡ true) (h .settings) (walk-ends t v k (omega (arith, key-is)) (omega (arith, key-is)))
+        rw (alike-trail stands-alike k, key-is)
+        (trail-ends t v (stands-placed .0 .node .key) (placed-above v here (omega arith)) (placed-most v here))
 
     -- .. and builds its path
     stands-path :
-        pathAlong (enough s) ws k (replicate (s .dimensions) 0) 0 0 ≡ pathFor (s .base) (s .dimensions) (t .row) (keyOf x (headNode ∷ t .row))
+        pathOver (s .dimensions) (replicate (s .dimensions) 0) 0 (trail ws k)
+        ≡ pathFor (s .base) (s .dimensions) (t .row) (keyOf x (headNode ∷ t .row))
     stands-path =
         let here = stands-placed .1 in
-        let walked = path-of-cell stands-sound here (omega arith) in
-        let same : keyOf x (headNode ∷ t .row) ≡ k = placed-keyOf here ∙ sym key-is in
-        alike-along stands-alike (enough s) k (replicate (s .dimensions) 0) 0 0
-        ∙ subst (λ u. pathAlong (enough u) (picture t) k (replicate (u .dimensions) 0) 0 0 ≡ pathFor (u .base) (u .dimensions) (t .row) k) (h .settings)
-        (rw key-is walked)
-        ∙ ap (pathFor (s .base) (s .dimensions) (t .row)) (sym same)
+        let key = stands-placed .0 .node .key in
+        rw (alike-trail stands-alike k, key-is, placed-keyOf here)
+        (subst
+        (λ u. pathOver (u .dimensions) (replicate (u .dimensions) 0) 0 (trail (picture t) key) ≡ pathFor (u .base) (u .dimensions) (t .row) key)
+        (h .settings) (path-of-cell stands-sound here (omega arith)))
 
 -- what `path_of` answers for the head, and for another cell
 
@@ -116,7 +110,7 @@ cell-path-head ws e f is = record { is = λ t h. is ∙ stands-head h e; formed 
 
 pub cell-path-other :
     (ws : List ℕ) {s : Settings} {x : ℕ} {r : Path} {k : ℕ} → (x ≡ 0 → ⊥) → k ≡ keyAt ws x → Formed (s .dimensions) r →
-    pathOf r ≡ pathAlong (enough s) ws k (replicate (s .dimensions) 0) 0 0 → CellPath ws s x r
+    pathOf r ≡ pathOver (s .dimensions) (replicate (s .dimensions) 0) 0 (trail ws k) → CellPath ws s x r
 cell-path-other ws other key f is = record { is = λ t h. is ∙ stands-path h other key; formed = f }
 
 -- written as the path of a state's position, it makes the words the picture of the state

@@ -2,13 +2,13 @@
 // words have it, the path of any standing cell, and the next standing cell in key order from a path (the deletion stack of the MDList paper).
 ghost use mathlib.Core.Path.{_≡_};
 ghost use mathlib.Core.Bool.{true};
-ghost use Prim.Native.Nat.{_*_, _≤_, _<_};
+ghost use Prim.Native.Nat.{_≤_, _<_};
 ghost use lib.ListN.{getD, take, drop, replicate};
 ghost use Rattle.settings.specs.Numbers.{headerWords, mostDimensions};
 ghost use Rattle.meaning.specs.Keys.{coordinates};
 ghost use Rattle.meaning.specs.Words.{owedAt};
-ghost use Rattle.meaning.specs.Walk.{linkRead, ends};
-ghost use Rattle.meaning.specs.Layer.Paths.{pathAlong};
+ghost use Rattle.meaning.specs.Walk.{linkRead, trail, ends};
+ghost use Rattle.meaning.specs.Layer.Paths.{pathOver};
 ghost use Rattle.meaning.specs.Layer.Paths as definitions;
 ghost use Rattle.meaning.specs.Layer.Stores.{writePath};
 ghost use Rattle.words.specs.Shaped.{Shaped};
@@ -82,8 +82,9 @@ pub fn write_path(list: &mut [u32], s: Settings, path: Path)
 
 // The path of the standing cell with key k, along the walk for k; `sought` holds k's coordinates.
 fn path_along(list: &[u32], s: Settings, sought: &[u32], k: u32) -> Path
-    requires { ⌜ Walkable (now list) s × ((now sought ≡ coordinates (s .base) (s .dimensions) k) × (ends (s .dimensions * s .base) (now list) k 0 0 ≡ true)) ⌝ }
-    ensures { λ r. ⌜ (pathOf r ≡ pathAlong (s .dimensions * s .base) (now (list .entry)) k (replicate (s .dimensions) 0) 0 0) × Formed (s .dimensions) r ⌝ }
+    requires { ⌜ Walkable (now list) s × ((now sought ≡ coordinates (s .base) (s .dimensions) k) × (ends (trail (now list) k) ≡ true)) ⌝ }
+    ensures { λ r. ⌜ (pathOf r ≡ pathOver (s .dimensions) (replicate (s .dimensions) 0) 0 (trail (now (list .entry)) k))
+    × Formed (s .dimensions) r ⌝ }
 {
     let mut path = head_path(s);
     let mut at: u32 = 0;

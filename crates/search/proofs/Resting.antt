@@ -10,7 +10,6 @@ use native.Mathlib.Omega.{arith}
 use lib.Dec.{eqb}
 use borrow.Author.Tests.{eq-eqb, ne-eqb}
 use Rattle.settings.specs.declared.Settings.{Settings}
-use Rattle.lists.proofs.All.{all-map}
 use Rattle.meaning.specs.Keys.{shared}
 use Rattle.meaning.specs.Row.{Node, headNode, firstOf, firstSharing, Place, places, placeOf, nodeAt}
 use Rattle.meaning.specs.State.{State}
@@ -24,19 +23,18 @@ use Rattle.meaning.specs.Layer.Listed.{Listed}
 use Rattle.meaning.proofs.Order.{Asc}
 use Rattle.meaning.proofs.Keys.{shared-sym, shared-less}
 use Rattle.meaning.proofs.State.{Sound, base-positive}
-use Rattle.meaning.proofs.Cells.{row-range}
 use Rattle.meaning.proofs.Places.{asc-left, lastFrom, dimensionFrom}
 use Rattle.meaning.proofs.Parent.{dimensionAfter, Apart, asc-last, apart-left, apart-before, place-at}
 use Rattle.meaning.proofs.Slot as slot
 use Rattle.meaning.proofs.KeepsInsert.{node-split, slot-first}
 use Rattle.meaning.proofs.WalkRead.{settled-above}
 use Rattle.meaning.proofs.Walk.{walk-looked}
-use Rattle.meaning.proofs.WalkStop.{rest-looked, Wanting, Moved, rests}
-use Rattle.meaning.proofs.Placed.{placed-node, placed-below, place-key}
+use Rattle.meaning.proofs.WalkStop.{rest-walk, Hangs, Wanting, Moved, rests}
+use Rattle.meaning.proofs.Placed.{Placed, placed-cell, placed-below, placed-other, place-key}
 use Rattle.search.specs.Found.{slotNumber, slotParent, slotShared, slotCell, foundAt, foundOf}
 use Rattle.search.specs.declared.Found.{Found}
 use Rattle.words.proofs.Listed.{on-listed}
-use Rattle.search.proofs.Sides.{Sides, sides-absent, sides-present, slot-at, Hangs, hung-at}
+use Rattle.search.proofs.Sides.{Sides, sides-absent, sides-present, slot-at, hung-at}
 
 -- What is answered, part by part
 
@@ -56,30 +54,47 @@ unfolding foundOf foundAt
 present-is s k present parent p c q n =
     _∙_ {A = Found} (λ i. record { standing = true; parent = parent i; p = p i; c = c i; q = q i; looked = n i }) (sym (ap (foundAt s k) present))
 
+-- what the search answers where the walk rests at r, by the key of the cell at hand, which is one of the list's
+pub record Answers (t : State) (s : Settings) (k key : ℕ) (r : Rest) : Type 0 where
+  pub below : key < k → record { standing = false; parent = r .at; p = r .coordinate; c = 0; q = 0; looked = r .looked } ≡ foundOf t k
+  pub above :
+      k < key → record { standing = false; parent = r .from; p = r .number; c = r .at; q = r .coordinate; looked = r .looked } ≡ foundOf t k
+  pub here :
+      key ≡ k → record { standing = true; parent = r .from; p = r .number; c = r .at; q = s .dimensions; looked = r .looked } ≡ foundOf t k
+  pub cell : r .at < s .cells
+
 -- the node of next larger key, where its cell is the one that has the slot
 next-is :
-    (b D k d : ℕ) (pre post : List Node) (to : Place) → Apart (headNode ∷ (pre ++ post)) → 0 < to .node .cell → slot.cellAfter b D k d post ≡ to .node .cell →
-    placeOf (to .node .cell) (places b D (pre ++ post)) ≡ some to → firstOf post .key ≡ to .node .key
+    (b D k d : ℕ) (pre post : List Node) {c : ℕ} {to : Place} → Apart (headNode ∷ (pre ++ post)) → 0 < c → slot.cellAfter b D k d post ≡ c →
+    placeOf c (places b D (pre ++ post)) ≡ some to → firstOf post .key ≡ to .node .key
 unfolding places
-next-is b D k d pre [] to o nz c found = absurd (omega arith)
-next-is b D k d pre (x ∷ post) to o nz c found =
-    let here : to .node .cell ≡ x .cell = sym c ∙ slot-first b D k d (x ∷ post) (λ e. omega arith) .1 in
+next-is b D k d pre [] o nz e found = absurd (omega arith)
+next-is b D k d pre (x ∷ post) {c} {to} o nz e found =
+    let here : c ≡ x .cell = sym e ∙ slot-first b D k d (x ∷ post) (λ z. omega arith) .1 in
     let at = place-at b D headNode 0 headNode 0 pre x post (apart-before (headNode ∷ pre) x post o) in
     let same : to ≡ record { node = x; dimension = dimensionAfter b D headNode pre (x .key); before = lastFrom headNode pre; beforeDimension = dimensionFrom b D headNode 0 pre; later = post } = cc in
     ap (λ p. p .node .key) (sym same)
 
-module _ (s : State) (v : Sound s) (k : ℕ) (least : 1 ≤ k) (most : k ≤ s .settings .largest) where
+module _ {s : State} (v : Sound s) {k : ℕ} (least : 1 ≤ k) {x : ℕ} {p : Place} (here : Placed s x p)
+    (h : Hangs (s .settings .base) (s .settings .dimensions) k p) where
+  -- parent and number of a slot, where k would hang from place p
+  hangs-parent : {pre middle post : List Node} → Sides k (s .row) pre middle post →
+      (x ≡ slotParent s k) × (shared (s .settings .base) (s .settings .dimensions) (p .node .key) k ≡ slotNumber s k)
+  hangs-parent sides =
+      let t = slot-at s v k least sides in
+      let is = hung-at v least sides here h in
+      (sym (t .parent ∙ is .1 ∙ placed-cell here), sym (t .number ∙ is .0))
+
   -- the cell in the slot, where k does not stand: where the parent's link leads
-  slot-leads : (absent : nodeAt k (s .row) ≡ none) (p : Place) → placeOf (p .node .cell) (places (s .settings .base) (s .settings .dimensions) (s .row)) ≡ some p →
-      Hangs (s .settings .base) (s .settings .dimensions) k p →
+  slot-leads : nodeAt k (s .row) ≡ none →
       slotCell s k ≡ firstSharing (s .settings .base) (s .settings .dimensions) (p .node .key) (shared (s .settings .base) (s .settings .dimensions) (p .node .key) k) (p .later)
   unfolding settledLinkAt
-  slot-leads absent p found h =
+  slot-leads absent =
       let b = s .settings .base in
       let D = s .settings .dimensions in
       let g = slot.gap k 0 (s .row) (v .ascends) absent in
       let sides = sides-absent g in
-      let is = hung-at s v k least sides p found h in
+      let is = hung-at v least sides here h in
       let a : Asc 0 (g .pre ++ g .post) = subst (Asc 0) (g .splits) (v .ascends) in
       let o : Apart (headNode ∷ (g .pre ++ g .post)) = subst (λ r. Apart (headNode ∷ r)) (g .splits) (slot.sound-apart s v) in
       slot-at s v k least sides .cell
@@ -87,129 +102,78 @@ module _ (s : State) (v : Sound s) (k : ℕ) (least : 1 ≤ k) (most : k ≤ s .
       (slot.slot-c b D (base-positive s v) (slot.dimensions-positive s v) k (g .pre) (g .post) least (asc-left 0 (g .pre) (g .post) a)
       (apart-left (headNode ∷ g .pre) (g .post) o) (g .below)
       (slot.gap-above k (lastFrom headNode (g .pre) .key) (g .post) (asc-last headNode (g .pre) (g .post) a) (g .above)))
-      ∙ ap₂ (λ d c. settledLinkAt b D d (placeOf c (places b D (g .pre ++ g .post)))) (is .0) (is .1)
-      ∙ ap (settledLinkAt b D (shared b D (p .node .key) k)) (subst (λ r. placeOf (p .node .cell) (places b D r) ≡ some p) (g .splits) found)
+      ∙ ap₂ (λ d c. settledLinkAt b D d (placeOf c (places b D (g .pre ++ g .post)))) (is .0) (is .1 ∙ placed-cell here)
+      ∙ ap (settledLinkAt b D (shared b D (p .node .key) k)) (subst (λ r. placeOf x (places b D r) ≡ some p) (g .splits) (here .found))
       ∙ settled-above b D p (shared b D (p .node .key) k) (h .dimension)
 
-  -- parent and number of a slot, where k would hang from place p
-  hangs-parent : {pre middle post : List Node} → Sides k (s .row) pre middle post → (p : Place) →
-      placeOf (p .node .cell) (places (s .settings .base) (s .settings .dimensions) (s .row)) ≡ some p → Hangs (s .settings .base) (s .settings .dimensions) k p →
-      (p .node .cell ≡ slotParent s k) × (shared (s .settings .base) (s .settings .dimensions) (p .node .key) k ≡ slotNumber s k)
-  hangs-parent sides p found h =
-      let t = slot-at s v k least sides in
-      let is = hung-at s v k least sides p found h in
-      (sym (t .parent ∙ is .1), sym (t .number ∙ is .0))
+module _ (s : State) (v : Sound s) (k : ℕ) (least : 1 ≤ k) (most : k ≤ s .settings .largest) (r : Rest) (is : r ≡ rest (picture s) k) where
+  looked-is : r .looked ≡ looked s k
+  looked-is = ap (λ t. t .looked) is ∙ rest-walk (picture s) k ∙ walk-looked s v k least most
 
-  module _ (r : Rest) (is : r ≡ rest (picture s) k) where
-    looked-is : r .looked ≡ looked s k
-    looked-is = ap (λ t. t .looked) is ∙ rest-looked (picture s) k ∙ walk-looked s v k least most
+  -- for want of a link
+  wanting-found : Wanting s k r → record { standing = false; parent = r .at; p = r .coordinate; c = 0; q = 0; looked = r .looked } ≡ foundOf s k
+  wanting-found w =
+      let t = hangs-parent v least (w .placed) (w .hangs) (sides-absent (slot.gap k 0 (s .row) (v .ascends) (w .absent))) in
+      let empty : slotCell s k ≡ 0 = slot-leads v least (w .placed) (w .hangs) (w .absent) ∙ rw (w .coordinate) at (w .leads) in
+      absent-is s k (w .absent) (t .0) (w .coordinate ∙ t .1) (sym empty) (rw (eq-eqb (slotCell s k) 0 empty) refl) looked-is
 
-    -- for want of a link
-    wanting-found : Wanting (s .settings .base) (s .settings .dimensions) k (s .row) r →
-        record { standing = false; parent = r .at; p = r .coordinate; c = 0; q = 0; looked = r .looked } ≡ foundOf s k
-    wanting-found w =
-        let h : Hangs (s .settings .base) (s .settings .dimensions) k (w .place) =
-        record { below = w .parent .below; dimension = w .parent .dimension; between = all-map (λ y f l. f (omega arith)) (w .place .later) (w .parent .between) } in
-        let t = hangs-parent (sides-absent (slot.gap k 0 (s .row) (v .ascends) (w .absent))) (w .place) (w .found) h in
-        let empty : slotCell s k ≡ 0 = slot-leads (w .absent) (w .place) (w .found) h ∙ w .leads in
-        absent-is s k (w .absent) (w .at ∙ t .0) (w .coordinate ∙ t .1) (sym empty) (rw (eq-eqb (slotCell s k) 0 empty) refl) looked-is
+  -- after a last move
+  moved-present : (m : Moved s k r) → m .to .node .key ≡ k →
+      record { standing = true; parent = r .from; p = r .number; c = r .at; q = s .settings .dimensions; looked = r .looked } ≡ foundOf s k
+  moved-present m e =
+      let split = node-split k (m .to .node) (s .row) (m .present e) in
+      let t = hangs-parent v least (m .placed) (m .hangs) (sides-present (split .0) (m .to .node) (split .1) (v .ascends) e (split .2)) in
+      present-is s k (m .present e) (t .0) (m .number ∙ t .1) (sym (placed-cell (m .to-placed))) refl looked-is
 
-    -- after a last move
-    moved-hangs : (m : Moved (s .settings .base) (s .settings .dimensions) k (s .row) r) → Hangs (s .settings .base) (s .settings .dimensions) k (m .place)
-    moved-hangs m =
-        record { below = m .below; dimension = m .dimension; between = all-map (λ y f l. f (let h = m .reached in omega arith)) (m .place .later) (m .passed) }
+  moved-absent : (m : Moved s k r) → k < m .to .node .key →
+      record { standing = false; parent = r .from; p = r .number; c = r .at; q = r .coordinate; looked = r .looked } ≡ foundOf s k
+  moved-absent m above =
+      let b = s .settings .base in
+      let D = s .settings .dimensions in
+      let absent = m .absent above in
+      let g = slot.gap k 0 (s .row) (v .ascends) absent in
+      let sides = sides-absent g in
+      let t = hangs-parent v least (m .placed) (m .hangs) sides in
+      let is = slot-at s v k least sides in
+      let held : slotCell s k ≡ r .at = slot-leads v least (m .placed) (m .hangs) absent ∙ rw (m .number) at (m .leads) in
+      let other = placed-other v (m .to-placed) (omega arith) in
+      let next : firstOf (g .post) .key ≡ m .to .node .key =
+      next-is b D k (dimensionAfter b D headNode (g .pre) k) (g .pre) (g .post)
+      (subst (λ r. Apart (headNode ∷ r)) (g .splits) (slot.sound-apart s v)) other (sym (is .cell) ∙ held)
+      (subst (λ row. placeOf (r .at) (places b D row) ≡ some (m .to)) (g .splits) (m .to-placed .found)) in
+      let some-c : slotCell s k ≡ 0 → ⊥ = (λ e. omega arith) in
+      let less = shared-less b D (m .to .node .key) k (slot.dimensions-positive s v) (omega arith) in
+      let shares : slotShared s k ≡ shared b D (m .to .node .key) k = is .shares ∙ ap (shared b D k) next ∙ shared-sym b D k (m .to .node .key) in
+      let q : r .coordinate ≡ slotShared s k = (let c = m .coordinate in omega arith) in
+      absent-is s k absent (t .0) (m .number ∙ t .1) (sym held) (rw (ne-eqb (slotCell s k) 0 some-c) q) looked-is
 
-    moved-present : (m : Moved (s .settings .base) (s .settings .dimensions) k (s .row) r) → m .to .node .key ≡ k →
-        record { standing = true; parent = r .from; p = r .number; c = r .at; q = s .settings .dimensions; looked = r .looked } ≡ foundOf s k
-    moved-present m e =
-        let split = node-split k (m .to .node) (s .row) (m .present e) in
-        let t = hangs-parent (sides-present (split .0) (m .to .node) (split .1) (v .ascends) e (split .2)) (m .place) (m .found) (moved-hangs m) in
-        present-is s k (m .present e) (m .from ∙ t .0) (m .number ∙ t .1) (m .at) refl looked-is
-
-    moved-absent : (m : Moved (s .settings .base) (s .settings .dimensions) k (s .row) r) → k < m .to .node .key →
-        record { standing = false; parent = r .from; p = r .number; c = r .at; q = r .coordinate; looked = r .looked } ≡ foundOf s k
-    moved-absent m above =
-        let b = s .settings .base in
-        let D = s .settings .dimensions in
-        let absent = m .absent above in
-        let g = slot.gap k 0 (s .row) (v .ascends) absent in
-        let sides = sides-absent g in
-        let t = hangs-parent sides (m .place) (m .found) (moved-hangs m) in
-        let is = slot-at s v k least sides in
-        let held : slotCell s k ≡ m .to .node .cell = slot-leads absent (m .place) (m .found) (moved-hangs m) ∙ m .leads in
-        let other : 0 < m .to .node .cell =
-        placed-node {s = s} (record { found = m .to-found }) (λ y. 0 < y .key → 0 < y .cell) (λ h. h) (all-map (λ y h n. h .0) (s .row) (row-range s v)) (omega arith) in
-        let next : firstOf (g .post) .key ≡ m .to .node .key =
-        next-is b D k (dimensionAfter b D headNode (g .pre) k) (g .pre) (g .post) (m .to)
-        (subst (λ r. Apart (headNode ∷ r)) (g .splits) (slot.sound-apart s v)) other (sym (is .cell) ∙ held)
-        (subst (λ r. placeOf (m .to .node .cell) (places b D r) ≡ some (m .to)) (g .splits) (m .to-found)) in
-        let some-c : slotCell s k ≡ 0 → ⊥ = (λ e. omega arith) in
-        let less = shared-less b D (m .to .node .key) k (slot.dimensions-positive s v) (omega arith) in
-        let shares : slotShared s k ≡ shared b D (m .to .node .key) k = is .shares ∙ ap (shared b D k) next ∙ shared-sym b D k (m .to .node .key) in
-        let q : r .coordinate ≡ slotShared s k = (let c = m .coordinate in omega arith) in
-        absent-is s k absent (m .from ∙ t .0) (m .number ∙ t .1) (m .at ∙ sym held) (rw (ne-eqb (slotCell s k) 0 some-c) q) looked-is
-
-    -- which of the three it is, by the key of the cell at hand
-
-    rested : Wanting (s .settings .base) (s .settings .dimensions) k (s .row) r ⊎ Moved (s .settings .base) (s .settings .dimensions) k (s .row) r
-    rested = subst (λ t. Wanting (s .settings .base) (s .settings .dimensions) k (s .row) t ⊎ Moved (s .settings .base) (s .settings .dimensions) k (s .row) t) (sym is) (rests s v k least most)
-
-    wanting-key : (w : Wanting (s .settings .base) (s .settings .dimensions) k (s .row) r) → keyAt (picture s) (r .at) ≡ w .place .node .key
-    wanting-key w = ap (keyAt (picture s)) (w .at) ∙ place-key v {x = w .place .node .cell} (record { found = w .found })
-
-    moved-key : (m : Moved (s .settings .base) (s .settings .dimensions) k (s .row) r) → keyAt (picture s) (r .at) ≡ m .to .node .key
-    moved-key m = ap (keyAt (picture s)) (m .at) ∙ place-key v {x = m .to .node .cell} (record { found = m .to-found })
-
-    pub rest-below : keyAt (picture s) (r .at) < k → record { standing = false; parent = r .at; p = r .coordinate; c = 0; q = 0; looked = r .looked } ≡ foundOf s k
-    rest-below h = at rested
-      where
-        at : Wanting (s .settings .base) (s .settings .dimensions) k (s .row) r ⊎ Moved (s .settings .base) (s .settings .dimensions) k (s .row) r →
-            record { standing = false; parent = r .at; p = r .coordinate; c = 0; q = 0; looked = r .looked } ≡ foundOf s k
-        at (inl w) = wanting-found w
-        at (inr m) = absurd (omega (arith, moved-key m, m .reached))
-
-    pub rest-above : k < keyAt (picture s) (r .at) → record { standing = false; parent = r .from; p = r .number; c = r .at; q = r .coordinate; looked = r .looked } ≡ foundOf s k
-    rest-above h = at rested
-      where
-        at : Wanting (s .settings .base) (s .settings .dimensions) k (s .row) r ⊎ Moved (s .settings .base) (s .settings .dimensions) k (s .row) r →
-            record { standing = false; parent = r .from; p = r .number; c = r .at; q = r .coordinate; looked = r .looked } ≡ foundOf s k
-        at (inl w) = absurd (omega (arith, wanting-key w, w .parent .below))
-        at (inr m) = moved-absent m (omega (arith, moved-key m))
-
-    pub rest-here : keyAt (picture s) (r .at) ≡ k →
-        record { standing = true; parent = r .from; p = r .number; c = r .at; q = s .settings .dimensions; looked = r .looked } ≡ foundOf s k
-    rest-here h = at rested
-      where
-        at : Wanting (s .settings .base) (s .settings .dimensions) k (s .row) r ⊎ Moved (s .settings .base) (s .settings .dimensions) k (s .row) r →
-            record { standing = true; parent = r .from; p = r .number; c = r .at; q = s .settings .dimensions; looked = r .looked } ≡ foundOf s k
-        at (inl w) = absurd (omega (arith, wanting-key w, w .parent .below))
-        at (inr m) = moved-present m (omega (arith, moved-key m))
-
-    -- it is a cell of the list
-    pub rest-cell : r .at < s .settings .cells
-    rest-cell = at rested
-      where
-        at : Wanting (s .settings .base) (s .settings .dimensions) k (s .row) r ⊎ Moved (s .settings .base) (s .settings .dimensions) k (s .row) r → r .at < s .settings .cells
-        at (inl w) = omega (arith, w .at, placed-below v {x = w .place .node .cell} (record { found = w .found }))
-        at (inr m) = omega (arith, m .at, placed-below v {x = m .to .node .cell} (record { found = m .to-found }))
+  -- which of the three it is
+  pub rest-answers : Answers s (s .settings) k (keyAt (picture s) (r .at)) r
+  rest-answers = at (subst (λ t. Wanting s k t ⊎ Moved s k t) (sym is) (rests s v k least most))
+    where
+      at : Wanting s k r ⊎ Moved s k r → Answers s (s .settings) k (keyAt (picture s) (r .at)) r
+      at (inl w) =
+          let key = place-key v (w .placed) in
+          record {
+            below = λ h. wanting-found w;
+            above = λ h. absurd (omega (arith, w .hangs .below));
+            here = λ h. absurd (omega (arith, w .hangs .below));
+            cell = placed-below v (w .placed);
+          }
+      at (inr m) =
+          let key = place-key v (m .to-placed) in
+          record {
+            below = λ h. absurd (omega (arith, m .reached));
+            above = λ h. moved-absent m (omega arith);
+            here = λ h. moved-present m (sym key ∙ h);
+            cell = placed-below v (m .to-placed);
+          }
 
 -- On a list, as the code has it: r is where the walk rests, and `key` the key of the cell at hand
-
-module _ {ws : List ℕ} {s : Settings} (h : Listed ws s) (k : ℕ) (least : 1 ≤ k) (most : k ≤ s .largest) {r : Rest} (is : r ≡ rest ws k) where
-  pub found-below : {key : ℕ} → key ≡ keyAt ws (r .at) → key < k → record { standing = false; parent = r .at; p = r .coordinate; c = 0; q = 0; looked = r .looked } ≡ foundOf (read ws) k
-  found-below e l =
-      on-listed (λ t ws u. k ≤ u .largest → r ≡ rest ws k → keyAt ws (r .at) < k → record { standing = false; parent = r .at; p = r .coordinate; c = 0; q = 0; looked = r .looked } ≡ foundOf t k)
-      (λ t v m q. rest-below t v k least m r q) h most is (omega arith)
-
-  pub found-above : {key : ℕ} → key ≡ keyAt ws (r .at) → k < key → record { standing = false; parent = r .from; p = r .number; c = r .at; q = r .coordinate; looked = r .looked } ≡ foundOf (read ws) k
-  found-above e l =
-      on-listed (λ t ws u. k ≤ u .largest → r ≡ rest ws k → k < keyAt ws (r .at) → record { standing = false; parent = r .from; p = r .number; c = r .at; q = r .coordinate; looked = r .looked } ≡ foundOf t k)
-      (λ t v m q. rest-above t v k least m r q) h most is (omega arith)
-
-  pub found-here : {key : ℕ} → key ≡ keyAt ws (r .at) → key ≡ k → record { standing = true; parent = r .from; p = r .number; c = r .at; q = s .dimensions; looked = r .looked } ≡ foundOf (read ws) k
-  found-here e l =
-      on-listed (λ t ws u. k ≤ u .largest → r ≡ rest ws k → keyAt ws (r .at) ≡ k → record { standing = true; parent = r .from; p = r .number; c = r .at; q = u .dimensions; looked = r .looked } ≡ foundOf t k)
-      (λ t v m q. rest-here t v k least m r q) h most is (omega arith)
-
-  pub found-cell : r .at < s .cells
-  found-cell = on-listed (λ t ws u. k ≤ u .largest → r ≡ rest ws k → r .at < u .cells) (λ t v m q. rest-cell t v k least m r q) h most is
+pub answers :
+    {ws : List ℕ} {s : Settings} → Listed ws s → (k : ℕ) → 1 ≤ k → k ≤ s .largest → {r : Rest} → r ≡ rest ws k → {key : ℕ} → key ≡ keyAt ws (r .at) →
+    Answers (read ws) s k key r
+answers h k least most {r} is e =
+    rw e
+    (on-listed (λ t ws u. k ≤ u .largest → r ≡ rest ws k → Answers t u k (keyAt ws (r .at)) r) (λ t v m q. rest-answers t v k least m r q)
+    h most is)

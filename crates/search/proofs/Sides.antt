@@ -4,7 +4,6 @@
 use mathlib.Core.Path.{_≡_, refl, sym, ap, ap₂, _∙_, subst}
 use mathlib.Core.Bool.{Bool, true, false, cond}
 use mathlib.Core.List.{List, [], _∷_, _++_, append-nil}
-use mathlib.Core.Option.{some}
 use Prim.Native.Nat.{ℕ, suc, _≤_, _<_}
 use native.Mathlib.Omega.{arith}
 use lib.Dec.{leb, ltb}
@@ -13,17 +12,18 @@ use Rattle.lists.specs.Lists.{those}
 use Rattle.lists.proofs.Those.{those-all, those-none, those-append}
 use Rattle.lists.proofs.All.{All, all-map, all-append, all-left, all-zip}
 use Rattle.meaning.specs.Keys.{shared}
-use Rattle.meaning.specs.Row.{Node, headNode, firstOf, Place, placesAfter, places, placeOf}
+use Rattle.meaning.specs.Row.{Node, headNode, firstOf, Place, placesAfter, places}
 use Rattle.meaning.specs.State.{State}
 use Rattle.meaning.specs.Picture.{firstWith}
 use Rattle.meaning.specs.Operations.{lastOf}
 use Rattle.meaning.proofs.Order.{Asc, asc-above}
 use Rattle.meaning.proofs.Keys.{shared-same, shared-less, ultra}
 use Rattle.meaning.proofs.State.{Sound, base-positive}
-use Rattle.meaning.proofs.Picture.{Told, told}
 use Rattle.meaning.proofs.Places.{asc-left, asc-smaller, asc-larger, places-nodes, lastFrom}
-use Rattle.meaning.proofs.Parent.{dimensionAfter, parentAfter, placesFrom, all-last, last-least, last-greatest, first-skips, first-hits, first-front}
+use Rattle.meaning.proofs.Parent.{dimension-least, dimensionAfter, parentAfter, placesFrom, all-last, last-least, last-greatest, first-skips, first-hits, first-front}
 use Rattle.meaning.proofs.Slot as slot
+use Rattle.meaning.proofs.Placed.{Placed, placed-has}
+use Rattle.meaning.proofs.WalkStop.{Hangs}
 use Rattle.search.specs.Found.{smallerThan, largerThan, slotNumber, slotParent, slotShared, slotCell}
 
 -- The nodes below k, at k and above it
@@ -131,26 +131,7 @@ slot-at s v k h {pre} {middle} {post} g =
 
 -- Where k hangs
 
--- k would hang from place p: p's link of the number of coordinates that it shares with k is one of its own, and every later node below k
--- shares more with it
-pub record Hangs (b D k : ℕ) (p : Place) : Type 0 where
-  pub below : p .node .key < k
-  pub dimension : p .dimension ≤ shared b D (p .node .key) k
-  pub between : All (λ y. y .key < k → shared b D (p .node .key) k < shared b D (p .node .key) (y .key)) (p .later)
-
 module _ (b D : ℕ) (pos : 0 < b) (deep : 0 < D) where
-  -- a place shares no more with an earlier node than its dimension
-  dimension-least : (y : Node) (e : ℕ) (row : List Node) → Asc (y .key) row → All (λ p. shared b D (y .key) (p .node .key) ≤ p .dimension) (placesAfter b D y e row)
-  unfolding placesAfter
-  dimension-least y e [] a = tt
-  dimension-least y e (z ∷ row) a =
-      let f = shared b D (y .key) (z .key) in
-      let h = a .0 in (
-        omega arith,
-        all-zip (λ p l g. omega (arith, l, ultra b D (y .key) (z .key) (p .node .key) pos (omega arith) (omega arith))) (placesAfter b D z f row)
-            (dimension-least z f row (a .1)) (places-nodes (λ x. z .key < x .key) b D z f row (asc-above (z .key) row (a .1))),
-      )
-
   -- where y and the nodes `pre` are below k and the `rest` is not, each place from which k would hang is the parent
   hung :
       (k : ℕ) (w : Node) (f : ℕ) (y : Node) (e : ℕ) (pre rest : List Node) → y .key < k → Asc (y .key) (pre ++ rest) → All (λ z. z .key < k) pre → All (λ z. k ≤ z .key) rest →
@@ -198,7 +179,7 @@ module _ (b D : ℕ) (pos : 0 < b) (deep : 0 < D) where
       known : All Known (placesAfter b D y e later)
       known =
           all-zip (λ p m n. (m, n)) (placesAfter b D y e later) (places-nodes (λ x. y .key < x .key) b D y e later (asc-above (y .key) later a))
-          (all-zip (λ p m n. (m, n)) (placesAfter b D y e later) (places-nodes (λ x. x .key < k → x .key ≤ A .key) b D y e later reach) (dimension-least y e later a))
+          (all-zip (λ p m n. (m, n)) (placesAfter b D y e later) (places-nodes (λ x. x .key < k → x .key ≤ A .key) b D y e later reach) (dimension-least b D pos y e later a))
 
       -- y comes before the place p, and so shares too little
       past : (p : Place) → Known p → Hangs b D k p → Is (z ∷ pre) p → Is (y ∷ z ∷ pre) p
@@ -208,13 +189,12 @@ module _ (b D : ℕ) (pos : 0 < b) (deep : 0 < D) where
           (is .0, first-skips b D (A .key) (suc (shared b D (A .key) k)) y (z ∷ pre) (omega (arith, u, is .0, m .1 .1, t .dimension)) ∙ is .1)
 
 -- In a state in order, a place from which k would hang is the parent of k's slot, and its link that is wanted has the slot's number.
-pub hung-at : (s : State) → Sound s → (k : ℕ) → 0 < k → {pre middle post : List Node} → Sides k (s .row) pre middle post → (p : Place) →
-    placeOf (p .node .cell) (places (s .settings .base) (s .settings .dimensions) (s .row)) ≡ some p → Hangs (s .settings .base) (s .settings .dimensions) k p →
+pub hung-at : {s : State} → Sound s → {k : ℕ} → 0 < k → {pre middle post : List Node} → Sides k (s .row) pre middle post → {x : ℕ} {p : Place} →
+    Placed s x p → Hangs (s .settings .base) (s .settings .dimensions) k p →
     (dimensionAfter (s .settings .base) (s .settings .dimensions) headNode pre k ≡ shared (s .settings .base) (s .settings .dimensions) (p .node .key) k)
     × (parentAfter (s .settings .base) (s .settings .dimensions) headNode pre k ≡ p .node .cell)
 unfolding places
-hung-at s v k h {pre} {middle} {post} g p found t =
-    subst (Told Is (p .node .cell)) found (told Is (p .node .cell) (places b D (s .row)) (subst (λ row. All Is (places b D row)) (sym (g .splits)) all)) .1 t
+hung-at {s} v {k} h {pre} {middle} {post} g here = placed-has here Is (subst (λ row. All Is (places b D row)) (sym (g .splits)) all)
   where
     b : ℕ
     b = s .settings .base

@@ -13,7 +13,7 @@ use lib.ListN.{getD}
 use borrow.Author.Tests.{lt-ltb, le-ltb, eq-eqb, ne-eqb}
 use Rattle.settings.specs.Numbers.{headerWords}
 use Rattle.lists.proofs.Occurrences.{Distinct}
-use Rattle.lists.proofs.All.{All, all-map, all-each, all-zip, all-of-map}
+use Rattle.lists.proofs.All.{All, all-map, all-zip, all-of-map}
 use Rattle.meaning.specs.Keys.{shared}
 use Rattle.meaning.specs.Row.{Node, headNode, Place, headPlace, placesAfter, places}
 use Rattle.meaning.specs.Picture.{firstWith}
@@ -32,12 +32,6 @@ Stands key (x ∷ row) = (x .key ≡ key) ⊎ Stands key row
 -- The first node that shares n coordinates with a key
 
 module _ (b D : ℕ) where
-  -- it is the same for keys that share n coordinates
-  first-same : 0 < b → (key other n : ℕ) → n ≤ shared b D key other → (row : List Node) → firstWith b D key n row ≡ firstWith b D other n row
-  first-same pos key other n h row =
-      first-alike b D key other n row
-      (all-each (λ x. omega (arith, h, triangle b D (x .key) other key pos, triangle b D (x .key) key other pos, shared-sym b D key other)) row)
-
   -- it is not a cell c if what has that cell shares less
   first-other : (key n c : ℕ) → n ≤ D → (row : List Node) → Stands key row → All (λ x. x .cell ≡ c → shared b D (x .key) key < n) row →
       firstWith b D key n row ≡ c → ⊥
@@ -92,7 +86,7 @@ module _ (ws : List ℕ) (b key : ℕ) (all : List Node) (pos : 0 < b) (stands :
         here = λ d h l.
             let le = shared-le b D (p .node .key) key in
             words d (omega arith)
-            ∙ sym (first-same b D pos (p .node .key) key (suc d) l all)
+            ∙ sym (first-alike b D pos (p .node .key) key (suc d) l all)
             ∙ way d h (omega arith);
         apart = λ d h l is.
             first-other b D key (suc d) (p .node .cell) l all stands

@@ -2,7 +2,7 @@
 -- path that the walk builds. The functions on words are the ones that the code follows.
 use mathlib.Core.Path.{_≡_}
 use mathlib.Core.Bool.{cond}
-use mathlib.Core.List.{List, _∷_, _++_, map}
+use mathlib.Core.List.{List, [], _∷_, _++_, map}
 use Prim.Native.Nat.{ℕ, zero, suc, _-_}
 use lib.Dec.{eqb}
 use lib.ListN.{getD, take, replicate}
@@ -10,8 +10,7 @@ use Rattle.lists.specs.Lists.{numbersFrom}
 use Rattle.meaning.specs.Row.{Node, headNode, placeOf}
 use Rattle.meaning.specs.State.{State, placesOf}
 use Rattle.meaning.specs.Picture.{firstWith}
-use Rattle.meaning.specs.Words.{dimensionsAt}
-use Rattle.meaning.specs.Walk.{linkRead, stepAt}
+use Rattle.meaning.specs.Walk.{linkRead}
 use Rattle.meaning.specs.Operations.{dimensionAt, lastOf}
 use Rattle.meaning.specs.declared.Step.{Step}
 use Rattle.meaning.specs.declared.Step.the-variants.{Go, Up, End}
@@ -46,14 +45,9 @@ nextFrom ws path (suc d) =
     let y = linkRead ws (getD path d 0) d in
     cond (eqb y 0) (nextFrom ws path d) (record { cell = y; number = d })
 
--- the path after a step from cell x and coordinate d, if the rest of the walk makes it `further`
-abbrev pub pathAfter : (List ℕ → ℕ → ℕ → List ℕ) → ℕ → List ℕ → ℕ → ℕ → Step → List ℕ
-pathAfter further D path x d (Go y) = further (onward D path d y) y d
-pathAfter further D path x d Up = further path x (suc d)
-pathAfter further D path x d End = path
-
--- The path that the walk for k from cell x and coordinate d builds on a path, in at most `fuel` steps: where it goes to a cell, that cell
--- from the coordinate at hand on.
-unfoldable pub pathAlong : ℕ → List ℕ → ℕ → List ℕ → ℕ → ℕ → List ℕ
-pathAlong zero ws k path x d = path
-pathAlong (suc fuel) ws k path x d = pathAfter (pathAlong fuel ws k) (dimensionsAt ws) path x d (stepAt ws k x d)
+-- The path that steps from coordinate d on build on a path of D words: where they go to a cell, that cell from the coordinate at hand on.
+unfoldable pub pathOver : ℕ → List ℕ → ℕ → List Step → List ℕ
+pathOver D path d [] = path
+pathOver D path d (Go y ∷ steps) = pathOver D (onward D path d y) d steps
+pathOver D path d (Up ∷ steps) = pathOver D path (suc d) steps
+pathOver D path d (End ∷ steps) = path
