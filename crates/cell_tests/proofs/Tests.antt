@@ -13,7 +13,7 @@ use borrow.Author.Tests.{not-true, not-false, lt-ltb, le-ltb, eq-eqb}
 use borrow.Rule.Slice.PartMut.{midOf}
 use Rattle.settings.specs.Numbers.{cellWords}
 use Rattle.settings.specs.declared.Settings.{Settings}
-use Rattle.lists.specs.Lists.{allZero}
+use Rattle.lists.specs.Zeros.{allZero}
 use Rattle.meaning.specs.Words.{wordIndex, wordAt, keyAt, valueAt, markAt, coordinateAt, dimensionsAt, cellsAt}
 use Rattle.words.specs.Shaped.{Shaped}
 use Rattle.words.proofs.Shaped.{shaped-dimensions, shaped-cells, part-inside, part-words}

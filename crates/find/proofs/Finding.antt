@@ -57,9 +57,11 @@ module _ {ws : List ℕ} {s : Settings} (h : Listed ws s) (key : ℕ) (least : 1
       ∙ ap (λ o. o .answered) (sym (find-outcome-dead t v key least l x (a .node) (mark-other (x .live) (λ z. dead (r ∙ mark-read v a ∙ z))))))
       h most is reads
 
-  pub find-live : f .standing ≡ true → {m value : ℕ} → m ≡ markAt ws (f .c) → m ≡ 1 → value ≡ valueAt ws (f .c) → answer 0 key value (f .looked) ≡ findOut ws key .answered
+  pub find-live : f .standing ≡ true → {m value : ℕ} → m ≡ markAt ws (f .c) → m ≡ 1 → value ≡ valueAt ws (f .c) →
+      answer 0 key value (f .looked) ≡ findOut ws key .answered
   find-live e {m} {value} reads live valued =
-      on-listed (λ t ws s. key ≤ s .largest → f ≡ foundOf t key → m ≡ markAt ws (f .c) → value ≡ valueAt ws (f .c) → answer 0 key value (f .looked) ≡ findOut ws key .answered)
+      on-listed (λ t ws s. key ≤ s .largest → f ≡ foundOf t key → m ≡ markAt ws (f .c) → value ≡ valueAt ws (f .c) →
+          answer 0 key value (f .looked) ≡ findOut ws key .answered)
       (λ t v l q r w.
       let (x, a) = found-standing v least q e in
       ap₂ (answer 0 key) (w ∙ value-read v a) (a .looked)

@@ -47,7 +47,8 @@ alike-below {D} {cells} a i h = a .same i (all-each (λ c e. index-above D c 1 i
 
 -- the same store in both
 alike-set : {D : ℕ} {cells us ws : List ℕ} → Alike D cells us ws → (i v : ℕ) → Alike D cells (set us i v) (set ws i v)
-alike-set {D} {cells} {us} {ws} a i v = record { size = length-set us i v ∙ a .size ∙ sym (length-set ws i v); same = λ k h. at k h (ℕ-discrete k i) (decLt i (length us)) }
+alike-set {D} {cells} {us} {ws} a i v = record { size = length-set us i v ∙ a .size ∙ sym (length-set ws i v);
+    same = λ k h. at k h (ℕ-discrete k i) (decLt i (length us)) }
   where
     at : (k : ℕ) → All (λ c. k ≡ wordIndex D c 1 → ⊥) cells → Dec (k ≡ i) → Dec (i < length us) → getD (set us i v) k 0 ≡ getD (set ws i v) k 0
     at k h (yes e) (yes l) =
@@ -64,7 +65,8 @@ alike-sets a i (v ∷ vs) = alike-sets (alike-set a i v) (suc i) vs
 
 -- The stores of a sweep in both
 
-alike-taken : {D : ℕ} {cells us ws : List ℕ} → Alike D cells us ws → (x : ℕ) (path : List ℕ) (d k : ℕ) → d + k ≤ D → Alike D cells (takeLinks D us x path d k) (takeLinks D ws x path d k)
+alike-taken : {D : ℕ} {cells us ws : List ℕ} → Alike D cells us ws → (x : ℕ) (path : List ℕ) (d k : ℕ) → d + k ≤ D →
+    Alike D cells (takeLinks D us x path d k) (takeLinks D ws x path d k)
 unfolding takeLinks
 alike-taken a x path d zero h = a
 alike-taken {D} {cells} {us} {ws} a x path d (suc k) h =
@@ -81,11 +83,13 @@ alike-relinked {D} a x z = alike-sets a (wordIndex D 0 (linkField D z)) (x ∷ r
 alike-cell : {D : ℕ} {cells us ws : List ℕ} → Alike D cells us ws → (x : ℕ) → Alike D cells (freeCell D us x) (freeCell D ws x)
 unfolding freeCell
 alike-cell {D} {cells} {us} {ws} a x =
-    alike-set (subst (λ v. Alike D cells (sets us (wordIndex D x 0) (freeWords D (firstFreeAt us))) (sets ws (wordIndex D x 0) (freeWords D v))) (alike-below a 4 (omega arith))
+    alike-set (subst (λ v. Alike D cells (sets us (wordIndex D x 0) (freeWords D (firstFreeAt us))) (sets ws (wordIndex D x 0) (freeWords D v)))
+        (alike-below a 4 (omega arith))
     (alike-sets a (wordIndex D x 0) (freeWords D (firstFreeAt us)))) 4 x
 
 -- a cell that becomes free has the same value word too
-alike-freed : {D C x : ℕ} {cells us ws : List ℕ} → Exact D C us → Exact D C ws → x < C → Alike D (x ∷ cells) us ws → Alike D cells (freeCell D us x) (freeCell D ws x)
+alike-freed : {D C x : ℕ} {cells us ws : List ℕ} → Exact D C us → Exact D C ws → x < C → Alike D (x ∷ cells) us ws →
+    Alike D cells (freeCell D us x) (freeCell D ws x)
 alike-freed {D} {C} {x} {cells} {us} {ws} u w h a = record { size = alike-cell a x .size; same = λ i others. at i others (ℕ-discrete i (wordIndex D x 1)) }
   where
     at : (i : ℕ) → All (λ c. i ≡ wordIndex D c 1 → ⊥) cells → Dec (i ≡ wordIndex D x 1) → getD (freeCell D us x) i 0 ≡ getD (freeCell D ws x) i 0
@@ -95,7 +99,8 @@ alike-freed {D} {C} {x} {cells} {us} {ws} u w h a = record { size = alike-cell a
     at i others (no ne) = alike-cell a x .same i (ne, others)
 
 -- so once all are free, the words are the same
-freeAll-alike : {D C : ℕ} {us ws : List ℕ} → Exact D C us → Exact D C ws → (cells : List ℕ) → All (λ c. c < C) cells → Alike D cells us ws → freeAll D us cells ≡ freeAll D ws cells
+freeAll-alike : {D C : ℕ} {us ws : List ℕ} → Exact D C us → Exact D C ws → (cells : List ℕ) → All (λ c. c < C) cells → Alike D cells us ws →
+    freeAll D us cells ≡ freeAll D ws cells
 unfolding freeAll
 freeAll-alike {us = us} {ws = ws} u w [] below a = ext-getD 0 us ws (a .size) (λ i h. a .same i tt)
 freeAll-alike u w (x ∷ cells) below a = freeAll-alike (exact-freed u x) (exact-freed w x) cells (below .1) (alike-freed u w (below .0) a)
@@ -141,7 +146,8 @@ chain-chained {D} {C} {ws} exact (x ∷ y ∷ cells) apart below = (
 )
 
 -- once the first is free, the others are still chained
-chained-past : (D : ℕ) (ws : List ℕ) (x y : ℕ) (cells : List ℕ) → Distinct (x ∷ y ∷ cells) → Chained D ws (x ∷ y ∷ cells) → Chained D (freeCell D ws x) (y ∷ cells)
+chained-past : (D : ℕ) (ws : List ℕ) (x y : ℕ) (cells : List ℕ) → Distinct (x ∷ y ∷ cells) → Chained D ws (x ∷ y ∷ cells) →
+    Chained D (freeCell D ws x) (y ∷ cells)
 chained-past D ws x y cells apart chained =
     chained-same D (freeCell D ws x) ws (y ∷ cells)
     (all-map (λ c ne. freeCell-cell D ws x c 1 (omega arith) (λ e. ne (sym e))) (y ∷ cells) (apart .0)) (chained .1)
@@ -156,7 +162,8 @@ freeChained-is D ws (x ∷ y ∷ cells) apart chained =
     ∙ freeChained-is D (freeCell D ws x) (y ∷ cells) (apart .1) (chained-past D ws x y cells apart chained)
 
 -- .. and each of them is the list's when it becomes free
-chained-in : (s : Settings) (ws cells : List ℕ) → Distinct cells → All (λ c. c < s .cells) cells → Chained (s .dimensions) ws cells → ChainIn s ws (firstNumber cells) (length cells)
+chained-in : (s : Settings) (ws cells : List ℕ) → Distinct cells → All (λ c. c < s .cells) cells → Chained (s .dimensions) ws cells →
+    ChainIn s ws (firstNumber cells) (length cells)
 chained-in s ws [] apart below chained = tt
 chained-in s ws (x ∷ []) apart below chained = (below .0, tt)
 chained-in s ws (x ∷ y ∷ cells) apart below chained =

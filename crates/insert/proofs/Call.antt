@@ -31,7 +31,8 @@ use Rattle.meaning.proofs.Picture.{picture-free, path-length}
 use Rattle.meaning.proofs.Reading.{mark-live}
 use Rattle.meaning.proofs.Placed.{place-mark}
 use Rattle.meaning.proofs.BookRow.{node-key}
-use Rattle.meaning.proofs.Stores.{Exact, picture-exact, exact-set, exact-sets, exact-finished, header-set-path, store-below, cell-sets-below, path-sets-same, finishWords-below}
+use Rattle.meaning.proofs.Stores.{Exact, picture-exact, exact-set, exact-sets, exact-finished, header-set-path, store-below, cell-sets-below}
+use Rattle.meaning.proofs.Stores.{path-sets-same, finishWords-below}
 use Rattle.meaning.proofs.Changed.{picture-path-word}
 use Rattle.meaning.proofs.KeepsFinish.{finished-sound}
 use Rattle.meaning.proofs.KeepsInsert.{revived-sound, added-sound}
@@ -115,7 +116,8 @@ module _ {t : State} (v : Sound t) {key : ℕ} {x : Node} {f : Found} (found : P
               lowered = λ h. revived-lowered value (omega (arith, same));
               kept = λ h. revived-words-above t x value v node (omega (arith, same));
             });
-        outcome = insert-outcome-dead t v key value least most x (found .node) dead ∙ ap (λ n. accepted key 0 n (picture (revived t x value))) (sym (found .looked));
+        outcome = insert-outcome-dead t v key value least most x (found .node) dead
+            ∙ ap (λ n. accepted key 0 n (picture (revived t x value))) (sym (found .looked));
       }
     where
       settings : revived t x value .settings ≡ t .settings
@@ -162,7 +164,8 @@ same-words b D key value n {f} {t} g = at (ℕ-discrete (f .c) 0)
     at (yes z) = rw (← g .c, eq-eqb (f .c) 0 z) refl
     at (no ne) = rw (← g .c, ← g .p, ← g .q ne) refl
 
-same-slot : (b D : ℕ) (ws : List ℕ) (key value n : ℕ) {f : Found} {t : Slot} → SlotFound f t → n ≡ t .n → insertWords b D ws key value (slotOf n f) ≡ insertWords b D ws key value t
+same-slot : (b D : ℕ) (ws : List ℕ) (key value n : ℕ) {f : Found} {t : Slot} → SlotFound f t → n ≡ t .n →
+    insertWords b D ws key value (slotOf n f) ≡ insertWords b D ws key value t
 unfolding insertWords
 same-slot b D ws key value n g e = rw (same-words b D key value n g, g .parent, g .p, g .c, e) refl
 
@@ -179,13 +182,15 @@ new-written h ws key value n f pays reads writes links = rw (links, writes, read
 
 exact-inserted : {D C : ℕ} {ws : List ℕ} → Exact D C ws → (b key value : ℕ) (t : Slot) → Exact D C (insertWords b D ws key value t)
 unfolding insertWords
-exact-inserted {D} {C} {ws} exact b key value t = exact-set (exact-sets (exact-set (at (eqb (t .c) 0)) 4 _) (wordIndex D (t .n) 0) (newWords b D key value t)) (wordIndex D (t .parent) (linkField D (t .p))) (t .n)
+exact-inserted {D} {C} {ws} exact b key value t = exact-set (exact-sets (exact-set (at (eqb (t .c) 0)) 4 _) (wordIndex D (t .n) 0)
+    (newWords b D key value t)) (wordIndex D (t .parent) (linkField D (t .p))) (t .n)
   where
     at : (r : Bool) → Exact D C (cond r (finishWords D ws (t .parent)) (finishWords D (finishWords D ws (t .parent)) (t .c)))
     at true = exact-finished exact (t .parent)
     at false = exact-finished (exact-finished exact (t .parent)) (t .c)
 
-inserted-path : (b D : ℕ) (ws : List ℕ) (key value : ℕ) (t : Slot) (d : ℕ) → d < D → getD (insertWords b D ws key value t) (headerWords + d) 0 ≡ getD ws (headerWords + d) 0
+inserted-path : (b D : ℕ) (ws : List ℕ) (key value : ℕ) (t : Slot) (d : ℕ) → d < D →
+    getD (insertWords b D ws key value t) (headerWords + d) 0 ≡ getD ws (headerWords + d) 0
 unfolding insertWords
 inserted-path b D ws key value t d h =
     let paid = paidWords D ws (t .parent) (t .c) in
@@ -196,7 +201,8 @@ inserted-path b D ws key value t d h =
     ∙ header-set-path paid 4 next d (omega arith)
     ∙ at (eqb (t .c) 0)
   where
-    at : (r : Bool) → getD (cond r (finishWords D ws (t .parent)) (finishWords D (finishWords D ws (t .parent)) (t .c))) (headerWords + d) 0 ≡ getD ws (headerWords + d) 0
+    at : (r : Bool) → getD (cond r (finishWords D ws (t .parent)) (finishWords D (finishWords D ws (t .parent)) (t .c))) (headerWords + d) 0
+        ≡ getD ws (headerWords + d) 0
     at true = finishWords-below D ws (t .parent) (headerWords + d) (omega arith)
     at false =
         finishWords-below D (finishWords D ws (t .parent)) (t .c) (headerWords + d) (omega arith)
@@ -210,13 +216,15 @@ module _ {t : State} (v : Sound t) (key value : ℕ) (least : 1 ≤ key) (most :
   slot : SlotFound f (slotFor t key)
   slot = found-slot v least is missing room
 
-  written : insertWords (t .settings .base) (t .settings .dimensions) (picture t) key value (slotOf n f) ≡ insertWords (t .settings .base) (t .settings .dimensions) (picture t) key value (slotFor t key)
+  written : insertWords (t .settings .base) (t .settings .dimensions) (picture t) key value (slotOf n f)
+      ≡ insertWords (t .settings .base) (t .settings .dimensions) (picture t) key value (slotFor t key)
   written = same-slot (t .settings .base) (t .settings .dimensions) (picture t) key value n slot (first ∙ number)
     where
       number : firstNumber (t .free) ≡ slotFor t key .n
       number = unfold slotFor in refl
 
-  added-leads : Leads (picture t) (insertWords (t .settings .base) (t .settings .dimensions) (picture t) key value (slotOf n f)) (t .settings) (positionKey t) key value f
+  added-leads : Leads (picture t) (insertWords (t .settings .base) (t .settings .dimensions) (picture t) key value (slotOf n f)) (t .settings)
+      (positionKey t) key value f
   added-leads =
       let b = t .settings .base in
       let D = t .settings .dimensions in

@@ -9,7 +9,8 @@ use Rattle.meaning.specs.Words.{wordIndex}
 use Rattle.meaning.specs.Layer.Stores.{store, finishWords, writeNode, paidWords}
 
 -- value and mark, one after the other
-pub node-written : (D : ℕ) (ws : List ℕ) (x value mark : ℕ) {first second : List ℕ} → first ≡ store D ws x 1 value → second ≡ store D first x 2 mark → second ≡ writeNode D ws x value mark
+pub node-written : (D : ℕ) (ws : List ℕ) (x value mark : ℕ) {first second : List ℕ} → first ≡ store D ws x 1 value → second ≡ store D first x 2 mark →
+    second ≡ writeNode D ws x value mark
 node-written D ws x value mark e f =
     let next : wordIndex D x 2 ≡ suc (wordIndex D x 1) = omega arith in
     rw (f, e, next) refl

@@ -16,7 +16,8 @@ use Rattle.text.specs.Answers.{FieldEnd, numberOf}
 use Rattle.text.specs.declared.fields.Numeral.the-variants.{Value}
 use Rattle.text.specs.declared.fields.Numeral.the-variants as numeral
 use Rattle.text.proofs.Numerals.{last-field, next-field, some-field, number-value, number-within}
-use Rattle.lines.specs.Grammar.{isClass, isUnit, isValue, entry, readable, insertFields, entryFields, noFields, kindOf, parsedOf, InRange, leastClass, mostClass, leastUnit, mostUnit, leastValue, mostValue, KindInRange}
+use Rattle.lines.specs.Grammar.{isClass, isUnit, isValue, entry, readable, insertFields, entryFields, noFields, kindOf, parsedOf, InRange}
+use Rattle.lines.specs.Grammar.{leastClass, mostClass, leastUnit, mostUnit, leastValue, mostValue, KindInRange}
 use Rattle.lines.specs.Answers.{fieldsAfter, firstNumber, firstEntry, NumberAfter, EntryAfter}
 use Rattle.lines.specs.declared.Entry.{Entry}
 use Rattle.lines.specs.declared.Kind.{Kind}

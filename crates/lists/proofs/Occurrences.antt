@@ -57,7 +57,8 @@ unfolding occurrences
 occurrences-append c [] ys = sym (zero-add (occurrences c ys))
 occurrences-append c (x ∷ xs) ys = at-test (eqb x c) (occurrences-append c xs ys)
   where
-    at-test : (t : Bool) → occurrences c (xs ++ ys) ≡ occurrences c xs + occurrences c ys → cond t (suc (occurrences c (xs ++ ys))) (occurrences c (xs ++ ys)) ≡ cond t (suc (occurrences c xs)) (occurrences c xs) + occurrences c ys
+    at-test : (t : Bool) → occurrences c (xs ++ ys) ≡ occurrences c xs + occurrences c ys →
+        cond t (suc (occurrences c (xs ++ ys))) (occurrences c (xs ++ ys)) ≡ cond t (suc (occurrences c xs)) (occurrences c xs) + occurrences c ys
     at-test true e = omega arith
     at-test false e = e
 
@@ -66,7 +67,8 @@ unfolding occurrences
 occurrences-reverseAux c [] ys = sym (zero-add (occurrences c ys))
 occurrences-reverseAux c (x ∷ xs) ys = at-test (eqb x c) (occurrences-reverseAux c xs (x ∷ ys))
   where
-    at-test : (t : Bool) → occurrences c (reverseAux xs (x ∷ ys)) ≡ occurrences c xs + cond t (suc (occurrences c ys)) (occurrences c ys) → occurrences c (reverseAux xs (x ∷ ys)) ≡ cond t (suc (occurrences c xs)) (occurrences c xs) + occurrences c ys
+    at-test : (t : Bool) → occurrences c (reverseAux xs (x ∷ ys)) ≡ occurrences c xs + cond t (suc (occurrences c ys)) (occurrences c ys) →
+        occurrences c (reverseAux xs (x ∷ ys)) ≡ cond t (suc (occurrences c xs)) (occurrences c xs) + occurrences c ys
     at-test true e = omega arith
     at-test false e = e
 

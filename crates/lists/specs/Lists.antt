@@ -1,8 +1,8 @@
--- Lists: those members that pass a test, how often a number occurs, numbers in a row, blocks, what two lists have in common.
-use mathlib.Core.Bool.{Bool, true, false, cond, _&&_, _||_}
+-- Lists: those members that pass a test, how often a number occurs, numbers in a row, blocks.
+use mathlib.Core.Bool.{Bool, true, false, cond, _&&_}
 use mathlib.Core.List.{List, [], _∷_}
 use Prim.Native.Nat.{ℕ, zero, suc}
-use lib.Dec.{eqb, ltb}
+use lib.Dec.{eqb}
 use lib.ListN.{take, drop}
 
 -- those members for which a test holds
@@ -41,20 +41,3 @@ same [] [] = true
 same [] (y ∷ ys) = false
 same (x ∷ xs) [] = false
 same (x ∷ xs) (y ∷ ys) = eqb x y && same xs ys
-
--- how many leading members of two lists are equal
-unfoldable pub agreed : List ℕ → List ℕ → ℕ
-agreed [] ys = 0
-agreed (x ∷ xs) [] = 0
-agreed (x ∷ xs) (y ∷ ys) = cond (eqb x y) (suc (agreed xs ys)) 0
-
--- lexicographic order of two lists of one length
-unfoldable pub precedes : List ℕ → List ℕ → Bool
-precedes [] ys = false
-precedes (x ∷ xs) [] = false
-precedes (x ∷ xs) (y ∷ ys) = ltb x y || (eqb x y && precedes xs ys)
-
--- words that are all 0
-unfoldable pub allZero : List ℕ → Bool
-allZero [] = true
-allZero (w ∷ ws) = eqb w 0 && allZero ws

@@ -1,7 +1,7 @@
 // Words in a row, lent as a part: filled with one number, and tested to be all 0.
 ghost use mathlib.Core.Path.{_≡_};
 ghost use lib.ListN.{length, replicate};
-ghost use Rattle.lists.specs.Lists.{allZero};
+ghost use Rattle.lists.specs.Zeros.{allZero};
 
 // Every word of a part becomes v.
 pub fn fill(part: &mut [u32], v: u32)

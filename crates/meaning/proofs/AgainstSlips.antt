@@ -38,7 +38,8 @@ unfolding positionAfter
 position-becomes-the-parent s key c row h = rw (le-leb key (positionKey s) h) refl
 
 -- "Refusing 5 for a dead key": a dead key is revived.
-pub dead-key-is-revived : (ws : List ℕ) (s : State) (key value : ℕ) (x : Node) → x .live ≡ false → insertAt ws s key value (some x) ≡ accepted key 0 (looked s key) (picture (revived s x value))
+pub dead-key-is-revived : (ws : List ℕ) (s : State) (key value : ℕ) (x : Node) → x .live ≡ false →
+    insertAt ws s key value (some x) ≡ accepted key 0 (looked s key) (picture (revived s x value))
 unfolding insertAt
 dead-key-is-revived ws s key value x e =
     ap (λ t. cond t (refused (keyLive key (looked s key)) ws) (accepted key 0 (looked s key) (picture (revived s x value)))) e

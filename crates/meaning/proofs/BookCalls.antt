@@ -15,7 +15,8 @@ use Rattle.lists.specs.Lists.{those}
 use Rattle.meaning.specs.Row.{Node, nodeAt}
 use Rattle.meaning.specs.State.{State}
 use Rattle.meaning.specs.Picture.{picture}
-use Rattle.meaning.specs.Operations.{fresh, paid, finished, withRow, revivedNode, revived, Slot, newNode, slotFor, slotOwes, added, deadFront, fromLive, deadNode, taken, swept}
+use Rattle.meaning.specs.Operations.{fresh, paid, finished, withRow, revivedNode, revived, Slot, newNode, slotFor, slotOwes, added, deadFront}
+use Rattle.meaning.specs.Operations.{fromLive, deadNode, taken, swept}
 use Rattle.meaning.specs.Calls.{outcome}
 use Rattle.meaning.specs.Book.{Pair, pair, Book, hasKey, putPair, putKey, inserted, keptFrom, booked}
 use Rattle.meaning.specs.declared.Call.the-variants.{SetUp, Insert, Find, Finish, Take, Sweep}
@@ -31,8 +32,13 @@ use Rattle.meaning.proofs.KeepsFinish.{paid-keeping, finished-sound}
 use Rattle.meaning.proofs.KeepsTake.{dead-keeping, taken-sound}
 use Rattle.meaning.proofs.KeepsSweep.{keptBy, paid-all-keeping, swept-sound}
 use Rattle.meaning.proofs.KeepsInsert.{node-split, revived-keeping, revived-sound, added-sound}
-use Rattle.meaning.proofs.Outcomes.{set-up-outcome-out-of-range, set-up-outcome-wrong-length, set-up-outcome, insert-outcome-bad-key, insert-outcome-live, insert-outcome-dead, insert-outcome-full, insert-outcome-new, find-writes-nothing, finish-outcome-bad-key, finish-outcome-absent, finish-outcome-standing, take-outcome-none, take-outcome-first, sweep-outcome, key-cases, live-cases, free-cases}
-use Rattle.meaning.proofs.BookRow.{pairsIn, keysIn, pairs-dead, pairs-past, pairs-after, pairs-changed, pairs-put, isThere, isLive, key-stands, key-lives, node-key, changed-alone, pairs-empty, pairs-first, kept-keys, kept-pairs, absent-changed, put-pairs, put-keys}
+use Rattle.meaning.proofs.Outcomes.{set-up-outcome-out-of-range, set-up-outcome-wrong-length, set-up-outcome, insert-outcome-bad-key}
+use Rattle.meaning.proofs.Outcomes.{insert-outcome-live, insert-outcome-dead, insert-outcome-full, insert-outcome-new, find-writes-nothing}
+use Rattle.meaning.proofs.Outcomes.{finish-outcome-bad-key, finish-outcome-absent, finish-outcome-standing, take-outcome-none}
+use Rattle.meaning.proofs.Outcomes.{take-outcome-first, sweep-outcome, key-cases, live-cases, free-cases}
+use Rattle.meaning.proofs.BookRow.{pairsIn, keysIn, pairs-dead, pairs-past, pairs-after, pairs-changed, pairs-put, isThere, isLive, key-stands}
+use Rattle.meaning.proofs.BookRow.{key-lives, node-key, changed-alone, pairs-empty, pairs-first, kept-keys, kept-pairs, absent-changed}
+use Rattle.meaning.proofs.BookRow.{put-pairs, put-keys}
 
 -- the largest key, the cells, the live pairs and the standing keys of a state
 abbrev pub bookIn : State → Book
@@ -46,7 +52,8 @@ pub record Booking (call : Call) (s : State) : Type 0 where
   pub book : bookIn after ≡ booked call (length (picture s)) (bookIn s)
 
 -- a call that writes nothing
-still : (call : Call) (s : State) → Sound s → outcome call (picture s) .left ≡ picture s → booked call (length (picture s)) (bookIn s) ≡ bookIn s → Booking call s
+still : (call : Call) (s : State) → Sound s → outcome call (picture s) .left ≡ picture s → booked call (length (picture s)) (bookIn s) ≡ bookIn s →
+    Booking call s
 still call s v words book = record { after = s; sound = v; left = words; long = refl; book = sym book }
 
 -- the book of a state with the settings of another one
@@ -245,7 +252,8 @@ pub insert-booked : (key value : ℕ) (s : State) → Sound s → Booking (Inser
 unfolding outcome
 insert-booked key value s v =
     key-cases s key
-    (λ n. still (Insert key value) s v (ap (λ o. o .left) (insert-outcome-bad-key s v key value n)) (booked-untried key value (length (picture s)) (bookIn s) n))
+    (λ n. still (Insert key value) s v (ap (λ o. o .left) (insert-outcome-bad-key s v key value n))
+        (booked-untried key value (length (picture s)) (bookIn s) n))
     (λ l h e. free-cases s (insert-full-booked s v key value l h e) (insert-new-booked s v key value l h e))
     (λ l h x e. live-cases x (insert-live-booked s v key value l h x e) (insert-dead-booked s v key value l h x e))
 

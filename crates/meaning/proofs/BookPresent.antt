@@ -22,7 +22,8 @@ use Rattle.meaning.proofs.Placed.{mark-one}
 use Rattle.meaning.proofs.Picture.{picture-largest, picture-cells, picture-word, Told, told, freeWords-rest}
 use Rattle.meaning.proofs.WalkRead.{all-places, row-key-read, row-mark-read}
 use Rattle.meaning.proofs.Places.{node-found}
-use Rattle.meaning.proofs.Outcomes.{on-lists, insert-outcome-live, insert-outcome-dead, insert-outcome-full, insert-outcome-new, find-outcome-absent, find-outcome-dead, find-outcome-live}
+use Rattle.meaning.proofs.Outcomes.{on-lists, insert-outcome-live, insert-outcome-dead, insert-outcome-full, insert-outcome-new}
+use Rattle.meaning.proofs.Outcomes.{find-outcome-absent, find-outcome-dead, find-outcome-live}
 use Rattle.meaning.proofs.BookRow.{isLive, node-key, node-has}
 
 -- On the words
@@ -41,7 +42,8 @@ module _ (s : State) (v : Sound s) (key : ℕ) where
   live-shown x e live =
       record {
         cell = x .cell;
-        within = subst (λ n. x .cell < n) (sym (picture-cells s)) (node-has (λ y. (0 < y .cell) × (y .cell < s .settings .cells)) key x (s .row) e (row-range s v) .1);
+        within = subst (λ n. x .cell < n) (sym (picture-cells s)) (node-has (λ y. (0 < y .cell) × (y .cell < s .settings .cells)) key x (s .row) e
+            (row-range s v) .1);
         mark = node-has (λ y. markAt (picture s) (y .cell) ≡ mark (y .live)) key x (s .row) e (row-mark-read s v) ∙ ap mark live;
         same = node-has (λ y. keyAt (picture s) (y .cell) ≡ y .key) key x (s .row) e (row-key-read s v) ∙ node-key key x (s .row) e;
       }

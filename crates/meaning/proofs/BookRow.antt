@@ -61,7 +61,8 @@ pairs-after (x ∷ front) rows others e = at (x .live) (pairs-after front rows o
     at false more = more
 
 -- a change that keeps keys, values and marks
-pub pairs-changed : (f : Node → Node) → ((x : Node) → pair (f x) ≡ pair x) → ((x : Node) → f x .live ≡ x .live) → (row : List Node) → pairsIn (map f row) ≡ pairsIn row
+pub pairs-changed : (f : Node → Node) → ((x : Node) → pair (f x) ≡ pair x) → ((x : Node) → f x .live ≡ x .live) → (row : List Node) →
+    pairsIn (map f row) ≡ pairsIn row
 unfolding those
 pairs-changed f same live [] = refl
 pairs-changed f same live (x ∷ row) =
@@ -155,12 +156,14 @@ key-lives low key (x ∷ row) a = at (ℕ-discrete (x .key) key) (key-lives (x .
     here true = rw (eq-eqb (x .key) (x .key) refl) refl
     here false = has-none (x .key) (map (λ p. p .key) (pairsIn row)) (all-mapped (λ k. k ≡ x .key → ⊥) (λ p. p .key) (pairsIn row) above)
 
-    other : (t : Bool) → (x .key ≡ key → ⊥) → hasKey key (map (λ p. p .key) (map pair (cond t (x ∷ those (λ y. y .live) row) (those (λ y. y .live) row)))) ≡ hasKey key (map (λ p. p .key) (pairsIn row))
+    other : (t : Bool) → (x .key ≡ key → ⊥) → hasKey key (map (λ p. p .key)
+        (map pair (cond t (x ∷ those (λ y. y .live) row) (those (λ y. y .live) row)))) ≡ hasKey key (map (λ p. p .key) (pairsIn row))
     other true ne = rw (ne-eqb (x .key) key ne) refl
     other false ne = refl
 
     at : Dec (x .key ≡ key) → hasKey key (map (λ p. p .key) (pairsIn row)) ≡ isLive (nodeAt key row) →
-        hasKey key (map (λ p. p .key) (map pair (cond (x .live) (x ∷ those (λ y. y .live) row) (those (λ y. y .live) row)))) ≡ isLive (cond (eqb (x .key) key) (some x) (nodeAt key row))
+        hasKey key (map (λ p. p .key) (map pair (cond (x .live) (x ∷ those (λ y. y .live) row) (those (λ y. y .live) row))))
+            ≡ isLive (cond (eqb (x .key) key) (some x) (nodeAt key row))
     at (yes e) more =
         subst (λ k. hasKey k (map (λ p. p .key) (pairsIn (x ∷ row))) ≡ x .live) e (here (x .live))
         ∙ sym (ap (λ t. isLive (cond t (some x) (nodeAt key row))) (eq-eqb (x .key) key e))

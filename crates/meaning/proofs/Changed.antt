@@ -27,7 +27,8 @@ use Rattle.meaning.proofs.Stores.{wordIn, picture-exact, path-sets-same
 -- The path
 
 -- rows that have, node by node, the same cells and keys
-pub first-same : (b D key n : ℕ) (row other : List Node) → map (λ x. x .cell) row ≡ map (λ x. x .cell) other → map (λ x. x .key) row ≡ map (λ x. x .key) other → firstWith b D key n row ≡ firstWith b D key n other
+pub first-same : (b D key n : ℕ) (row other : List Node) → map (λ x. x .cell) row ≡ map (λ x. x .cell) other →
+    map (λ x. x .key) row ≡ map (λ x. x .key) other → firstWith b D key n row ≡ firstWith b D key n other
 unfolding firstWith
 first-same b D key n [] [] c k = refl
 first-same b D key n [] (y ∷ other) c k = absurd (let l = ap length c in omega arith)
@@ -37,7 +38,8 @@ first-same b D key n (x ∷ row) (y ∷ other) c k =
     let key′ : x .key ≡ y .key = cc in
     rw (cell, key′, first-same b D key n row other (cc) (cc)) refl
 
-pub keyOf-same-rows : (c : ℕ) (row other : List Node) → map (λ x. x .cell) row ≡ map (λ x. x .cell) other → map (λ x. x .key) row ≡ map (λ x. x .key) other → keyOf c row ≡ keyOf c other
+pub keyOf-same-rows : (c : ℕ) (row other : List Node) → map (λ x. x .cell) row ≡ map (λ x. x .cell) other →
+    map (λ x. x .key) row ≡ map (λ x. x .key) other → keyOf c row ≡ keyOf c other
 unfolding keyOf
 keyOf-same-rows c [] [] e k = refl
 keyOf-same-rows c [] (y ∷ other) e k = absurd (let l = ap length e in omega arith)
@@ -101,11 +103,13 @@ sixBy b D value live owes q =
     q .node .key ∷ value ∷ mark live
     ∷ cond owes (firstOf (q .later) .cell) 0 ∷ cond owes (q .dimension) 0 ∷ cond owes (shared b D (q .node .key) (firstOf (q .later) .key)) 0 ∷ []
 
-pub by-coordinate : (b D value : ℕ) (live beforeOwes owes : Bool) (q : Place) (d : ℕ) → d < D → getD (wordsBy b D value live beforeOwes owes q) (fieldsBeforeCoordinates + d) 0 ≡ coordinate b D (q .node .key) d
+pub by-coordinate : (b D value : ℕ) (live beforeOwes owes : Bool) (q : Place) (d : ℕ) → d < D →
+    getD (wordsBy b D value live beforeOwes owes q) (fieldsBeforeCoordinates + d) 0 ≡ coordinate b D (q .node .key) d
 unfolding wordsBy
 by-coordinate b D value live beforeOwes owes q d h = words-coordinate (sixBy b D value live owes q) refl b D (q .node .key) (linkBy b D beforeOwes owes q) d h
 
-pub by-link : (b D value : ℕ) (live beforeOwes owes : Bool) (q : Place) (d : ℕ) → d < D → getD (wordsBy b D value live beforeOwes owes q) (linkField D d) 0 ≡ linkBy b D beforeOwes owes q d
+pub by-link : (b D value : ℕ) (live beforeOwes owes : Bool) (q : Place) (d : ℕ) → d < D →
+    getD (wordsBy b D value live beforeOwes owes q) (linkField D d) 0 ≡ linkBy b D beforeOwes owes q d
 unfolding wordsBy
 by-link b D value live beforeOwes owes q d h = words-link (sixBy b D value live owes q) refl b D (q .node .key) (linkBy b D beforeOwes owes q) d h
 
@@ -126,12 +130,15 @@ module _ (f : Node → Node) (keeping : Keeping f) where
   linkBy-changed : (b D : ℕ) (beforeOwes owes : Bool) (q : Place) (d : ℕ) → linkBy b D beforeOwes owes (changedPlace f q) d ≡ linkBy b D beforeOwes owes q d
   linkBy-changed b D beforeOwes owes q d = λ i.
       cond (beforeOwes && between (q .beforeDimension) (q .dimension) d)
-      ((ap (λ k. firstSharing b D k d (f (q .node) ∷ map f (q .later))) (keeping .key (q .before)) ∙ sharing-changed b D (q .before .key) d (q .node ∷ q .later)) i)
+      ((ap (λ k. firstSharing b D k d (f (q .node) ∷ map f (q .later))) (keeping .key (q .before))
+          ∙ sharing-changed b D (q .before .key) d (q .node ∷ q .later)) i)
       (cond (owes && between (cond owes (q .dimension) 0) (cond owes (shared b D (keeping .key (q .node) i) (first-key (q .later) i)) 0) d) 0
-      (cond (leb (q .dimension) d) ((ap (λ k. firstSharing b D k d (map f (q .later))) (keeping .key (q .node)) ∙ sharing-changed b D (q .node .key) d (q .later)) i) 0))
+      (cond (leb (q .dimension) d) ((ap (λ k. firstSharing b D k d (map f (q .later))) (keeping .key (q .node))
+          ∙ sharing-changed b D (q .node .key) d (q .later)) i) 0))
 
   -- the words of a changed place are those of the place, with the debts after the change
-  wordsBy-changed : (b D value : ℕ) (live beforeOwes owes : Bool) (q : Place) → wordsBy b D value live beforeOwes owes (changedPlace f q) ≡ wordsBy b D value live beforeOwes owes q
+  wordsBy-changed : (b D value : ℕ) (live beforeOwes owes : Bool) (q : Place) →
+      wordsBy b D value live beforeOwes owes (changedPlace f q) ≡ wordsBy b D value live beforeOwes owes q
   unfolding wordsBy
   wordsBy-changed b D value live beforeOwes owes q = λ i.
       keeping .key (q .node) i ∷ value ∷ mark live
@@ -156,7 +163,8 @@ module _ (f : Node → Node) (keeping : Keeping f) where
 
 -- The words of a cell in a picture
 
-pub picture-place : (s : State) (x j : ℕ) → x < s .settings .cells → j < cellWords (s .settings .dimensions) → wordIn (s .settings .dimensions) (picture s) x j ≡ getD (shownWords s x) j 0
+pub picture-place : (s : State) (x j : ℕ) → x < s .settings .cells → j < cellWords (s .settings .dimensions) →
+    wordIn (s .settings .dimensions) (picture s) x j ≡ getD (shownWords s x) j 0
 unfolding picture
 picture-place s x j h k = picture-word s x j h k
 
@@ -171,7 +179,8 @@ placed-word s {x} {q} here j h k =
     ∙ ap (λ ws. getD ws j 0) (standing-by (s .settings .base) (s .settings .dimensions) q)
 
 module _ (s : State) (f : Node → Node) (keeping : Keeping f) (position : ℕ) where
-  changed-found : (x : ℕ) → placeOf x (placesOf (changedState s f position) (changedState s f position .row)) ≡ foundChanged f keeping (placeOf x (placesOf s (s .row)))
+  changed-found : (x : ℕ) → placeOf x (placesOf (changedState s f position) (changedState s f position .row))
+      ≡ foundChanged f keeping (placeOf x (placesOf s (s .row)))
   changed-found x =
       ap (placeOf x) (places-changed f keeping (s .settings .base) (s .settings .dimensions) (s .row)) ∙ placeOf-changed f keeping x (placesOf s (s .row))
 
@@ -186,7 +195,8 @@ module _ (s : State) (f : Node → Node) (keeping : Keeping f) (position : ℕ) 
   changed-word {x} {q} here j h k =
       placed-word (changedState s f position) (changed-placed here) j h k
       ∙ ap (λ ws. getD ws j 0)
-      (wordsBy-changed f keeping (s .settings .base) (s .settings .dimensions) (f (q .node) .value) (f (q .node) .live) (f (q .before) .owes) (f (q .node) .owes) q)
+      (wordsBy-changed f keeping (s .settings .base) (s .settings .dimensions) (f (q .node) .value) (f (q .node) .live) (f (q .before) .owes)
+          (f (q .node) .owes) q)
 
   -- a free cell's, the header and the path are as before
   pub changed-free : (x : ℕ) → placeOf x (placesOf s (s .row)) ≡ none → (j : ℕ) → x < s .settings .cells → j < cellWords (s .settings .dimensions) →
@@ -216,7 +226,8 @@ path-changed s f keeping position =
     refl refl (cells-changed f keeping (s .row)) (keys-changed f keeping (s .row))
 
 -- while the position stays
-pub changed-path : (s : State) (f : Node → Node) (keeping : Keeping f) (d : ℕ) → d < s .settings .dimensions → getD (picture (changedState s f (s .position))) (headerWords + d) 0 ≡ getD (picture s) (headerWords + d) 0
+pub changed-path : (s : State) (f : Node → Node) (keeping : Keeping f) (d : ℕ) → d < s .settings .dimensions →
+    getD (picture (changedState s f (s .position))) (headerWords + d) 0 ≡ getD (picture s) (headerWords + d) 0
 changed-path s f keeping d h =
     let after = changedState s f (s .position) in
     picture-path after d h

@@ -9,7 +9,8 @@ use native.Mathlib.Omega.{arith}
 use Rattle.settings.proofs.Numbers.{base-at-least-two}
 use Rattle.meaning.specs.Keys.{coordinate, shared}
 use Rattle.meaning.specs.Words.{keyAt, markAt, dimensionsAt, cellsAt, baseAt}
-use Rattle.meaning.specs.Sentences.{sharedAt, Free, Standing, NextSmaller, NextLarger, Dimension, of-head, of-other, LargerAt, Settled, leads, leads-nowhere, below-dimension, AList}
+use Rattle.meaning.specs.Sentences.{sharedAt, Free, Standing, NextSmaller, NextLarger, Dimension, of-head, of-other, LargerAt, Settled, leads}
+use Rattle.meaning.specs.Sentences.{leads-nowhere, below-dimension, AList}
 use Rattle.meaning.proofs.Keys.{shared-agreed, coordinate-less, coordinate-larger}
 
 module _ (ws : List ℕ) (a : AList ws) where
@@ -51,16 +52,19 @@ module _ (ws : List ℕ) (a : AList ws) where
   pub larger-key : (x d y : ℕ) → Standing ws x → LargerAt ws x d y → keyAt ws x < keyAt ws y
   larger-key x d y sx l =
       let shares = sym (shared-is x y sx (l .standing)) ∙ l .shares in
-      coordinate-larger (baseAt ws) (dimensionsAt ws) (keyAt ws x) (keyAt ws y) d base-is-positive (key-below x sx) (key-below y (l .standing)) (omega arith) (l .larger)
+      coordinate-larger (baseAt ws) (dimensionsAt ws) (keyAt ws x) (keyAt ws y) d base-is-positive (key-below x sx) (key-below y (l .standing))
+          (omega arith) (l .larger)
 
-  pub larger-at : (x d y : ℕ) → Standing ws x → Standing ws y → keyAt ws x < keyAt ws y → shared (baseAt ws) (dimensionsAt ws) (keyAt ws x) (keyAt ws y) ≡ d → LargerAt ws x d y
+  pub larger-at : (x d y : ℕ) → Standing ws x → Standing ws y → keyAt ws x < keyAt ws y →
+      shared (baseAt ws) (dimensionsAt ws) (keyAt ws x) (keyAt ws y) ≡ d → LargerAt ws x d y
   larger-at x d y sx sy h e =
       let b = baseAt ws in
       let D = dimensionsAt ws in
       record {
         standing = sy;
         shares = shared-is x y sx sy ∙ e;
-        larger = subst (λ i. coordinate b D (keyAt ws x) i < coordinate b D (keyAt ws y) i) e (coordinate-less b D (keyAt ws x) (keyAt ws y) base-is-positive (key-below x sx) (key-below y sy) h);
+        larger = subst (λ i. coordinate b D (keyAt ws x) i < coordinate b D (keyAt ws y) i) e
+            (coordinate-less b D (keyAt ws x) (keyAt ws y) base-is-positive (key-below x sx) (key-below y sy) h);
       }
 
   -- One answer

@@ -35,7 +35,8 @@ module _ (ws : List ℕ) (a : AList ws) where
   -- Links
 
   -- link d, by the later ones of a cell of dimension at most d
-  stands-settled : (n : Node) (e : ℕ) (later : List Node) (d : ℕ) → Stands ws n e later → e ≤ d → Settled ws (n .cell) d (firstSharing (baseAt ws) (dimensionsAt ws) (n .key) d later)
+  stands-settled : (n : Node) (e : ℕ) (later : List Node) (d : ℕ) → Stands ws n e later → e ≤ d →
+      Settled ws (n .cell) d (firstSharing (baseAt ws) (dimensionsAt ws) (n .key) d later)
   stands-settled n e later d s h =
       settled-first ws b D (n .cell) (n .key) d later (s .dimension) h (s .above .ascends) (all-map (λ y t. sym (t .key)) later (s .above .shown))
       (all-zip larger later (s .above .shown) (asc-above (n .key) later (s .above .ascends))) has
@@ -83,7 +84,8 @@ module _ (ws : List ℕ) (a : AList ws) where
 
   pub high-shown : (p : Place) → PlaceShown ws p → high (baseAt ws) (dimensionsAt ws) p ≡ highAt ws (p .node .cell)
   high-shown p q =
-      owing-cases (p .node .owes) (shared (baseAt ws) (dimensionsAt ws) (p .node .key) (firstOf (p .later) .key)) (highAt ws (p .node .cell)) (λ o. debt-at p q o .high)
+      owing-cases (p .node .owes) (shared (baseAt ws) (dimensionsAt ws) (p .node .key) (firstOf (p .later) .key)) (highAt ws (p .node .cell))
+          (λ o. debt-at p q o .high)
       (λ o. a .owes-nothing (p .node .cell) (q .here .shown .standing) (q .here .shown .unowing o) .1)
 
   -- Links as they stand
@@ -107,7 +109,8 @@ module _ (ws : List ℕ) (a : AList ws) where
   owing-before p d n (none e f) w q = absurd (let h = w .owes in omega arith)
   owing-before p d n (one s e) w q =
       let m = a .debts n (w .standing) (w .owes) in
-      let same = next-larger-of-one ws a n (p .before .cell) (p .node .cell) (w .standing) (s .shown .standing) (subst (NextLarger ws n) q (m .owed)) (above-next-larger (s .shown) (s .above)) in
+      let same = next-larger-of-one ws a n (p .before .cell) (p .node .cell) (w .standing) (s .shown .standing) (subst (NextLarger ws n) q (m .owed))
+          (above-next-larger (s .shown) (s .above)) in
       let v = subst (λ i. Owing ws i d) same w in
       let o = owes-shown (p .before) (s .shown) (v .owes) in
       let t = debt-shown ws a (p .before) (p .beforeDimension) (p .node ∷ p .later) s o in

@@ -26,7 +26,8 @@ pub record Above (ws : List ℕ) (key : ℕ) (row : List Node) : Type 0 where
   pub complete : (y : ℕ) → Standing ws y → key < keyAt ws y → 0 < occurrences y (map (λ x. x .cell) row)
 
 -- what their cells have, every standing cell above the key has
-pub above-has : (P : ℕ → Type 0) {ws : List ℕ} {key : ℕ} {row : List Node} → Above ws key row → All (λ x. P (x .cell)) row → (y : ℕ) → Standing ws y → key < keyAt ws y → P y
+pub above-has : (P : ℕ → Type 0) {ws : List ℕ} {key : ℕ} {row : List Node} → Above ws key row → All (λ x. P (x .cell)) row → (y : ℕ) → Standing ws y →
+    key < keyAt ws y → P y
 above-has P {row = row} r all y st h = occurs-has P y (map (λ x. x .cell) row) (r .complete y st h) (all-mapped P (λ x. x .cell) row all)
 
 pub above-next : {ws : List ℕ} {key : ℕ} {x : Node} {row : List Node} → Above ws key (x ∷ row) → Above ws (x .key) row
@@ -41,7 +42,8 @@ above-next {ws} {key} {x} {row} r =
     }
 
 -- the first of them has the least key
-pub above-least : {ws : List ℕ} {key : ℕ} {x : Node} {row : List Node} → Above ws key (x ∷ row) → (y : ℕ) → Standing ws y → key < keyAt ws y → keyAt ws (x .cell) ≤ keyAt ws y
+pub above-least : {ws : List ℕ} {key : ℕ} {x : Node} {row : List Node} → Above ws key (x ∷ row) → (y : ℕ) → Standing ws y → key < keyAt ws y →
+    keyAt ws (x .cell) ≤ keyAt ws y
 above-least {ws} {key} {x} {row} r =
     above-has (λ y. keyAt ws (x .cell) ≤ keyAt ws y) r (
       omega arith,
@@ -93,14 +95,16 @@ module _ (ws : List ℕ) (a : AList ws) where
       record {
         shown = all-map (λ x s. s .0) (standingRow ws) (row-shown ws a 1 n (omega arith));
         ascends = row-ascends ws a 1 n (omega arith) (omega arith);
-        complete = λ y st pos. let c = st .cell in let k = cell-positive ws a y pos in let o = row-once ws a y 1 n st (omega arith) (omega arith) (omega arith) in omega arith;
+        complete = λ y st pos. let c = st .cell in let k = cell-positive ws a y pos in
+            let o = row-once ws a y 1 n st (omega arith) (omega arith) (omega arith) in omega arith;
       }
 
   pub shown-shared : {x y : Node} → Shown ws x → Shown ws y → shared (baseAt ws) (dimensionsAt ws) (x .key) (y .key) ≡ sharedAt ws (x .cell) (y .cell)
   shown-shared {x} {y} s t =
       ap₂ (shared (baseAt ws) (dimensionsAt ws)) (s .key) (t .key) ∙ sym (shared-is ws a (x .cell) (y .cell) (s .standing) (t .standing))
 
-  placed-after : (before : Node) (e : ℕ) (row : List Node) → Stands ws before e row → All (PlaceShown ws) (placesAfter (baseAt ws) (dimensionsAt ws) before e row)
+  placed-after : (before : Node) (e : ℕ) (row : List Node) → Stands ws before e row →
+      All (PlaceShown ws) (placesAfter (baseAt ws) (dimensionsAt ws) before e row)
   unfolding placesAfter
   placed-after before e [] s = tt
   placed-after before e (x ∷ row) s =

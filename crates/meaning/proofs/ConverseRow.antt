@@ -133,7 +133,8 @@ module _ (ws : List ℕ) (a : AList ws) where
       at (no ne) = absurd (let h = a .debts 0 (head-stands ws a) (omega arith) .not-head in omega arith)
 
   -- the first of the cells is free, and no node, or standing, and put to the others
-  row-cases : (P : List Node → Type 0) (c n : ℕ) → c < cellsAt ws → (Free ws c → P (rowFrom ws (suc c) n)) → (Standing ws c → P (put (nodeIn ws c) (rowFrom ws (suc c) n))) → P (rowFrom ws c (suc n))
+  row-cases : (P : List Node → Type 0) (c n : ℕ) → c < cellsAt ws → (Free ws c → P (rowFrom ws (suc c) n)) →
+      (Standing ws c → P (put (nodeIn ws c) (rowFrom ws (suc c) n))) → P (rowFrom ws c (suc n))
   unfolding rowFrom
   row-cases P c n h free standing =
       ⊎-elim
@@ -160,7 +161,8 @@ module _ (ws : List ℕ) (a : AList ws) where
       let more = row-ascends (suc c) n (omega arith) (omega arith) in
       row-cases (Asc 0) c n (omega arith) (λ f. more)
       (λ st. put-ascends 0 (nodeIn ws c) rest (a .keys c st pos .0)
-      (all-map (λ y s e. let q = a .distinct c (y .cell) st (s .0 .standing) (e ∙ s .0 .key) in let k = s .1 in omega arith) rest (row-shown (suc c) n (omega arith)))
+      (all-map (λ y s e. let q = a .distinct c (y .cell) st (s .0 .standing) (e ∙ s .0 .key) in let k = s .1 in omega arith) rest
+          (row-shown (suc c) n (omega arith)))
       more)
 
   -- each standing one of the n cells is there once
@@ -175,7 +177,8 @@ module _ (ws : List ℕ) (a : AList ws) where
       rest = rowFrom ws (suc c) n
 
       none : c ≡ y → occurrences y (cells rest) ≡ 0
-      none q = none-occurs y (cells rest) (all-mapped (λ x. y ≡ x → ⊥) (λ x. x .cell) rest (all-map (λ x s e. let k = s .1 in omega arith) rest (row-shown (suc c) n (omega arith))))
+      none q = none-occurs y (cells rest) (all-mapped (λ x. y ≡ x → ⊥) (λ x. x .cell) rest
+          (all-map (λ x s e. let k = s .1 in omega arith) rest (row-shown (suc c) n (omega arith))))
 
       with-first : ((c ≡ y → ⊥) → occurrences y (cells rest) ≡ 1) → Dec (c ≡ y) → occurrences y (c ∷ cells rest) ≡ 1
       with-first more (yes q) = occurrences-here y c (cells rest) q ∙ ap suc (none q)

@@ -84,7 +84,8 @@ module _ (ws : List ℕ) (a : AList ws) where
       let chain = a .free-chain .chain in
       let least = a .count .0 in
       all-append P (map (λ x. x .cell) (standingRow ws)) chain
-      (all-mapped P (λ x. x .cell) (standingRow ws) (all-map (λ x s. (s .1, s .0 .standing .cell)) (standingRow ws) (row-shown ws a 1 (cellsAt ws - 1) (omega arith))))
+      (all-mapped P (λ x. x .cell) (standingRow ws) (all-map (λ x s. (s .1, s .0 .standing .cell)) (standingRow ws)
+          (row-shown ws a 1 (cellsAt ws - 1) (omega arith))))
       (all-map (λ c h. let f = a .free-chain .no-other c h in (free-positive c f, f .cell)) chain (all-occur chain))
 
   -- a standing cell is the head or in the row
@@ -96,14 +97,17 @@ module _ (ws : List ℕ) (a : AList ws) where
 
       at : Dec (0 ≡ y) → 0 < occurrences y (0 ∷ row)
       at (yes e) = let h = occurrences-here y 0 row e in omega arith
-      at (no ne) = let less = st .cell in let h = row-once ws a y 1 (cellsAt ws - 1) st (omega arith) (omega arith) (omega arith) in let m = occurrences-more y 0 row in omega arith
+      at (no ne) = let less = st .cell in let h = row-once ws a y 1 (cellsAt ws - 1) st (omega arith) (omega arith) (omega arith) in
+          let m = occurrences-more y 0 row in omega arith
 
   pub position-key : positionKey (stateOf ws a) ≡ keyAt ws (positionAt ws)
-  position-key = shown-key ws (positionAt ws) (headNode ∷ standingRow ws) (head-shown ws a, row-above ws a .shown) (standing-occurs (positionAt ws) (a .position))
+  position-key = shown-key ws (positionAt ws) (headNode ∷ standingRow ws) (head-shown ws a, row-above ws a .shown)
+      (standing-occurs (positionAt ws) (a .position))
 
   -- Debts
 
-  owed-first : (n : Node) (later : List Node) (c : ℕ) → Shown ws n → Above ws (n .key) later → NextLarger ws (n .cell) c → (0 < length later) × (c ≡ firstOf later .cell)
+  owed-first : (n : Node) (later : List Node) (c : ℕ) → Shown ws n → Above ws (n .key) later → NextLarger ws (n .cell) c →
+      (0 < length later) × (c ≡ firstOf later .cell)
   unfolding occurrences
   owed-first n [] c s r p = absurd (let h = r .complete c (p .standing) (let k = s .key in let l = p .larger in omega arith) in omega arith)
   owed-first n (x ∷ later) c s r p = (omega arith, next-larger-unique ws a (n .cell) c (x .cell) p (above-next-larger s r))
@@ -128,7 +132,8 @@ module _ (ws : List ℕ) (a : AList ws) where
       let d = debt-shown (n .node) (n .dimension) (n .later) s o in
       record {
         later = d .followed;
-        unowing = unowing-shown (firstOf (n .later)) (first-has (Shown ws) (n .later) (s .above .shown) (d .followed)) (ap (owedAt ws) (sym (d .owed)) ∙ m .owes-nothing);
+        unowing = unowing-shown (firstOf (n .later)) (first-has (Shown ws) (n .later) (s .above .shown) (d .followed))
+            (ap (owedAt ws) (sym (d .owed)) ∙ m .owes-nothing);
         lower = (let h = m .low-below-high in let l = d .low in let k = d .high in omega arith);
       }
 
@@ -151,12 +156,15 @@ module _ (ws : List ℕ) (a : AList ws) where
             };
         base = base-unique (a .base) (base-is (dimensionsAt ws) (largestAt ws) (let h = a .dimensions .0 in omega arith));
         ascends = row-above ws a .ascends;
-        keys = all-map (λ x t. (let k = t .0 .key in let l = t .1 in let h = a .keys (x .cell) (t .0 .standing) l .1 in omega arith)) row (row-shown ws a 1 (C - 1) (omega arith));
-        count = each-once 1 (C - 1) (cellsIn s) (all-map (λ c h. (h .0, (let k = h .1 in omega arith))) (cellsIn s) cells-range) (λ y low high. cells-once y low (omega arith));
+        keys = all-map (λ x t. (let k = t .0 .key in let l = t .1 in let h = a .keys (x .cell) (t .0 .standing) l .1 in omega arith)) row
+            (row-shown ws a 1 (C - 1) (omega arith));
+        count = each-once 1 (C - 1) (cellsIn s) (all-map (λ c h. (h .0, (let k = h .1 in omega arith))) (cellsIn s) cells-range)
+            (λ y low high. cells-once y low (omega arith));
         range = cells-range;
         once = all-map (λ c h. cells-once c (h .0) (h .1)) (cellsIn s) cells-range;
         values = all-map (λ x t e. t .value ∙ a .dead-value (x .cell) (t .standing .cell) (sym (t .marked) ∙ ap mark e)) row shown;
         debts = all-map debt-sound (places (baseAt ws) (dimensionsAt ws) row) (row-placed ws a);
         position = standing-occurs (positionAt ws) (a .position);
-        dead = all-map (λ x t h. mark-dead (x .live) (t .marked ∙ a .passed-dead (x .cell) (t .standing) (let k = t .key in let p = position-key in omega arith))) row shown;
+        dead = all-map (λ x t h. mark-dead (x .live) (t .marked ∙ a .passed-dead (x .cell) (t .standing)
+            (let k = t .key in let p = position-key in omega arith))) row shown;
       }

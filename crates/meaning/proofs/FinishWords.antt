@@ -29,10 +29,13 @@ use Rattle.meaning.proofs.KeepsState.{changedState}
 use Rattle.meaning.proofs.KeepsFinish.{paid-keeping}
 use Rattle.meaning.proofs.WalkRead.{between-is, settled-above, between-out}
 use Rattle.meaning.proofs.SentencesRow.Led.{head, led}
-use Rattle.meaning.proofs.Placed.{Placed, placed-has, placed-cell, head-placed, occurs-placed, placed-below, place-owed, place-low, place-high, place-unowing}
+use Rattle.meaning.proofs.Placed.{Placed, placed-has, placed-cell, head-placed, occurs-placed, placed-below, place-owed, place-low, place-high}
+use Rattle.meaning.proofs.Placed.{place-unowing}
 use Rattle.meaning.proofs.SentencesShape.{NextIn, LedIn, placed-ascends, placed-led, place-after}
 use Rattle.meaning.proofs.Changed.{wordsBy, by-coordinate, by-link, placed-word, changed-word, changed-free, changed-header, changed-path}
-use Rattle.meaning.proofs.Stores.{wordIn, picture-exact, words-equal, field-cases, exact-finished, finishWords-finished, finishWords-none, finishWords-below, OwingWithin, finishWords-debt, finishWords-given, finishWords-cleared, finishWords-cell, finishWords-field, finishWords-before, finishWords-after}
+use Rattle.meaning.proofs.Stores.{wordIn, picture-exact, words-equal, field-cases, exact-finished, finishWords-finished, finishWords-none}
+use Rattle.meaning.proofs.Stores.{finishWords-below, OwingWithin, finishWords-debt, finishWords-given, finishWords-cleared, finishWords-cell}
+use Rattle.meaning.proofs.Stores.{finishWords-field, finishWords-before, finishWords-after}
 
 -- a cell has one place
 placed-once : {s : State} {x : ℕ} {p q : Place} → Placed s x p → Placed s x q → p ≡ q
@@ -92,7 +95,8 @@ module _ {s : State} (v : Sound s) {n : ℕ} {p : Place} (here : Placed s n p) w
   node-kept : {x : ℕ} {q : Place} → Placed s x q → (x ≡ n → p .node .owes ≡ false) → onCell n paid (q .node) .owes ≡ q .node .owes
   node-kept {x} {q} there unowing =
       onCell-cases (λ y. y .owes ≡ q .node .owes) n paid (q .node)
-      (λ e. let same : x ≡ n = sym (placed-cell there) ∙ e in sym (ap (λ r. r .node .owes) (placed-once (subst (λ z. Placed s z q) same there) here) ∙ unowing same))
+      (λ e. let same : x ≡ n = sym (placed-cell there) ∙ e in sym (ap (λ r. r .node .owes) (placed-once (subst (λ z. Placed s z q) same there) here)
+          ∙ unowing same))
       (λ ne. refl)
 
   before-kept : {x : ℕ} {q : Place} → Placed s x q → (NextIn s p q → p .node .owes ≡ false) → onCell n paid (q .before) .owes ≡ q .before .owes
@@ -130,7 +134,8 @@ module _ {s : State} (v : Sound s) {n : ℕ} {p : Place} (here : Placed s n p) w
   -- If n owes nothing, nothing changes.
   paid-nothing : p .node .owes ≡ false → picture after ≡ picture s
   paid-nothing unowing =
-      words-equal (picture-exact after) (picture-exact s) (changed-header s (onCell n paid) (paid-keeping n) (s .position)) (changed-path s (onCell n paid) (paid-keeping n))
+      words-equal (picture-exact after) (picture-exact s) (changed-header s (onCell n paid) (paid-keeping n) (s .position))
+          (changed-path s (onCell n paid) (paid-keeping n))
       (λ x j h k. at x j h k (placeOf x (placesOf s (s .row))) refl)
     where
       at : (x j : ℕ) → x < s .settings .cells → j < cellWords D → (o : Option Place) → placeOf x (placesOf s (s .row)) ≡ o →
@@ -270,7 +275,8 @@ module _ {s : State} (v : Sound s) {n : ℕ} {p : Place} (here : Placed s n p) w
     -- The words of the two, and of every other cell, are those that finishing writes.
 
     -- link d is none of the links that move
-    outside : (d : ℕ) → (p .dimension ≤ d → d < q .dimension → ⊥) → (i : ℕ) → lowAt (picture s) n ≤ i → i < highAt (picture s) n → linkField D d ≡ linkField D i → ⊥
+    outside : (d : ℕ) → (p .dimension ≤ d → d < q .dimension → ⊥) → (i : ℕ) → lowAt (picture s) n ≤ i → i < highAt (picture s) n →
+        linkField D d ≡ linkField D i → ⊥
     outside d out i l u e = out (omega (arith, low-is)) (omega (arith, high-is))
 
     own-link : (d : ℕ) → d < D → wordIn D (picture after) n (linkField D d) ≡ wordIn D (finishWords D (picture s) n) n (linkField D d)
@@ -312,7 +318,8 @@ module _ {s : State} (v : Sound s) {n : ℕ} {p : Place} (here : Placed s n p) w
         wordIn D (picture s) (q .node .cell) j ≡ wordIn D (finishWords D (picture s) n) (q .node .cell) j
     next-kept j h other = sym (finishWords-field (picture-exact s) n owing (q .node .cell) j h next-other other)
 
-    next-link : (d : ℕ) → d < D → wordIn D (picture after) (q .node .cell) (linkField D d) ≡ wordIn D (finishWords D (picture s) n) (q .node .cell) (linkField D d)
+    next-link : (d : ℕ) → d < D → wordIn D (picture after) (q .node .cell) (linkField D d)
+        ≡ wordIn D (finishWords D (picture s) n) (q .node .cell) (linkField D d)
     next-link d h =
         next-settled d h
         ∙ inside-cases (p .dimension) (q .dimension) d

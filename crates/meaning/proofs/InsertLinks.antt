@@ -19,8 +19,10 @@ use Rattle.meaning.proofs.Order.{Asc, asc-above}
 use Rattle.meaning.proofs.Keys.{shared-less, ultra}
 use Rattle.meaning.proofs.Picture.{place-here, place-past, Told, told}
 use Rattle.meaning.proofs.Places.{asc-left, lastFrom}
-use Rattle.meaning.proofs.Parent.{dimensionAfter, parentAfter, placesFrom, Apart, ParentPlace, asc-last, apart-left, sharing-skips, sharing-hits, sharing-none, link-leads, first-place, parent-unique, sharing-alike, sharing-above}
-use Rattle.meaning.proofs.WalkRead.{all-places, between-not, between-is, settled-above, between-below, linkDue, dueLink, linkOwing, link-tested, link-settled}
+use Rattle.meaning.proofs.Parent.{dimensionAfter, parentAfter, placesFrom, Apart, ParentPlace, asc-last, apart-left, sharing-skips}
+use Rattle.meaning.proofs.Parent.{sharing-hits, sharing-none, link-leads, first-place, parent-unique, sharing-alike, sharing-above}
+use Rattle.meaning.proofs.WalkRead.{all-places, between-not, between-is, settled-above, between-below, linkDue, dueLink, linkOwing}
+use Rattle.meaning.proofs.WalkRead.{link-tested, link-settled}
 use Rattle.meaning.proofs.SentencesRow.{places-ascend}
 
 -- Choices between numbers
@@ -56,7 +58,8 @@ module _ (b D : ℕ) where
       (linkOwing b D q d ≡ false → settledLink b D p d ≡ settledLink b D q d) → link b D p d ≡ link b D q d
   unfolding link
   link-same p q d e f g h =
-      cond-same (linkDue p d) (linkDue q d) (dueLink b D p d) (cond (linkOwing b D p d) 0 (settledLink b D p d)) (dueLink b D q d) (cond (linkOwing b D q d) 0 (settledLink b D q d)) e f
+      cond-same (linkDue p d) (linkDue q d) (dueLink b D p d) (cond (linkOwing b D p d) 0 (settledLink b D p d)) (dueLink b D q d)
+          (cond (linkOwing b D q d) 0 (settledLink b D q d)) e f
       (λ undue. cond-same (linkOwing b D p d) (linkOwing b D q d) 0 (settledLink b D p d) 0 (settledLink b D q d) g (λ y. refl) h)
 
   -- after a node that owes nothing
@@ -139,10 +142,12 @@ module _ (b D : ℕ) where
           rw (ne-eqb (shared b D key (y .key)) d ne) same
 
   -- below what x shares with the next larger node, the links of the two lead to the same
-  pub sharing-next : 0 < b → (key d : ℕ) (z : Node) (rest : List Node) → key < z .key → Asc (z .key) rest → d < shared b D key (z .key) → firstSharing b D key d (z ∷ rest) ≡ firstSharing b D (z .key) d rest
+  pub sharing-next : 0 < b → (key d : ℕ) (z : Node) (rest : List Node) → key < z .key → Asc (z .key) rest → d < shared b D key (z .key) →
+      firstSharing b D key d (z ∷ rest) ≡ firstSharing b D (z .key) d rest
   sharing-next pos key d z rest h a l =
       sharing-skips b D key d (z ∷ []) rest (λ e. omega arith, tt)
-      ∙ sharing-alike b D key (z .key) d rest (all-map (λ u k. let m = ultra b D key (z .key) (u .key) pos (omega arith) (omega arith) in (λ e. omega arith, λ e. omega arith)) rest (asc-above (z .key) rest a))
+      ∙ sharing-alike b D key (z .key) d rest (all-map (λ u k. let m = ultra b D key (z .key) (u .key) pos (omega arith) (omega arith) in
+          (λ e. omega arith, λ e. omega arith)) rest (asc-above (z .key) rest a))
 
 -- The new node and what comes behind it
 
@@ -213,7 +218,8 @@ module _ (b D : ℕ) (pos : 0 < b) where
           split (yes h) l g =
               unsettled (ap (λ t. cond t (firstSharing b D key d (p .later)) 0) (lt-leb e d h)) ∙ sym (no-link (λ m n. omega (arith, h, m, n)))
           split (no h) (yes l) g =
-              link-undue b D p d un ∙ ap (λ t. cond t 0 (settledLink b D p d)) (owned (omega arith) l (omega arith)) ∙ sym (no-link (λ m n. omega (arith, l, n)))
+              link-undue b D p d un ∙ ap (λ t. cond t 0 (settledLink b D p d)) (owned (omega arith) l (omega arith))
+                  ∙ sym (no-link (λ m n. omega (arith, l, n)))
           split (no h) (no l) (yes g) =
               let m : e ≤ q = omega arith in
               link-undue b D p d un
@@ -222,7 +228,8 @@ module _ (b D : ℕ) (pos : 0 < b) where
               ∙ sharing-hits b D key d z rest (sym g)
               ∙ sym (ap (λ t. cond t (z .cell) 0) (and-both (leb e q) (eqb d q) (le-leb e q m) (eq-eqb d q g)))
           split (no h) (no l) (no g) =
-              unsettled (sought (omega arith) ∙ sharing-above b D pos key d z rest (let h = a .0 in omega arith) (a .1) (omega arith)) ∙ sym (no-link (λ m n. g n))
+              unsettled (sought (omega arith) ∙ sharing-above b D pos key d z rest (let h = a .0 in omega arith) (a .1) (omega arith))
+                  ∙ sym (no-link (λ m n. g n))
 
   -- The next larger node z: before x stood it came after a and had dimension min p q, now it comes after x and has dimension q.
   pub link-of-next :
@@ -299,13 +306,15 @@ module _ (b D : ℕ) (pos : 0 < b) where
       record {
         node = refl;
         owed = refl;
-        low = cond-same (z .owes) (z .owes) (shared b D (x .key) (z .key)) 0 (shared b D (a .key) (z .key)) 0 refl (next-stays a x z rest h (asc .0) next) (λ f. refl);
+        low = cond-same (z .owes) (z .owes) (shared b D (x .key) (z .key)) 0 (shared b D (a .key) (z .key)) 0 refl
+            (next-stays a x z rest h (asc .0) next) (λ f. refl);
         high = refl;
         links = λ d f. link-of-next a x z e d rest h asc un own next;
       }
 
   -- the dimension of the node before matters only if that one owes
-  kept-behind : (n : ℕ) (z : Node) (e f : ℕ) (rest : List Node) → (z .owes ≡ true → e ≡ f) → (c : ℕ) → OnBoth (Kept b D n) (placeOf c (placesAfter b D z e rest)) (placeOf c (placesAfter b D z f rest))
+  kept-behind : (n : ℕ) (z : Node) (e f : ℕ) (rest : List Node) → (z .owes ≡ true → e ≡ f) → (c : ℕ) →
+      OnBoth (Kept b D n) (placeOf c (placesAfter b D z e rest)) (placeOf c (placesAfter b D z f rest))
   unfolding placesAfter placeOf
   kept-behind n z e f [] same c = tt
   kept-behind n z e f (u ∷ rest) same c =
@@ -317,7 +326,8 @@ module _ (b D : ℕ) (pos : 0 < b) where
         high = refl;
         links = λ d h.
             link-same b D (place e) (place f) d
-            (and-same (z .owes) (between e (shared b D (z .key) (u .key)) d) (between f (shared b D (z .key) (u .key)) d) (λ o. ap (λ m. between m (shared b D (z .key) (u .key)) d) (same o)))
+            (and-same (z .owes) (between e (shared b D (z .key) (u .key)) d) (between f (shared b D (z .key) (u .key)) d)
+                (λ o. ap (λ m. between m (shared b D (z .key) (u .key)) d) (same o)))
             (λ y. refl) refl (λ y. refl);
       })
       (both-itself b D n (placeOf c behind))
@@ -354,7 +364,8 @@ module _ (b D : ℕ) (pos : 0 < b) where
   kept-front w f y e front x post clear first =
       record {
         node = refl;
-        owed = cond-same (y .owes) (y .owes) (firstOf (front ++ x ∷ post) .cell) 0 (firstOf (front ++ post) .cell) 0 refl (λ o. ap (λ z. z .cell) (first o)) (λ n. refl);
+        owed = cond-same (y .owes) (y .owes) (firstOf (front ++ x ∷ post) .cell) 0 (firstOf (front ++ post) .cell) 0 refl
+            (λ o. ap (λ z. z .cell) (first o)) (λ n. refl);
         low = refl;
         high = high-same;
         links = λ d other.
@@ -363,7 +374,8 @@ module _ (b D : ℕ) (pos : 0 < b) where
             let one = both (w .owes) (between f e d) t in
             let two = both (leb f d) (ltb d e) (one .1) in
             sharing-put b D (w .key) d (y ∷ front) x post (clear (one .0) d (leb-true f d (two .0))))
-            (and-same (y .owes) (between (low now) (high b D now) d) (between (low before) (high b D before) d) (λ o. ap (λ m. between (low now) m d) high-same))
+            (and-same (y .owes) (between (low now) (high b D now) d) (between (low before) (high b D before) d)
+                (λ o. ap (λ m. between (low now) m d) high-same))
             (λ t. cond-same (leb e d) (leb e d) (firstSharing b D (y .key) d (front ++ x ∷ post)) 0 (firstSharing b D (y .key) d (front ++ post)) 0 refl
             (λ h. sharing-put b D (y .key) d front x post (λ g. other (settled-above b D now d (leb-true e d h) ∙ g))) (λ h. refl));
       }
@@ -375,14 +387,16 @@ module _ (b D : ℕ) (pos : 0 < b) where
       before = placeAfter w f y e (front ++ post)
 
       high-same : high b D now ≡ high b D before
-      high-same = cond-same (y .owes) (y .owes) (shared b D (y .key) (firstOf (front ++ x ∷ post) .key)) 0 (shared b D (y .key) (firstOf (front ++ post) .key)) 0 refl (λ o. ap (λ z. shared b D (y .key) (z .key)) (first o)) (λ n. refl)
+      high-same = cond-same (y .owes) (y .owes) (shared b D (y .key) (firstOf (front ++ x ∷ post) .key)) 0
+          (shared b D (y .key) (firstOf (front ++ post) .key)) 0 refl (λ o. ap (λ z. shared b D (y .key) (z .key)) (first o)) (λ n. refl)
 
   kept-from :
       (w : Node) (f : ℕ) (y : Node) (e : ℕ) (pre : List Node) (x : Node) (post : List Node) → Asc (y .key) (pre ++ x ∷ post) → lastFrom y pre .owes ≡ false →
       (w .owes ≡ true → (d : ℕ) → f ≤ d → firstSharing b D (w .key) d (y ∷ (pre ++ x ∷ post)) ≡ x .cell → ⊥) →
       All (λ p. p .node .owes ≡ true → (d : ℕ) → settledLink b D p d ≡ x .cell → ⊥) (placesFrom b D w f y e (pre ++ x ∷ post)) →
       x .owes ≡ newOwes b D (x .key) (dimensionAfter b D y pre (x .key)) post → NextUnowing b D (x .key) (dimensionAfter b D y pre (x .key)) post →
-      (c : ℕ) → (x .cell ≡ c → ⊥) → OnBoth (Kept b D (x .cell)) (placeOf c (placesFrom b D w f y e (pre ++ x ∷ post))) (placeOf c (placesFrom b D w f y e (pre ++ post)))
+      (c : ℕ) → (x .cell ≡ c → ⊥) → OnBoth (Kept b D (x .cell)) (placeOf c (placesFrom b D w f y e (pre ++ x ∷ post)))
+          (placeOf c (placesFrom b D w f y e (pre ++ post)))
   unfolding placesAfter lastFrom
   kept-from w f y e [] x post asc un clear led own next c other =
       both-step b D (x .cell) c (placeAfter w f y e (x ∷ post)) (placeAfter w f y e post)
@@ -408,7 +422,9 @@ pub record Cleared (b D : ℕ) (pre : List Node) (x : Node) (post : List Node) :
   pub next : NextUnowing b D (x .key) (dimensionAfter b D headNode pre (x .key)) post
   pub own : x .owes ≡ newOwes b D (x .key) (dimensionAfter b D headNode pre (x .key)) post
 
-module _ (s : State) (pre : List Node) (x : Node) (post : List Node) (pos : 0 < s .settings .base) (deep : 0 < s .settings .dimensions) (a : Asc 0 (pre ++ x ∷ post)) (o : Apart (headNode ∷ (pre ++ x ∷ post))) (clear : Cleared (s .settings .base) (s .settings .dimensions) pre x post) where
+module _ (s : State) (pre : List Node) (x : Node) (post : List Node) (pos : 0 < s .settings .base) (deep : 0 < s .settings .dimensions)
+    (a : Asc 0 (pre ++ x ∷ post)) (o : Apart (headNode ∷ (pre ++ x ∷ post)))
+    (clear : Cleared (s .settings .base) (s .settings .dimensions) pre x post) where
   -- a place that owes has no link to x
   owing-leads-elsewhere :
       All (λ p. p .node .owes ≡ true → (d : ℕ) → settledLink (s .settings .base) (s .settings .dimensions) p d ≡ x .cell → ⊥)
@@ -424,7 +440,8 @@ module _ (s : State) (pre : List Node) (x : Node) (post : List Node) (pos : 0 < 
   pub kept-places :
       (c : ℕ) → (x .cell ≡ c → ⊥) →
       OnBoth (Kept (s .settings .base) (s .settings .dimensions) (x .cell))
-      (placeOf c (places (s .settings .base) (s .settings .dimensions) (pre ++ x ∷ post))) (placeOf c (places (s .settings .base) (s .settings .dimensions) (pre ++ post)))
+      (placeOf c (places (s .settings .base) (s .settings .dimensions) (pre ++ x ∷ post)))
+          (placeOf c (places (s .settings .base) (s .settings .dimensions) (pre ++ post)))
   unfolding places
   kept-places c other =
       kept-from (s .settings .base) (s .settings .dimensions) pos headNode 0 headNode 0 pre x post a (clear .last)
@@ -432,14 +449,16 @@ module _ (s : State) (pre : List Node) (x : Node) (post : List Node) (pos : 0 < 
 
   -- link p of the parent leads to x
   pub link-of-parent :
-      (p : Place) → placeOf (parentAfter (s .settings .base) (s .settings .dimensions) headNode pre (x .key)) (places (s .settings .base) (s .settings .dimensions) (pre ++ x ∷ post)) ≡ some p →
+      (p : Place) → placeOf (parentAfter (s .settings .base) (s .settings .dimensions) headNode pre (x .key))
+          (places (s .settings .base) (s .settings .dimensions) (pre ++ x ∷ post)) ≡ some p →
       link (s .settings .base) (s .settings .dimensions) p (dimensionAfter (s .settings .base) (s .settings .dimensions) headNode pre (x .key)) ≡ x .cell
   unfolding places
   link-of-parent p found =
       subst (λ q. link b D q d ≡ x .cell) same
       (link-above b D t d unowing (h .low)
       ∙ ap (firstSharing b D (t .node .key) d) (h .later-is)
-      ∙ subst (λ m. shared b D (m .key) (x .key) < shared b D (t .node .key) (m .key) → firstSharing b D (t .node .key) (shared b D (m .key) (x .key)) (h .between ++ x ∷ post) ≡ x .cell) (h .last-is)
+      ∙ subst (λ m. shared b D (m .key) (x .key) < shared b D (t .node .key) (m .key) →
+          firstSharing b D (t .node .key) (shared b D (m .key) (x .key)) (h .between ++ x ∷ post) ≡ x .cell) (h .last-is)
       (link-leads b D pos deep (t .node) (h .between) x post (subst (Asc (t .node .key)) (h .later-is) ascends)) (h .shares))
     where
       b : ℕ
@@ -474,10 +493,13 @@ module _ (s : State) (pre : List Node) (x : Node) (post : List Node) (pos : 0 < 
       same : t ≡ p
       same = let e = at .1 in let f : some t ≡ some p = sym e ∙ found in cc
 
-      fact : (t .node .cell ≡ parentAfter b D headNode pre (x .key)) × ((t .node .cell ≡ parentAfter b D headNode pre (x .key) → t .node .owes ≡ false) × Asc (t .node .key) (t .later))
+      fact : (t .node .cell ≡ parentAfter b D headNode pre (x .key))
+          × ((t .node .cell ≡ parentAfter b D headNode pre (x .key) → t .node .owes ≡ false) × Asc (t .node .key) (t .later))
       fact =
-          subst (Told (λ q. (q .node .cell ≡ parentAfter b D headNode pre (x .key) → q .node .owes ≡ false) × Asc (q .node .key) (q .later)) (parentAfter b D headNode pre (x .key))) (at .1)
-          (told (λ q. (q .node .cell ≡ parentAfter b D headNode pre (x .key) → q .node .owes ≡ false) × Asc (q .node .key) (q .later)) (parentAfter b D headNode pre (x .key)) (places b D row)
+          subst (Told (λ q. (q .node .cell ≡ parentAfter b D headNode pre (x .key) → q .node .owes ≡ false) × Asc (q .node .key) (q .later))
+              (parentAfter b D headNode pre (x .key))) (at .1)
+          (told (λ q. (q .node .cell ≡ parentAfter b D headNode pre (x .key) → q .node .owes ≡ false) × Asc (q .node .key) (q .later))
+              (parentAfter b D headNode pre (x .key)) (places b D row)
           (all-zip (λ q f g. (f, g)) (places b D row)
           (all-places (λ y. y .cell ≡ parentAfter b D headNode pre (x .key) → y .owes ≡ false) b D row (clear .parent .0) (clear .parent .1))
           (places-ascend b D row a)))
@@ -492,13 +514,16 @@ module _ (s : State) (pre : List Node) (x : Node) (post : List Node) (pos : 0 < 
   pub link-of-other :
       (c d : ℕ) (p q : Place) → placeOf c (places (s .settings .base) (s .settings .dimensions) (pre ++ x ∷ post)) ≡ some p →
       placeOf c (places (s .settings .base) (s .settings .dimensions) (pre ++ post)) ≡ some q → (x .cell ≡ c → ⊥) →
-      (c ≡ parentAfter (s .settings .base) (s .settings .dimensions) headNode pre (x .key) → d ≡ dimensionAfter (s .settings .base) (s .settings .dimensions) headNode pre (x .key) → ⊥) →
+      (c ≡ parentAfter (s .settings .base) (s .settings .dimensions) headNode pre (x .key) →
+          d ≡ dimensionAfter (s .settings .base) (s .settings .dimensions) headNode pre (x .key) → ⊥) →
       link (s .settings .base) (s .settings .dimensions) p d ≡ link (s .settings .base) (s .settings .dimensions) q d
   link-of-other c d p q now before other elsewhere =
       let b = s .settings .base in
       let D = s .settings .dimensions in
       let kept = subst₂ (OnBoth (Kept b D (x .cell))) now before (kept-places c other) in
       let unique =
-      subst (Told (λ r. (m : ℕ) → settledLink b D r m ≡ x .cell → (r .node .cell ≡ parentAfter b D headNode pre (x .key)) × (m ≡ dimensionAfter b D headNode pre (x .key))) c) now
-      (told (λ r. (m : ℕ) → settledLink b D r m ≡ x .cell → (r .node .cell ≡ parentAfter b D headNode pre (x .key)) × (m ≡ dimensionAfter b D headNode pre (x .key))) c (places b D (pre ++ x ∷ post)) (parent-unique s pre x post pos deep a o)) in
+      subst (Told (λ r. (m : ℕ) → settledLink b D r m ≡ x .cell → (r .node .cell ≡ parentAfter b D headNode pre (x .key))
+          × (m ≡ dimensionAfter b D headNode pre (x .key))) c) now
+      (told (λ r. (m : ℕ) → settledLink b D r m ≡ x .cell → (r .node .cell ≡ parentAfter b D headNode pre (x .key))
+          × (m ≡ dimensionAfter b D headNode pre (x .key))) c (places b D (pre ++ x ∷ post)) (parent-unique s pre x post pos deep a o)) in
       kept .links d (λ leads. let u = unique .1 d leads in elsewhere (sym (unique .0) ∙ u .0) (u .1))

@@ -22,7 +22,8 @@ use Rattle.meaning.proofs.Placed.{placed-node, placed-cell, placed-keyO
 use Rattle.meaning.proofs.InsertPut.{withNew}
 
 -- one that shares too little is passed over
-first-passes : (b D key n : ℕ) (x : Node) (pre post : List Node) → shared b D (x .key) key < n → firstWith b D key n (pre ++ x ∷ post) ≡ firstWith b D key n (pre ++ post)
+first-passes : (b D key n : ℕ) (x : Node) (pre post : List Node) → shared b D (x .key) key < n →
+    firstWith b D key n (pre ++ x ∷ post) ≡ firstWith b D key n (pre ++ post)
 unfolding firstWith
 first-passes b D key n x [] post h = first-skips b D key n x post h
 first-passes b D key n x (y ∷ pre) post h = rw (first-passes b D key n x pre post h) refl
@@ -70,7 +71,8 @@ module _ (s : State) (v : Sound s) (x : Node) (g : Gap (x .key) (s .row)) (new :
       key : ℕ
       key = positionKey s
 
-      at : Dec (shared b D (x .key) key < suc d) → firstWith b D key (suc d) (headNode ∷ (g .pre ++ x ∷ g .post)) ≡ firstWith b D key (suc d) (headNode ∷ (g .pre ++ g .post))
+      at : Dec (shared b D (x .key) key < suc d) → firstWith b D key (suc d) (headNode ∷ (g .pre ++ x ∷ g .post))
+          ≡ firstWith b D key (suc d) (headNode ∷ (g .pre ++ g .post))
       at (yes h) = first-passes b D key (suc d) x (headNode ∷ g .pre) (g .post) h
       at (no h) =
           let u = ultra b D key (last .key) (x .key) (base-positive s v) position-least (omega (arith, last-below)) in

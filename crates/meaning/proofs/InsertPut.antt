@@ -31,11 +31,15 @@ use Rattle.meaning.proofs.Places.{lastFrom, dimensionFrom}
 use Rattle.meaning.proofs.Parent.{dimensionAfter, Without, Apart, asc-last, place-at}
 use Rattle.meaning.proofs.Slot.{Gap, sound-apart, dimensions-positive, SlotIs}
 use Rattle.meaning.proofs.KeepsInsert.{slot-first}
-use Rattle.meaning.proofs.Placed.{Placed, place-word, place-key, place-value, place-mark, place-owed, place-low, place-high, place-coordinate, place-link, free-cell-word}
-use Rattle.meaning.proofs.Stores.{Exact, picture-exact, field-cases, words-equal, exact-set, exact-sets, header-set-word, store-same, store-other, store-below, cell-sets-inside, cell-sets-other, cell-sets-below, path-sets-header, path-sets-path, path-sets-word}
+use Rattle.meaning.proofs.Placed.{Placed, place-word, place-key, place-value, place-mark, place-owed, place-low, place-high, place-coordinate}
+use Rattle.meaning.proofs.Placed.{place-link, free-cell-word}
+use Rattle.meaning.proofs.Stores.{Exact, picture-exact, field-cases, words-equal, exact-set, exact-sets, header-set-word, store-same}
+use Rattle.meaning.proofs.Stores.{store-other, store-below, cell-sets-inside, cell-sets-other, cell-sets-below, path-sets-header}
+use Rattle.meaning.proofs.Stores.{path-sets-path, path-sets-word}
 use Rattle.meaning.proofs.Changed.{picture-path-word}
 use Rattle.meaning.proofs.InsertLinks.{placeAfter, Kept, OnBoth, newLink, Cleared, link-of-new, kept-places, link-of-parent, link-of-other}
-use Rattle.meaning.proofs.InsertSlot.{slot-below, slot-next, slotLinks, slotLinks-length, slot-number, slot-new, slot-parent-placed, slot-apart, slot-link, slot-cleared}
+use Rattle.meaning.proofs.InsertSlot.{slot-below, slot-next, slotLinks, slotLinks-length, slot-number, slot-new, slot-parent-placed}
+use Rattle.meaning.proofs.InsertSlot.{slot-apart, slot-link, slot-cleared}
 
 -- the state with a new node in the first free cell, between two parts of the row
 abbrev pub withNew : State → List Node → Node → List Node → ℕ → State
@@ -59,7 +63,8 @@ next-free c (n ∷ free) other = sym (ap (λ t. cond t (firstNumber free) (nextF
 
 -- Where neither the parent nor c owes
 
-module _ (s : State) (v : Sound s) (key value : ℕ) (positive : 0 < key) (g : Gap key (s .row)) (f : 0 < length (s .free)) (t : Slot) (i : SlotIs s key (g .pre) (g .post) t)
+module _ (s : State) (v : Sound s) (key value : ℕ) (positive : 0 < key) (g : Gap key (s .row)) (f : 0 < length (s .free)) (t : Slot)
+    (i : SlotIs s key (g .pre) (g .post) t)
     (parent-paid : All (λ y. y .cell ≡ t .parent → y .owes ≡ false) (s .row)) (c-paid : All (λ y. y .cell ≡ t .c → y .owes ≡ false) (s .row))
     (position : ℕ) (w : Sound (withNew s (g .pre) (newNode (t .n) key value (slotOwes t)) (g .post) position)) where
   abbrev b : ℕ
@@ -95,12 +100,15 @@ module _ (s : State) (v : Sound s) (key value : ℕ) (positive : 0 < key) (g : G
       Placed (withNew s (g .pre) (newNode (t .n) key value (slotOwes t)) (g .post) position) (t .n)
       (newPlace (s .settings .base) (s .settings .dimensions) (g .pre) (newNode (t .n) key value (slotOwes t)) (g .post))
   unfolding places
-  put-new = record { found = place-at b D headNode 0 headNode 0 (g .pre) x (g .post) (all-left (λ z. z .cell ≡ t .n → ⊥) (headNode ∷ g .pre) (g .post) (subst (λ r. Without (t .n) (headNode ∷ r)) (g .splits) (slot-new s v key positive g f t i))) }
+  put-new = record { found = place-at b D headNode 0 headNode 0 (g .pre) x (g .post)
+      (all-left (λ z. z .cell ≡ t .n → ⊥) (headNode ∷ g .pre) (g .post)
+      (subst (λ r. Without (t .n) (headNode ∷ r)) (g .splits) (slot-new s v key positive g f t i))) }
 
   -- "c becomes link q of n", and no other link leads anywhere
   pub put-link :
       (d : ℕ) → d < s .settings .dimensions →
-      link (s .settings .base) (s .settings .dimensions) (newPlace (s .settings .base) (s .settings .dimensions) (g .pre) (newNode (t .n) key value (slotOwes t)) (g .post)) d
+      link (s .settings .base) (s .settings .dimensions) (newPlace (s .settings .base) (s .settings .dimensions) (g .pre)
+          (newNode (t .n) key value (slotOwes t)) (g .post)) d
       ≡ getD (slotLinks (s .settings .dimensions) t) d 0
   put-link d h =
       link-of-new b D pos new d (clear .last) (asc-last headNode (g .pre) (x ∷ g .post) (w .ascends) .1) (clear .own)
@@ -115,7 +123,8 @@ module _ (s : State) (v : Sound s) (key value : ℕ) (positive : 0 < key) (g : G
 
   pub put-new-words :
       newWords (s .settings .base) (s .settings .dimensions) key value t
-      ≡ standingWords (s .settings .base) (s .settings .dimensions) (newPlace (s .settings .base) (s .settings .dimensions) (g .pre) (newNode (t .n) key value (slotOwes t)) (g .post))
+      ≡ standingWords (s .settings .base) (s .settings .dimensions) (newPlace (s .settings .base) (s .settings .dimensions) (g .pre)
+          (newNode (t .n) key value (slotOwes t)) (g .post))
   unfolding newWords standingWords
   put-new-words = same-words (held (slotOwes t) refl) (ap (λ p. cond (slotOwes t) p 0) (i .p-is)) (high-is (slotOwes t) refl) new-links
     where
@@ -143,7 +152,8 @@ module _ (s : State) (v : Sound s) (key value : ℕ) (positive : 0 < key) (g : G
       (c : ℕ) (p q : Place) → Placed now c p → Placed s c q → Kept b D (t .n) p q → (j : ℕ) → j < cellWords D →
       ((d : ℕ) → j ≡ linkField D d → link b D p d ≡ link b D q d) → wordAt (picture now) c j ≡ wordAt (picture s) c j
   unfolding picture
-  word-kept c p q here there k = field-cases Same D first (λ d h l. coordinate-kept d h) (λ d h l. place-link w here d h ∙ l d refl ∙ sym (place-link v there d h))
+  word-kept c p q here there k = field-cases Same D first (λ d h l. coordinate-kept d h)
+      (λ d h l. place-link w here d h ∙ l d refl ∙ sym (place-link v there d h))
     where
       Same : ℕ → Type 0
       Same j = ((d : ℕ) → j ≡ linkField D d → link b D p d ≡ link b D q d) → wordAt (picture now) c j ≡ wordAt (picture s) c j
@@ -168,12 +178,14 @@ module _ (s : State) (v : Sound s) (key value : ℕ) (positive : 0 < key) (g : G
 
   -- a cell that is not the new one, but for link p of the parent
   pub put-elsewhere :
-      (c j : ℕ) → c < s .settings .cells → j < cellWords (s .settings .dimensions) → (t .n ≡ c → ⊥) → (c ≡ t .parent → j ≡ linkField (s .settings .dimensions) (t .p) → ⊥) →
+      (c j : ℕ) → c < s .settings .cells → j < cellWords (s .settings .dimensions) → (t .n ≡ c → ⊥) →
+          (c ≡ t .parent → j ≡ linkField (s .settings .dimensions) (t .p) → ⊥) →
       wordAt (picture (withNew s (g .pre) (newNode (t .n) key value (slotOwes t)) (g .post) position)) c j ≡ wordAt (picture s) c j
   unfolding picture
   put-elsewhere c j below h other elsewhere = at (placeOf c (placesOf now (now .row))) (placeOf c (placesOf s (s .row))) refl refl (both-found c other)
     where
-      at : (o q : Option Place) → placeOf c (placesOf now (now .row)) ≡ o → placeOf c (placesOf s (s .row)) ≡ q → OnBoth (Kept b D (t .n)) o q → wordAt (picture now) c j ≡ wordAt (picture s) c j
+      at : (o q : Option Place) → placeOf c (placesOf now (now .row)) ≡ o → placeOf c (placesOf s (s .row)) ≡ q → OnBoth (Kept b D (t .n)) o q →
+          wordAt (picture now) c j ≡ wordAt (picture s) c j
       at none none e u k =
           free-cell-word now c below e j h
           ∙ ap (λ n. getD (freeWords D n) j 0) (next-free c (s .free) (λ m. other (i .n-is ∙ m)))
@@ -194,7 +206,8 @@ module _ (s : State) (v : Sound s) (key value : ℕ) (positive : 0 < key) (g : G
       inside : t .p < D
       inside = slot-number s v key positive g f t i
 
-      at : (o : Option Place) → placeOf (t .parent) (placesOf now (now .row)) ≡ o → OnBoth (Kept b D (t .n)) o (placeOf (t .parent) (placesOf s (s .row))) → wordAt (picture now) (t .parent) (linkField D (t .p)) ≡ t .n
+      at : (o : Option Place) → placeOf (t .parent) (placesOf now (now .row)) ≡ o →
+          OnBoth (Kept b D (t .n)) o (placeOf (t .parent) (placesOf s (s .row))) → wordAt (picture now) (t .parent) (linkField D (t .p)) ≡ t .n
       at none e k = absurd (subst (OnBoth (Kept b D (t .n)) none) (slot-parent-placed s v key positive g f t i .1 .found) k)
       at (some p) e k =
           place-link w (record { found = e }) (t .p) inside
@@ -234,37 +247,43 @@ module _ (s : State) (v : Sound s) (key value : ℕ) (positive : 0 < key) (g : G
       header (suc (suc (suc (suc zero)))) l = sym (slot-next s v key positive g f t i)
       header (suc (suc (suc (suc (suc k))))) l = absurd (omega arith)
 
-  put-cell : (c j : ℕ) → c < s .settings .cells → j < cellWords D → getD (picture now) (wordIndex D c j) 0 ≡ getD (writeNew b D (picture s) key value t) (wordIndex D c j) 0
+  put-cell : (c j : ℕ) → c < s .settings .cells → j < cellWords D → getD (picture now) (wordIndex D c j) 0
+      ≡ getD (writeNew b D (picture s) key value t) (wordIndex D c j) 0
   unfolding picture
   put-cell c j below h = at (ℕ-discrete (t .n) c) (ℕ-discrete c (t .parent)) (ℕ-discrete j (linkField D (t .p)))
     where
       number : linkField D (t .p) < cellWords D
       number = let l = slot-number s v key positive g f t i in omega arith
 
-      elsewhere : (t .n ≡ c → ⊥) → (c ≡ t .parent → j ≡ linkField D (t .p) → ⊥) → getD (picture now) (wordIndex D c j) 0 ≡ getD (store D written (t .parent) (linkField D (t .p)) (t .n)) (wordIndex D c j) 0
+      elsewhere : (t .n ≡ c → ⊥) → (c ≡ t .parent → j ≡ linkField D (t .p) → ⊥) →
+          getD (picture now) (wordIndex D c j) 0 ≡ getD (store D written (t .parent) (linkField D (t .p)) (t .n)) (wordIndex D c j) 0
       elsewhere ne off-link =
           put-elsewhere c j below h ne off-link
           ∙ sym (store-other D written (t .parent) (linkField D (t .p)) (t .n) c j number h off-link
           ∙ cell-sets-other D off (t .n) 0 (newWords b D key value t) (omega (arith, newWords-length)) c j h (λ e. ne (sym e))
           ∙ header-set-word D (picture s) 4 (getD (picture s) (wordIndex D (t .n) 0) 0) c j (omega arith))
 
-      at : Dec (t .n ≡ c) → Dec (c ≡ t .parent) → Dec (j ≡ linkField D (t .p)) → getD (picture now) (wordIndex D c j) 0 ≡ getD (store D written (t .parent) (linkField D (t .p)) (t .n)) (wordIndex D c j) 0
+      at : Dec (t .n ≡ c) → Dec (c ≡ t .parent) → Dec (j ≡ linkField D (t .p)) →
+          getD (picture now) (wordIndex D c j) 0 ≡ getD (store D written (t .parent) (linkField D (t .p)) (t .n)) (wordIndex D c j) 0
       at (yes e) m n =
           subst (λ y. getD (picture now) (wordIndex D y j) 0 ≡ getD (store D written (t .parent) (linkField D (t .p)) (t .n)) (wordIndex D y j) 0) e
           (place-word w put-new j h
           ∙ ap (λ ws. getD ws j 0) (sym put-new-words)
           ∙ sym (store-other D written (t .parent) (linkField D (t .p)) (t .n) (t .n) j number h (λ q r. slot-apart s v key positive g f t i q)
           ∙ ap (λ k. getD written (wordIndex D (t .n) k) 0) (sym (zero-add j))
-          ∙ cell-sets-inside off-exact (t .n) 0 (newWords b D key value t) (slot-below s v key positive g f t i) (omega (arith, newWords-length)) j (omega (arith, newWords-length))))
+          ∙ cell-sets-inside off-exact (t .n) 0 (newWords b D key value t) (slot-below s v key positive g f t i) (omega (arith, newWords-length)) j
+              (omega (arith, newWords-length))))
       at (no ne) (yes m) (yes n) =
-          subst₂ (λ y k. getD (picture now) (wordIndex D y k) 0 ≡ getD (store D written (t .parent) (linkField D (t .p)) (t .n)) (wordIndex D y k) 0) (sym m) (sym n)
+          subst₂ (λ y k. getD (picture now) (wordIndex D y k) 0 ≡ getD (store D written (t .parent) (linkField D (t .p)) (t .n)) (wordIndex D y k) 0)
+              (sym m) (sym n)
           (put-parent ∙ sym (store-same written-exact (t .parent) (linkField D (t .p)) (t .n) (subst (λ y. y < s .settings .cells) m below) number))
       at (no ne) (yes m) (no n) = elsewhere ne (λ e q. n q)
       at (no ne) (no m) n = elsewhere ne (λ e q. m e)
 
   pub put-words :
       picture (withNew s (g .pre) (newNode (t .n) key value (slotOwes t)) (g .post) position)
-      ≡ writePath (writeNew (s .settings .base) (s .settings .dimensions) (picture s) key value t) (path (withNew s (g .pre) (newNode (t .n) key value (slotOwes t)) (g .post) position))
+      ≡ writePath (writeNew (s .settings .base) (s .settings .dimensions) (picture s) key value t)
+          (path (withNew s (g .pre) (newNode (t .n) key value (slotOwes t)) (g .post) position))
   put-words =
       let exact = exact-set written-exact (wordIndex D (t .parent) (linkField D (t .p))) (t .n) in
       let ws = writeNew b D (picture s) key value t in

@@ -30,7 +30,8 @@ use Rattle.meaning.proofs.Picture.{first-has, free-found}
 use Rattle.meaning.proofs.Places.{asc-left, lastFrom, Keeping, firstOf-changed}
 use Rattle.meaning.proofs.KeepsState.{cells-positive, cell-stands}
 use Rattle.meaning.proofs.Parent.{dimensionAfter, parentAfter, Without, Apart, ParentPlace, all-last, asc-last, apart-left, first-place, settled-leads}
-use Rattle.meaning.proofs.Slot.{Gap, sound-apart, first-free-all, dimensions-positive, cellAfter, SlotIs, last-changed, parent-changed, gap-last, first-free-apart}
+use Rattle.meaning.proofs.Slot.{Gap, sound-apart, first-free-all, dimensions-positive, cellAfter, SlotIs, last-changed, parent-changed}
+use Rattle.meaning.proofs.Slot.{gap-last, first-free-apart}
 use Rattle.meaning.proofs.Placed.{Placed, placed-node, placed-cell, head-placed, occurs-placed, free-cell-first}
 use Rattle.meaning.proofs.SentencesShape.{placed-ascends, place-settled}
 use Rattle.meaning.proofs.KeepsInsert.{slot-first, owing-parent}
@@ -84,7 +85,8 @@ slotLinks-length D t = at (eqb (t .c) 0)
 
 -- all 0 but link q, which is c, where there is a c
 pub slotLinks-none : (D d : ℕ) (t : Slot) → d < D → t .c ≡ 0 → getD (slotLinks D t) d 0 ≡ 0
-slotLinks-none D d t h e = ap (λ r. getD (cond r (replicate D 0) (set (replicate D 0) (t .q) (t .c))) d 0) (eq-eqb (t .c) 0 e) ∙ getD-replicate {A = ℕ} D d 0 0 h
+slotLinks-none D d t h e = ap (λ r. getD (cond r (replicate D 0) (set (replicate D 0) (t .q) (t .c))) d 0) (eq-eqb (t .c) 0 e)
+    ∙ getD-replicate {A = ℕ} D d 0 0 h
 
 pub slotLinks-other : (D d : ℕ) (t : Slot) → d < D → (d ≡ t .q → ⊥) → getD (slotLinks D t) d 0 ≡ 0
 slotLinks-other D d t h ne = at (eqb (t .c) 0)
@@ -121,7 +123,8 @@ module _ (b D key : ℕ) (t : Slot) where
   link-at [] stands c q d h = slotLinks-none D d t h c
   link-at (z ∷ rest) stands c q d h = at (decLe (t .p) (shared b D key (z .key))) (ℕ-discrete d (shared b D key (z .key)))
     where
-      at : Dec (t .p ≤ shared b D key (z .key)) → Dec (d ≡ shared b D key (z .key)) → getD (slotLinks D t) d 0 ≡ cond (leb (t .p) (shared b D key (z .key)) && eqb d (shared b D key (z .key))) (z .cell) 0
+      at : Dec (t .p ≤ shared b D key (z .key)) → Dec (d ≡ shared b D key (z .key)) →
+          getD (slotLinks D t) d 0 ≡ cond (leb (t .p) (shared b D key (z .key)) && eqb d (shared b D key (z .key))) (z .cell) 0
       at (yes l) (yes e) =
           let is = slot-held b D key (t .p) z rest l in
           let held : t .c ≡ 0 → ⊥ = λ n. let s = stands .0 in omega arith in
@@ -150,15 +153,18 @@ first-next (n ∷ free) = ap (λ t. cond t (firstNumber free) (nextFree n free))
 
 -- a settled link leads from a node's parent to it, and the link's number is the node's dimension
 pub parent-leads : (s : State) → Sound s → (pre : List Node) (x : Node) (post : List Node) → s .row ≡ pre ++ x ∷ post →
-    Settled (picture s) (parentAfter (s .settings .base) (s .settings .dimensions) headNode pre (x .key)) (dimensionAfter (s .settings .base) (s .settings .dimensions) headNode pre (x .key)) (x .cell)
+    Settled (picture s) (parentAfter (s .settings .base) (s .settings .dimensions) headNode pre (x .key))
+        (dimensionAfter (s .settings .base) (s .settings .dimensions) headNode pre (x .key)) (x .cell)
 unfolding places
 parent-leads s v pre x post split =
     let ascends = subst (Asc 0) split (v .ascends) in
     let (p, found, is) =
     first-place b D (base-positive s v) (dimensions-positive s v) d headNode 0 headNode 0 pre (x ∷ post) (asc-left 0 pre (x ∷ post) ascends)
     (apart-left (headNode ∷ pre) (x ∷ post) (subst (λ r. Apart (headNode ∷ r)) split (sound-apart s v)))
-    (shared-less b D (lastFrom headNode pre .key) (x .key) (dimensions-positive s v) (let h = asc-last headNode pre (x ∷ post) ascends .0 in omega arith)) (λ q. omega arith) in
-    let here : Placed s (parentAfter b D headNode pre (x .key)) p = record { found = ap (λ r. placeOf (parentAfter b D headNode pre (x .key)) (places b D r)) split ∙ found } in
+    (shared-less b D (lastFrom headNode pre .key) (x .key) (dimensions-positive s v)
+        (let h = asc-last headNode pre (x ∷ post) ascends .0 in omega arith)) (λ q. omega arith) in
+    let here : Placed s (parentAfter b D headNode pre (x .key)) p = record
+        { found = ap (λ r. placeOf (parentAfter b D headNode pre (x .key)) (places b D r)) split ∙ found } in
     subst (Settled (picture s) (parentAfter b D headNode pre (x .key)) d) (leads p is (placed-ascends v here)) (place-settled v here d)
   where
     b : ℕ
@@ -178,11 +184,13 @@ parent-leads s v pre x post split =
         let more = is .shares in
         ap (λ r. cond (leb (p .dimension) d) (firstSharing b D (p .node .key) d r) 0) (is .later-is)
         ∙ ap (λ n. cond (leb (p .dimension) n) (firstSharing b D (p .node .key) n (is .between ++ x ∷ post)) 0) (sym number)
-        ∙ settled-leads b D (base-positive s v) (dimensions-positive s v) (p .node) (p .dimension) (is .between) x post (subst (Asc (p .node .key)) (is .later-is) up) (omega (arith, more, number, last)) (omega (arith, low, number))
+        ∙ settled-leads b D (base-positive s v) (dimensions-positive s v) (p .node) (p .dimension) (is .between) x post
+            (subst (Asc (p .node .key)) (is .later-is) up) (omega (arith, more, number, last)) (omega (arith, low, number))
 
 -- The slot in a state in order
 
-module _ (s : State) (v : Sound s) (key : ℕ) (positive : 0 < key) (g : Gap key (s .row)) (f : 0 < length (s .free)) (t : Slot) (i : SlotIs s key (g .pre) (g .post) t) where
+module _ (s : State) (v : Sound s) (key : ℕ) (positive : 0 < key) (g : Gap key (s .row)) (f : 0 < length (s .free)) (t : Slot)
+    (i : SlotIs s key (g .pre) (g .post) t) where
   abbrev b : ℕ
   b = s .settings .base
 
@@ -218,7 +226,8 @@ module _ (s : State) (v : Sound s) (key : ℕ) (positive : 0 < key) (g : Gap key
   -- the new cell's first word leads on in the chain
   pub slot-next : wordAt (picture s) (t .n) 0 ≡ firstNumber (drop 1 (s .free))
   slot-next =
-      free-cell-first s (t .n) slot-below (subst (λ c. placeOf c (placesOf s (s .row)) ≡ none) (sym (i .n-is)) (first-free-all (λ c. placeOf c (placesOf s (s .row)) ≡ none) (s .free) f (free-found s v)))
+      free-cell-first s (t .n) slot-below (subst (λ c. placeOf c (placesOf s (s .row)) ≡ none) (sym (i .n-is))
+          (first-free-all (λ c. placeOf c (placesOf s (s .row)) ≡ none) (s .free) f (free-found s v)))
       ∙ ap (λ c. nextFree c (s .free)) (i .n-is) ∙ first-next (s .free)
 
   -- c stands, or is 0, the head
@@ -265,10 +274,12 @@ module _ (s : State) (v : Sound s) (key : ℕ) (positive : 0 < key) (g : Gap key
   pub slot-owes : slotOwes t ≡ newOwes (s .settings .base) (s .settings .dimensions) key (t .p) (g .post)
   slot-owes = owes-at b D key t (g .post) above-stand held-by (i .q-is)
 
-  pub slot-link : (d : ℕ) → d < s .settings .dimensions → getD (slotLinks (s .settings .dimensions) t) d 0 ≡ newLink (s .settings .base) (s .settings .dimensions) key (t .p) (g .post) d
+  pub slot-link : (d : ℕ) → d < s .settings .dimensions → getD (slotLinks (s .settings .dimensions) t) d 0
+      ≡ newLink (s .settings .base) (s .settings .dimensions) key (t .p) (g .post) d
   slot-link = link-at b D key t (g .post) above-stand held-by (i .q-is)
 
-  module _ (value : ℕ) (parent-paid : All (λ y. y .cell ≡ t .parent → y .owes ≡ false) (s .row)) (c-paid : All (λ y. y .cell ≡ t .c → y .owes ≡ false) (s .row)) where
+  module _ (value : ℕ) (parent-paid : All (λ y. y .cell ≡ t .parent → y .owes ≡ false) (s .row))
+      (c-paid : All (λ y. y .cell ≡ t .c → y .owes ≡ false) (s .row)) where
     abbrev Paid : Node → Type 0
     Paid y = y .cell ≡ t .parent → y .owes ≡ false
 
@@ -283,7 +294,8 @@ module _ (s : State) (v : Sound s) (key : ℕ) (positive : 0 < key) (g : Gap key
         at true e = paid (sym (owing-parent s v key positive g e) ∙ sym (i .parent-is))
         at false e = e
 
-    next-unowing : (post : List Node) → t .c ≡ cellAfter b D key (t .p) post → All (λ y. y .cell ≡ t .c → y .owes ≡ false) post → NextUnowing b D key (t .p) post
+    next-unowing : (post : List Node) → t .c ≡ cellAfter b D key (t .p) post → All (λ y. y .cell ≡ t .c → y .owes ≡ false) post →
+        NextUnowing b D key (t .p) post
     next-unowing [] is paid = tt
     next-unowing (z ∷ rest) is paid = λ h. paid .0 (sym (is ∙ slot-held b D key (t .p) z rest h))
 
@@ -301,6 +313,7 @@ module _ (s : State) (v : Sound s) (key : ℕ) (positive : 0 < key) (g : Gap key
               );
           next =
               subst (λ p. NextUnowing b D key p (g .post)) (i .p-is)
-              (next-unowing (g .post) held-by (all-right (λ y. y .cell ≡ t .c → y .owes ≡ false) (g .pre) (g .post) (subst (All (λ y. y .cell ≡ t .c → y .owes ≡ false)) (g .splits) c-paid)));
+              (next-unowing (g .post) held-by (all-right (λ y. y .cell ≡ t .c → y .owes ≡ false) (g .pre) (g .post)
+                  (subst (All (λ y. y .cell ≡ t .c → y .owes ≡ false)) (g .splits) c-paid)));
           own = slot-owes ∙ ap (λ p. newOwes b D key p (g .post)) (i .p-is);
         }

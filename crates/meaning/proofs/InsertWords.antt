@@ -29,18 +29,21 @@ use Rattle.meaning.proofs.Places.{cells-changed, keys-changed, onCell, 
 use Rattle.meaning.proofs.KeepsFinish.{paid-keeping, finished-sound}
 use Rattle.meaning.proofs.Slot.{Gap, gap, SlotIs, slot-is, gap-changed}
 use Rattle.meaning.proofs.KeepsInsert.{added-row, added-position, added-sound-at, parentPaid, bothPaid, both-sound, both-gap, both-position}
-use Rattle.meaning.proofs.Placed.{Placed, head-placed, placed-keyOf, placed-below, place-standing, place-word, place-key, place-value, place-mark, place-owed, place-coordinate, place-link}
+use Rattle.meaning.proofs.Placed.{Placed, head-placed, placed-keyOf, placed-below, place-standing, place-word, place-key, place-value}
+use Rattle.meaning.proofs.Placed.{place-mark, place-owed, place-coordinate, place-link}
 use Rattle.meaning.proofs.Stores.{finishWords-none}
 use Rattle.meaning.proofs.SentencesShape.{place-settled}
 use Rattle.meaning.proofs.Sentences.{position-is, position-key-is}
 use Rattle.meaning.proofs.Changed.{path-unmoved, picture-path-word}
 use Rattle.meaning.proofs.FinishWords.{finish-words, finish-own, finish-others, finish-finished, finish-nothing}
-use Rattle.meaning.proofs.InsertSlot.{parent-leads, slot-changed, slotLinks, slotLinks-none, slotLinks-other, slotLinks-here, placed-occurs, slot-new, slot-parent-placed, slot-apart, slot-next, slot-c-placed, slot-c-apart, slot-shares}
+use Rattle.meaning.proofs.InsertSlot.{parent-leads, slot-changed, slotLinks, slotLinks-none, slotLinks-other, slotLinks-here, placed-occurs}
+use Rattle.meaning.proofs.InsertSlot.{slot-new, slot-parent-placed, slot-apart, slot-next, slot-c-placed, slot-c-apart, slot-shares}
 use Rattle.meaning.proofs.InsertPut.{withNew, newPlace, writeNew, put-new, put-link, put-new-words, put-elsewhere, put-parent, put-words}
 use Rattle.meaning.proofs.InsertPath.{put-path}
 
 -- a word that finishing cell n does not change
-finish-unmoved : (s : State) (v : Sound s) (n : ℕ) → 0 < occurrences n (0 ∷ map (λ y. y .cell) (s .row)) → (x j : ℕ) → j < cellWords (s .settings .dimensions) → Unmoved (picture s) n x j →
+finish-unmoved : (s : State) (v : Sound s) (n : ℕ) → 0 < occurrences n (0 ∷ map (λ y. y .cell) (s .row)) → (x j : ℕ) →
+    j < cellWords (s .settings .dimensions) → Unmoved (picture s) n x j →
     wordAt (picture (withRow s (finished n (s .row)))) x j ≡ wordAt (picture s) x j
 unfolding picture
 finish-unmoved s v n stands x j h unmoved = at (decLt 0 (owedAt (picture s) n))
@@ -49,7 +52,8 @@ finish-unmoved s v n stands x j h unmoved = at (decLt 0 (owedAt (picture s) n))
     at (yes o) = finish-finished s v n stands o .other x j h (unmoved o .0) (unmoved o .1)
     at (no o) = ap (λ ws. wordAt ws x j) (finish-nothing s v n stands (omega arith))
 
-module _ (s : State) (v : Sound s) (key value : ℕ) (positive : 0 < key) (g : Gap key (s .row)) (f : 0 < length (s .free)) (t : Slot) (i : SlotIs s key (g .pre) (g .post) t) where
+module _ (s : State) (v : Sound s) (key value : ℕ) (positive : 0 < key) (g : Gap key (s .row)) (f : 0 < length (s .free)) (t : Slot)
+    (i : SlotIs s key (g .pre) (g .post) t) where
   abbrev b : ℕ
   b = s .settings .base
 
@@ -81,7 +85,8 @@ module _ (s : State) (v : Sound s) (key value : ℕ) (positive : 0 < key) (g : G
       (placed-occurs (slot-c-placed s v key positive g f t i .1))
 
   pub both-words :
-      cond (eqb (t .c) 0) (finishWords (s .settings .dimensions) (picture s) (t .parent)) (finishWords (s .settings .dimensions) (finishWords (s .settings .dimensions) (picture s) (t .parent)) (t .c))
+      cond (eqb (t .c) 0) (finishWords (s .settings .dimensions) (picture s) (t .parent))
+          (finishWords (s .settings .dimensions) (finishWords (s .settings .dimensions) (picture s) (t .parent)) (t .c))
       ≡ picture (bothPaid s t)
   both-words = at (ℕ-discrete (t .c) 0)
     where
@@ -95,7 +100,8 @@ module _ (s : State) (v : Sound s) (key value : ℕ) (positive : 0 < key) (g : G
       head : t .c ≡ 0 → finishWords D (picture one) (t .c) ≡ picture one
       head e = ap (finishWords D (picture one)) e ∙ finishWords-none D (picture one) 0 (place-owed one-sound (head-placed one))
 
-      at : Dec (t .c ≡ 0) → cond (eqb (t .c) 0) (finishWords D (picture s) (t .parent)) (finishWords D (finishWords D (picture s) (t .parent)) (t .c)) ≡ picture two
+      at : Dec (t .c ≡ 0) → cond (eqb (t .c) 0) (finishWords D (picture s) (t .parent)) (finishWords D (finishWords D (picture s) (t .parent)) (t .c))
+          ≡ picture two
       at (yes e) = rw (eq-eqb (t .c) 0 e) (first ∙ sym (head e) ∙ second)
       at (no ne) = rw (ne-eqb (t .c) 0 ne) (ap (λ ws. finishWords D ws (t .c)) first ∙ second)
 
@@ -115,7 +121,8 @@ module _ (s : State) (v : Sound s) (key value : ℕ) (positive : 0 < key) (g : G
   unfolding finished
   c-unowing =
       all-mapped (λ y. y .cell ≡ t .c → y .owes ≡ false) (onCell (t .c) paid) (finished (t .parent) (s .row))
-      (all-each (λ y. onCell-cases (λ z. z .cell ≡ t .c → z .owes ≡ false) (t .c) paid y (λ here e. refl) (λ other e. absurd (other e))) (finished (t .parent) (s .row)))
+      (all-each (λ y. onCell-cases (λ z. z .cell ≡ t .c → z .owes ≡ false) (t .c) paid y (λ here e. refl) (λ other e. absurd (other e)))
+          (finished (t .parent) (s .row)))
 
   parent-unowing : All (λ y. y .cell ≡ t .parent → y .owes ≡ false) (two .row)
   unfolding finished
@@ -193,7 +200,8 @@ module _ (s : State) (v : Sound s) (key value : ℕ) (positive : 0 < key) (g : G
   c-unmoved x j unmoved o = at (ℕ-discrete (t .c) (t .parent))
     where
       at : Dec (t .c ≡ t .parent) → (x ≡ t .c → 3 ≤ j → j < fieldsBeforeCoordinates → ⊥) ×
-          ((d : ℕ) → lowAt (picture one) (t .c) ≤ d → d < highAt (picture one) (t .c) → j ≡ linkField D d → (x ≡ t .c → ⊥) × (x ≡ owedAt (picture one) (t .c) → ⊥))
+          ((d : ℕ) → lowAt (picture one) (t .c) ≤ d → d < highAt (picture one) (t .c) → j ≡ linkField D d →
+              (x ≡ t .c → ⊥) × (x ≡ owedAt (picture one) (t .c) → ⊥))
       at (yes e) = absurd (omega (arith, o, ap (owedAt (picture one)) e, finish-own s v (t .parent) parent-stands .0))
       at (no ne) =
           let same = finish-others s v (t .parent) parent-stands (t .c) ne in
@@ -203,7 +211,8 @@ module _ (s : State) (v : Sound s) (key value : ℕ) (positive : 0 < key) (g : G
           let before = unmoved (omega (arith, o, owed-same)) in
           (before .0, λ d l h e. let apart = before .1 d (omega arith) (omega arith) e in (apart .0, λ q. apart .1 (q ∙ owed-same)))
 
-  two-unmoved : (x j : ℕ) → j < cellWords D → Unmoved (picture s) (t .parent) x j → Unmoved (picture s) (t .c) x j → wordAt (picture two) x j ≡ wordAt (picture s) x j
+  two-unmoved : (x j : ℕ) → j < cellWords D → Unmoved (picture s) (t .parent) x j → Unmoved (picture s) (t .c) x j →
+      wordAt (picture two) x j ≡ wordAt (picture s) x j
   two-unmoved x j h parent c = finish-unmoved one one-sound (t .c) c-stands x j h (c-unmoved x j c) ∙ finish-unmoved s v (t .parent) parent-stands x j h parent
 
   -- The new node
@@ -212,7 +221,8 @@ module _ (s : State) (v : Sound s) (key value : ℕ) (positive : 0 < key) (g : G
     now-sound : Sound now
     now-sound = subst Sound added-is (added-sound-at s v key value positive g f t i most)
 
-    pub added-words-at : picture (added s key value t) ≡ writePath (insertWords (s .settings .base) (s .settings .dimensions) (picture s) key value t) (path (added s key value t))
+    pub added-words-at : picture (added s key value t) ≡ writePath (insertWords (s .settings .base) (s .settings .dimensions) (picture s) key value t)
+        (path (added s key value t))
     unfolding insertWords
     added-words-at =
         ap picture added-is
@@ -229,22 +239,28 @@ module _ (s : State) (v : Sound s) (key value : ℕ) (positive : 0 < key) (g : G
     new-word : (j : ℕ) → j < cellWords D → wordAt (picture now) (t .n) j ≡ getD (newWords b D key value t) j 0
     new-word j h =
         place-word now-sound here j h
-        ∙ ap (λ ws. getD ws j 0) (sym (put-new-words two two-sound key value positive two-gap f t two-slot parent-unowing c-unowing (added s key value t .position) now-sound))
+        ∙ ap (λ ws. getD ws j 0) (sym (put-new-words two two-sound key value positive two-gap f t two-slot parent-unowing c-unowing
+            (added s key value t .position) now-sound))
 
     new-link : (d : ℕ) → d < D → linkAt (picture now) (t .n) d ≡ getD (slotLinks D t) d 0
-    new-link d h = place-link now-sound here d h ∙ put-link two two-sound key value positive two-gap f t two-slot parent-unowing c-unowing (added s key value t .position) now-sound d h
+    new-link d h = place-link now-sound here d h ∙ put-link two two-sound key value positive two-gap f t two-slot parent-unowing c-unowing
+        (added s key value t .position) now-sound d h
 
-    elsewhere : (x j : ℕ) → x < s .settings .cells → j < cellWords D → (x ≡ t .n → ⊥) → (x ≡ t .parent → j ≡ linkField D (t .p) → ⊥) → wordAt (picture now) x j ≡ wordAt (picture two) x j
-    elsewhere x j below h not-n = put-elsewhere two two-sound key value positive two-gap f t two-slot parent-unowing c-unowing (added s key value t .position) now-sound x j below h (λ e. not-n (sym e))
+    elsewhere : (x j : ℕ) → x < s .settings .cells → j < cellWords D → (x ≡ t .n → ⊥) → (x ≡ t .parent → j ≡ linkField D (t .p) → ⊥) →
+        wordAt (picture now) x j ≡ wordAt (picture two) x j
+    elsewhere x j below h not-n = put-elsewhere two two-sound key value positive two-gap f t two-slot parent-unowing c-unowing
+        (added s key value t .position) now-sound x j below h (λ e. not-n (sym e))
 
     owes-as-paid : (x : ℕ) → x < s .settings .cells → (x ≡ t .n → ⊥) → OwesSame (picture two) (picture now) x
     unfolding picture
-    owes-as-paid x below not-n = (elsewhere x 3 below (omega arith) not-n (λ e q. omega arith), elsewhere x 4 below (omega arith) not-n (λ e q. omega arith), elsewhere x 5 below (omega arith) not-n (λ e q. omega arith))
+    owes-as-paid x below not-n = (elsewhere x 3 below (omega arith) not-n (λ e q. omega arith), elsewhere x 4 below (omega arith) not-n
+        (λ e q. omega arith), elsewhere x 5 below (omega arith) not-n (λ e q. omega arith))
 
     nothing-as-paid : (x : ℕ) → x < s .settings .cells → (x ≡ t .n → ⊥) → OwesNothing (picture two) x → OwesNothing (picture now) x
     nothing-as-paid x below not-n paid = let same = owes-as-paid x below not-n in (same .0 ∙ paid .0, same .1 ∙ paid .1, same .2 ∙ paid .2)
 
-    new-debt : (o : Bool) → slotOwes t ≡ o → (owedAt (picture now) (t .n) ≡ cond o (t .c) 0) × (lowAt (picture now) (t .n) ≡ cond o (t .p) 0) × (highAt (picture now) (t .n) ≡ cond o (t .q) 0)
+    new-debt : (o : Bool) → slotOwes t ≡ o → (owedAt (picture now) (t .n) ≡ cond o (t .c) 0) × (lowAt (picture now) (t .n) ≡ cond o (t .p) 0)
+        × (highAt (picture now) (t .n) ≡ cond o (t .q) 0)
     unfolding picture newWords
     new-debt o e = (
       new-word 3 (omega arith) ∙ ap (λ r. cond r (t .c) 0) e,
@@ -257,7 +273,8 @@ module _ (s : State) (v : Sound s) (key value : ℕ) (positive : 0 < key) (g : G
         subst₂ (λ y d. Settled (picture now) y d (t .n)) (sym (two-slot .parent-is)) (sym (two-slot .p-is))
         (parent-leads now now-sound (two-gap .pre) (newNode (t .n) key value (slotOwes t)) (two-gap .post) refl)
 
-    now-inserted : Settled (picture s) (t .parent) (t .p) (t .c) → ((t .c ≡ 0 → ⊥) → t .q ≡ shared b D key (keyAt (picture s) (t .c))) → Inserted (picture s) (picture now) key value t
+    now-inserted : Settled (picture s) (t .parent) (t .p) (t .c) → ((t .c ≡ 0 → ⊥) → t .q ≡ shared b D key (keyAt (picture s) (t .c))) →
+        Inserted (picture s) (picture now) key value t
     unfolding picture
     now-inserted held shares =
         record {
@@ -276,8 +293,10 @@ module _ (s : State) (v : Sound s) (key value : ℕ) (positive : 0 < key) (g : G
           other-links = λ d h other. new-link d h ∙ other-link d h other (ℕ-discrete (t .c) 0);
           owes = λ held less. new-debt true (and-both (not (eqb (t .c) 0)) (ltb (t .p) (t .q)) (ap not (ne-eqb (t .c) 0 held)) (lt-ltb (t .p) (t .q) less));
           owes-nothing = λ more. new-debt false (unowing more (ℕ-discrete (t .c) 0));
-          parent-paid = nothing-as-paid (t .parent) (placed-below v (slot-parent-placed s v key positive g f t i .1)) (λ e. slot-apart s v key positive g f t i (sym e)) two-parent;
-          c-paid = nothing-as-paid (t .c) (placed-below v (slot-c-placed s v key positive g f t i .1)) (λ e. slot-c-apart s v key positive g f t i (sym e)) two-c;
+          parent-paid = nothing-as-paid (t .parent) (placed-below v (slot-parent-placed s v key positive g f t i .1))
+              (λ e. slot-apart s v key positive g f t i (sym e)) two-parent;
+          c-paid = nothing-as-paid (t .c) (placed-below v (slot-c-placed s v key positive g f t i .1))
+              (λ e. slot-c-apart s v key positive g f t i (sym e)) two-c;
           others-owe = λ x below not-n not-parent not-c.
               let now-same = owes-as-paid x below not-n in
               let two-same = two-others x not-parent not-c in
@@ -305,12 +324,15 @@ module _ (s : State) (v : Sound s) (key value : ℕ) (positive : 0 < key) (g : G
         header (suc (suc (suc zero))) h = refl
         header (suc (suc (suc (suc k)))) h = absurd (omega arith)
 
-    pub added-inserted-at : Settled (picture s) (t .parent) (t .p) (t .c) → ((t .c ≡ 0 → ⊥) → t .q ≡ shared (s .settings .base) (s .settings .dimensions) key (keyAt (picture s) (t .c))) → Inserted (picture s) (picture (added s key value t)) key value t
+    pub added-inserted-at : Settled (picture s) (t .parent) (t .p) (t .c) →
+        ((t .c ≡ 0 → ⊥) → t .q ≡ shared (s .settings .base) (s .settings .dimensions) key (keyAt (picture s) (t .c))) →
+        Inserted (picture s) (picture (added s key value t)) key value t
     added-inserted-at held shares = subst (λ z. Inserted (picture s) (picture z) key value t) (sym added-is) (now-inserted held shares)
 
 -- A key that does not stand, and a free cell
 
-module _ (s : State) (v : Sound s) (key value : ℕ) (positive : 1 ≤ key) (most : key ≤ s .settings .largest) (absent : nodeAt key (s .row) ≡ none) (f : 0 < length (s .free)) where
+module _ (s : State) (v : Sound s) (key value : ℕ) (positive : 1 ≤ key) (most : key ≤ s .settings .largest) (absent : nodeAt key (s .row) ≡ none)
+    (f : 0 < length (s .free)) where
   abbrev around : Gap key (s .row)
   around = gap key 0 (s .row) (v .ascends) absent
 
@@ -328,14 +350,16 @@ module _ (s : State) (v : Sound s) (key value : ℕ) (positive : 1 ≤ key) (mos
   unfolding slotFor settledLinkAt
   slot-held =
       let (q, here) = slot-parent-placed s v key positive around f (slotFor s key) slot in
-      subst (Settled (picture s) (slotFor s key .parent) (slotFor s key .p)) (sym (ap (settledLinkAt (s .settings .base) (s .settings .dimensions) (slotFor s key .p)) (here .found)))
+      subst (Settled (picture s) (slotFor s key .parent) (slotFor s key .p))
+          (sym (ap (settledLinkAt (s .settings .base) (s .settings .dimensions) (slotFor s key .p)) (here .found)))
       (place-settled v here (slotFor s key .p))
 
   slot-shared : (slotFor s key .c ≡ 0 → ⊥) → slotFor s key .q ≡ shared (s .settings .base) (s .settings .dimensions) key (keyAt (picture s) (slotFor s key .c))
   unfolding slotFor
   slot-shared held =
       let (q, here) = slot-c-placed s v key positive around f (slotFor s key) slot in
-      ap (shared (s .settings .base) (s .settings .dimensions) key) (sym (keyOf-other (slotFor s key .c) headNode (s .row) (λ e. held (sym e))) ∙ placed-keyOf here ∙ sym (place-key v here))
+      ap (shared (s .settings .base) (s .settings .dimensions) key) (sym (keyOf-other (slotFor s key .c) headNode (s .row) (λ e. held (sym e)))
+          ∙ placed-keyOf here ∙ sym (place-key v here))
 
   -- which words change, and which cells owe
   pub added-inserted : Inserted (picture s) (picture (added s key value (slotFor s key))) key value (slotFor s key)

@@ -24,11 +24,14 @@ use Rattle.meaning.proofs.Order.{Asc}
 use Rattle.meaning.proofs.Keys.{shared-less, ultra}
 use Rattle.meaning.proofs.State.{Sound, Debt, cellsIn, base-positive}
 use Rattle.meaning.proofs.Picture.{first-has}
-use Rattle.meaning.proofs.Places.{asc-left, lastFrom, dimensionFrom, Keeping, cells-changed, keyOf-head-changed, asc-changed, firstOf-changed, onCell, onCell-cases, onCell-keeping, keyOf-put}
+use Rattle.meaning.proofs.Places.{asc-left, lastFrom, dimensionFrom, Keeping, cells-changed, keyOf-head-changed, asc-changed, firstOf-changed}
+use Rattle.meaning.proofs.Places.{onCell, onCell-cases, onCell-keeping, keyOf-put}
 use Rattle.meaning.proofs.KeepsState.{changed-sound}
 use Rattle.meaning.proofs.KeepsFinish.{paid-keeping, finished-sound}
-use Rattle.meaning.proofs.Parent.{dimensionAfter, parentAfter, placesFrom, Without, Apart, asc-last, apart-left, apart-at, first-among, first-key, last-shares, last-first, parent-is}
-use Rattle.meaning.proofs.Slot.{Gap, gap, put-gap, asc-put, apart-put, sound-apart, first-free, dimensions-positive, cellAfter, SlotIs, slot-is, without-changed, apart-changed, gap-changed, last-changed, parent-changed, gap-last, first-free-apart}
+use Rattle.meaning.proofs.Parent.{dimensionAfter, parentAfter, placesFrom, Without, Apart, asc-last, apart-left, apart-at, first-among}
+use Rattle.meaning.proofs.Parent.{first-key, last-shares, last-first, parent-is}
+use Rattle.meaning.proofs.Slot.{Gap, gap, put-gap, asc-put, apart-put, sound-apart, first-free, dimensions-positive, cellAfter, SlotIs}
+use Rattle.meaning.proofs.Slot.{slot-is, without-changed, apart-changed, gap-changed, last-changed, parent-changed, gap-last, first-free-apart}
 
 -- The position
 
@@ -45,8 +48,10 @@ all-stand (x ∷ row) = (
   all-map (λ z h. let m = occurrences-more (z .cell) (x .cell) (map (λ y. y .cell) row) in omega arith) row (all-stand row),
 )
 
-module _ (s : State) (pos : 0 < s .settings .base) (deep : 0 < s .settings .dimensions) (pre : List Node) (x : Node) (post : List Node) (a : Asc 0 (pre ++ x ∷ post)) (o : Apart (headNode ∷ (pre ++ x ∷ post))) where
-  parent-lowers : x .key ≤ positionKey s → Lowered s (x .key) (parentAfter (s .settings .base) (s .settings .dimensions) headNode pre (x .key)) (pre ++ x ∷ post)
+module _ (s : State) (pos : 0 < s .settings .base) (deep : 0 < s .settings .dimensions) (pre : List Node) (x : Node) (post : List Node)
+    (a : Asc 0 (pre ++ x ∷ post)) (o : Apart (headNode ∷ (pre ++ x ∷ post))) where
+  parent-lowers : x .key ≤ positionKey s → Lowered s (x .key) (parentAfter (s .settings .base) (s .settings .dimensions) headNode pre (x .key))
+      (pre ++ x ∷ post)
   parent-lowers h =
       let b = s .settings .base in
       let D = s .settings .dimensions in
@@ -58,7 +63,8 @@ module _ (s : State) (pos : 0 < s .settings .base) (deep : 0 < s .settings .dime
       let m = asc-last headNode pre (x ∷ post) a .0 in
       let all = all-stand (headNode ∷ row) in
       record {
-        stands = first-among b D (λ c. 0 < occurrences c (map (λ y. y .cell) (headNode ∷ row))) (A .key) n headNode pre l (all .0) (all-left (λ z. 0 < occurrences (z .cell) (map (λ y. y .cell) (headNode ∷ row))) pre (x ∷ post) (all .1));
+        stands = first-among b D (λ c. 0 < occurrences c (map (λ y. y .cell) (headNode ∷ row))) (A .key) n headNode pre l (all .0)
+            (all-left (λ z. 0 < occurrences (z .cell) (map (λ y. y .cell) (headNode ∷ row))) pre (x ∷ post) (all .1));
         below = omega arith;
         least = omega arith;
       }
@@ -70,7 +76,8 @@ module _ (s : State) (pos : 0 < s .settings .base) (deep : 0 < s .settings .dime
   unfolding positionAfter
   position-lowers stands same = at (decLe (x .key) (positionKey s))
     where
-      at : Dec (x .key ≤ positionKey s) → Lowered s (x .key) (cond (leb (x .key) (positionKey s)) (parentIn s (x .cell) (pre ++ x ∷ post)) (s .position)) (pre ++ x ∷ post)
+      at : Dec (x .key ≤ positionKey s) → Lowered s (x .key) (cond (leb (x .key) (positionKey s)) (parentIn s (x .cell) (pre ++ x ∷ post))
+          (s .position)) (pre ++ x ∷ post)
       at (yes h) = rw (le-leb (x .key) (positionKey s) h, parent-is s pre x post pos deep a o) (parent-lowers h)
       at (no h) =
           let l : positionKey s < x .key = omega arith in
@@ -118,14 +125,17 @@ module _ (s : State) (x : Node) (value : ℕ) (v : Sound s) (pre post : List Nod
   revived-apart : Apart (headNode ∷ (map revive pre ++ revive x ∷ map revive post))
   revived-apart =
       let o = sound-apart s v in
-      subst (λ r. Apart (headNode ∷ r)) revived-row (without-changed revive revived-keeping 0 (s .row) (o .0), apart-changed revive revived-keeping (s .row) (o .1))
+      subst (λ r. Apart (headNode ∷ r)) revived-row (without-changed revive revived-keeping 0 (s .row) (o .0), apart-changed revive revived-keeping
+          (s .row) (o .1))
 
   revived-lowered : Lowered s (x .key) (positionAfter s (x .key) (x .cell) (map revive (s .row))) (map revive (s .row))
   revived-lowered =
       subst (λ r. Lowered s (x .key) (positionAfter s (x .key) (x .cell) r) r) (sym revived-row)
-      (subst₂ (λ i c. Lowered s i (positionAfter s i c (map revive pre ++ revive x ∷ map revive post)) (map revive pre ++ revive x ∷ map revive post)) (revived-keeping .key x) (revived-keeping .cell x)
+      (subst₂ (λ i c. Lowered s i (positionAfter s i c (map revive pre ++ revive x ∷ map revive post)) (map revive pre ++ revive x ∷ map revive post))
+          (revived-keeping .key x) (revived-keeping .cell x)
       (position-lowers s (base-positive s v) (dimensions-positive s v) (map revive pre) (revive x) (map revive post) revived-ascends revived-apart
-      (subst (λ r. 0 < occurrences (s .position) (0 ∷ map (λ y. y .cell) r)) revived-row (subst (λ cs. 0 < occurrences (s .position) (0 ∷ cs)) (sym (cells-changed revive revived-keeping (s .row))) (v .position)))
+      (subst (λ r. 0 < occurrences (s .position) (0 ∷ map (λ y. y .cell) r)) revived-row
+          (subst (λ cs. 0 < occurrences (s .position) (0 ∷ cs)) (sym (cells-changed revive revived-keeping (s .row))) (v .position)))
       (ap (λ r. keyOf (s .position) (headNode ∷ r)) (sym revived-row) ∙ keyOf-head-changed revive revived-keeping (s .position) (s .row))))
 
   revived-sound-at : Sound (revived s x value)
@@ -137,12 +147,15 @@ module _ (s : State) (x : Node) (value : ℕ) (v : Sound s) (pre post : List Nod
       let least = revived-lowered .least in
       changed-sound s revive p v revived-keeping
       (λ y h. onCell-cases (λ z. z .owes ≡ false) (x .cell) (revivedNode value) y (λ here. h) (λ other. h))
-      (all-map (λ y h. onCell-cases (λ z. z .live ≡ false → z .value ≡ 0) (x .cell) (revivedNode value) y (λ here l. absurd (let z : _≡_ {A = ℕ} 0 1 = cc in omega arith)) (λ other. h)) (s .row) (v .values))
+      (all-map (λ y h. onCell-cases (λ z. z .live ≡ false → z .value ≡ 0) (x .cell) (revivedNode value) y
+          (λ here l. absurd (let z : _≡_ {A = ℕ} 0 1 = cc in omega arith)) (λ other. h)) (s .row) (v .values))
       (subst (λ cs. 0 < occurrences p (0 ∷ cs)) (cells-changed revive revived-keeping (s .row)) (revived-lowered .stands))
-      (all-zip (λ y only dead l. onCell-cases (λ z. z .live ≡ false) (x .cell) (revivedNode value) y (λ here. absurd (let q = only here in omega arith)) (λ other. dead (omega arith))) (s .row) same-cell (v .dead))
+      (all-zip (λ y only dead l. onCell-cases (λ z. z .live ≡ false) (x .cell) (revivedNode value) y
+          (λ here. absurd (let q = only here in omega arith)) (λ other. dead (omega arith))) (s .row) same-cell (v .dead))
 
   -- the parent is that of the settled shape before the call
-  pub revived-parent : parentIn s (x .cell) (map (onCell (x .cell) (revivedNode value)) (s .row)) ≡ parentAfter (s .settings .base) (s .settings .dimensions) headNode pre (x .key)
+  pub revived-parent : parentIn s (x .cell) (map (onCell (x .cell) (revivedNode value)) (s .row))
+      ≡ parentAfter (s .settings .base) (s .settings .dimensions) headNode pre (x .key)
   revived-parent =
       let b = s .settings .base in
       let D = s .settings .dimensions in
@@ -163,9 +176,11 @@ moved-all P front back c free a =
     let rest = all-right P (front ++ back) (c ∷ free) a in
     all-append P (front ++ c ∷ back) free (all-append P front (c ∷ back) (all-left P front back standing) (rest .0, all-right P front back standing)) (rest .1)
 
-moved-occurrences : (n : ℕ) (front back : List ℕ) (c : ℕ) (free : List ℕ) → occurrences n ((front ++ c ∷ back) ++ free) ≡ occurrences n ((front ++ back) ++ (c ∷ free))
+moved-occurrences : (n : ℕ) (front back : List ℕ) (c : ℕ) (free : List ℕ) →
+    occurrences n ((front ++ c ∷ back) ++ free) ≡ occurrences n ((front ++ back) ++ (c ∷ free))
 moved-occurrences n front back c free =
-    omega (arith, occurrences-append n (front ++ c ∷ back) free, occurrences-append n front (c ∷ back), occurrences-append n (c ∷ []) back, occurrences-append n (front ++ back) (c ∷ free), occurrences-append n front back, occurrences-append n (c ∷ []) free)
+    omega (arith, occurrences-append n (front ++ c ∷ back) free, occurrences-append n front (c ∷ back), occurrences-append n (c ∷ [])
+        back, occurrences-append n (front ++ back) (c ∷ free), occurrences-append n front back, occurrences-append n (c ∷ []) free)
 
 moved-length : (front back : List ℕ) (c : ℕ) (free : List ℕ) → length ((front ++ c ∷ back) ++ free) ≡ length ((front ++ back) ++ (c ∷ free))
 moved-length front back c free =
@@ -182,11 +197,13 @@ module _ (b D : ℕ) where
   debts-any y e f (x ∷ row) a = (λ h. let d = a .0 h in record { later = d .later; unowing = d .unowing; lower = d .lower }, a .1)
 
   -- nor, but for the next larger node's, on what comes before
-  debts-behind : (y x : Node) (e f : ℕ) (post : List Node) → (firstOf post .owes ≡ true → shared b D (y .key) (firstOf post .key) ≡ shared b D (x .key) (firstOf post .key)) → Allowed post y e → Allowed post x f
+  debts-behind : (y x : Node) (e f : ℕ) (post : List Node) → (firstOf post .owes ≡ true →
+      shared b D (y .key) (firstOf post .key) ≡ shared b D (x .key) (firstOf post .key)) → Allowed post y e → Allowed post x f
   unfolding placesAfter
   debts-behind y x e f [] same a = tt
   debts-behind y x e f (z ∷ post) same a = (
-    λ h. let d = a .0 h in record { later = d .later; unowing = d .unowing; lower = subst (λ i. i < shared b D (z .key) (firstOf post .key)) (same h) (d .lower) },
+    λ h. let d = a .0 h in record { later = d .later; unowing = d .unowing;
+        lower = subst (λ i. i < shared b D (z .key) (firstOf post .key)) (same h) (d .lower) },
     debts-any z (shared b D (y .key) (z .key)) (shared b D (x .key) (z .key)) post (a .1),
   )
 
@@ -194,19 +211,29 @@ module _ (b D : ℕ) where
   -- if it owes, shares as much with x as with the one before.
   debts-put :
       (w : Node) (f : ℕ) (y : Node) (e : ℕ) (pre : List Node) (x : Node) (post : List Node) → lastFrom y pre .owes ≡ false →
-      (x .owes ≡ true → Debt b D (record { node = x; dimension = dimensionAfter b D y pre (x .key); before = lastFrom y pre; beforeDimension = dimensionFrom b D y e pre; later = post })) →
+      (x .owes ≡ true → Debt b D (record { node = x; dimension = dimensionAfter b D y pre (x .key); before = lastFrom y pre;
+          beforeDimension = dimensionFrom b D y e pre; later = post })) →
       (firstOf post .owes ≡ true → dimensionAfter b D y pre (firstOf post .key) ≡ shared b D (x .key) (firstOf post .key)) →
-      All (λ n. n .node .owes ≡ true → Debt b D n) (placesFrom b D w f y e (pre ++ post)) → All (λ n. n .node .owes ≡ true → Debt b D n) (placesFrom b D w f y e (pre ++ x ∷ post))
+      All (λ n. n .node .owes ≡ true → Debt b D n) (placesFrom b D w f y e (pre ++ post)) →
+          All (λ n. n .node .owes ≡ true → Debt b D n) (placesFrom b D w f y e (pre ++ x ∷ post))
   unfolding placesAfter lastFrom dimensionFrom
-  debts-put w f y e [] x post un own same a = (λ h. absurd (let z : _≡_ {A = ℕ} 0 1 = cc in omega arith), (own, debts-behind y x e (shared b D (y .key) (x .key)) post same (a .1)))
-  debts-put w f y e (z ∷ pre) x post un own same a = (λ h. let d = a .0 h in record { later = omega arith; unowing = d .unowing; lower = d .lower }, debts-put y e z (shared b D (y .key) (z .key)) pre x post un own same (a .1))
+  debts-put w f y e [] x post un own same a = (λ h. absurd (let z : _≡_ {A = ℕ} 0 1 = cc in omega arith),
+      (own, debts-behind y x e (shared b D (y .key) (x .key)) post same (a .1)))
+  debts-put w f y e (z ∷ pre) x post un own same a = (λ h. let d = a .0 h in
+      record { later = omega arith; unowing = d .unowing; lower = d .lower }, debts-put y e z (shared b D (y .key) (z .key)) pre x post un own same
+      (a .1))
 
 -- a state in order with a node more, in the first free cell, and another position
 pub put-sound :
-    (s : State) (x : Node) (free : List ℕ) (p : ℕ) → Sound s → 0 < x .key → x .key ≤ s .settings .largest → (g : Gap (x .key) (s .row)) → s .free ≡ x .cell ∷ free →
+    (s : State) (x : Node) (free : List ℕ) (p : ℕ) → Sound s → 0 < x .key → x .key ≤ s .settings .largest → (g : Gap (x .key) (s .row)) →
+        s .free ≡ x .cell ∷ free →
     (x .live ≡ false → x .value ≡ 0) → lastFrom headNode (g .pre) .owes ≡ false →
-    (x .owes ≡ true → Debt (s .settings .base) (s .settings .dimensions) (record { node = x; dimension = dimensionAfter (s .settings .base) (s .settings .dimensions) headNode (g .pre) (x .key); before = lastFrom headNode (g .pre); beforeDimension = dimensionFrom (s .settings .base) (s .settings .dimensions) headNode 0 (g .pre); later = g .post })) →
-    (firstOf (g .post) .owes ≡ true → dimensionAfter (s .settings .base) (s .settings .dimensions) headNode (g .pre) (firstOf (g .post) .key) ≡ shared (s .settings .base) (s .settings .dimensions) (x .key) (firstOf (g .post) .key)) →
+    (x .owes ≡ true → Debt (s .settings .base) (s .settings .dimensions)
+        (record { node = x; dimension = dimensionAfter (s .settings .base) (s .settings .dimensions) headNode (g .pre) (x .key);
+        before = lastFrom headNode (g .pre); beforeDimension = dimensionFrom (s .settings .base) (s .settings .dimensions) headNode 0 (g .pre);
+        later = g .post })) →
+    (firstOf (g .post) .owes ≡ true → dimensionAfter (s .settings .base) (s .settings .dimensions) headNode (g .pre) (firstOf (g .post) .key)
+        ≡ shared (s .settings .base) (s .settings .dimensions) (x .key) (firstOf (g .post) .key)) →
     Lowered s (x .key) p (g .pre ++ x ∷ g .post) → Sound (record { settings = s .settings; row = g .pre ++ x ∷ g .post; free = free; position = p })
 unfolding places
 put-sound s x free p v h most g first value un own same lowered =
@@ -223,7 +250,8 @@ put-sound s x free p v h most g first value un own same lowered =
           (moved-all (λ c. occurrences c ((front ++ back) ++ (x .cell ∷ free)) ≡ 1) front back (x .cell) free
           (subst (λ cs. All (λ c. occurrences c cs ≡ 1) cs) old (v .once))));
       values = nodes (λ y. y .live ≡ false → y .value ≡ 0) value (v .values);
-      debts = debts-put b D headNode 0 headNode 0 pre x post un own same (subst (λ r. All (λ n. n .node .owes ≡ true → Debt b D n) (places b D r)) (g .splits) (v .debts));
+      debts = debts-put b D headNode 0 headNode 0 pre x post un own same
+          (subst (λ r. All (λ n. n .node .owes ≡ true → Debt b D n) (places b D r)) (g .splits) (v .debts));
       position = lowered .stands;
       dead =
           nodes (λ y. y .key ≤ keyOf p (headNode ∷ (pre ++ x ∷ post)) → y .live ≡ false) (λ l. absurd (let k = lowered .below in omega arith))
@@ -271,12 +299,14 @@ pub slot-first : (b D key p : ℕ) (post : List Node) → (cellAfter b D key p p
 slot-first b D key p [] n = absurd (n refl)
 slot-first b D key p (x ∷ post) n = at (decLe p (shared b D key (x .key))) n
   where
-    at : Dec (p ≤ shared b D key (x .key)) → (cond (leb p (shared b D key (x .key))) (x .cell) 0 ≡ 0 → ⊥) → (0 < length (x ∷ post)) × (cond (leb p (shared b D key (x .key))) (x .cell) 0 ≡ x .cell)
+    at : Dec (p ≤ shared b D key (x .key)) → (cond (leb p (shared b D key (x .key))) (x .cell) 0 ≡ 0 → ⊥) →
+        (0 < length (x ∷ post)) × (cond (leb p (shared b D key (x .key))) (x .cell) 0 ≡ x .cell)
     at (yes h) m = (omega arith, rw (le-leb p (shared b D key (x .key)) h) refl)
     at (no h) m = absurd (m (rw (lt-leb p (shared b D key (x .key)) (omega arith)) refl))
 
 -- or it shares less with the key
-pub slot-not-first : (b D key p : ℕ) (post : List Node) → 0 < length post → (firstOf post .cell ≡ cellAfter b D key p post → ⊥) → shared b D key (firstOf post .key) < p
+pub slot-not-first : (b D key p : ℕ) (post : List Node) → 0 < length post → (firstOf post .cell ≡ cellAfter b D key p post → ⊥) →
+    shared b D key (firstOf post .key) < p
 slot-not-first b D key p [] h n = absurd (omega arith)
 slot-not-first b D key p (x ∷ post) h n = at (decLe p (shared b D key (x .key))) n
   where
@@ -287,7 +317,8 @@ slot-not-first b D key p (x ∷ post) h n = at (decLe p (shared b D key (x .key)
 -- The node before a new key
 
 debt-last :
-    (b D : ℕ) (w : Node) (f : ℕ) (y : Node) (e : ℕ) (pre post : List Node) → All (λ n. n .node .owes ≡ true → Debt b D n) (placesFrom b D w f y e (pre ++ post)) →
+    (b D : ℕ) (w : Node) (f : ℕ) (y : Node) (e : ℕ) (pre post : List Node) →
+        All (λ n. n .node .owes ≡ true → Debt b D n) (placesFrom b D w f y e (pre ++ post)) →
     lastFrom y pre .owes ≡ true → (0 < length post) × (dimensionFrom b D y e pre < dimensionAfter b D y pre (firstOf post .key))
 unfolding placesAfter lastFrom dimensionFrom
 debt-last b D w f y e [] post a h = let d = a .0 h in (d .later, d .lower)
@@ -303,17 +334,20 @@ owing-parent s v key h g owes =
     let b = s .settings .base in
     let D = s .settings .dimensions in
     let A = lastFrom headNode (g .pre) in
-    let t = debt-last b D headNode 0 headNode 0 (g .pre) (g .post) (subst (λ r. All (λ n. n .node .owes ≡ true → Debt b D n) (places b D r)) (g .splits) (v .debts)) owes in
+    let t = debt-last b D headNode 0 headNode 0 (g .pre) (g .post) (subst (λ r. All (λ n. n .node .owes ≡ true → Debt b D n) (places b D r))
+        (g .splits) (v .debts)) owes in
     let low = gap-last h g in
     let high = first-has (λ y. key < y .key) (g .post) (g .above) (t .0) in
     let u = ultra b D (A .key) key (firstOf (g .post) .key) (base-positive s v) (omega arith) (omega arith) in
     let l = t .1 in
     let m = shared-less b D (A .key) key (dimensions-positive s v) (omega arith) in
-    last-first b D (base-positive s v) (dimensions-positive s v) (shared b D (A .key) key) headNode 0 (g .pre) (asc-left 0 (g .pre) (g .post) (subst (Asc 0) (g .splits) (v .ascends))) m (omega arith)
+    last-first b D (base-positive s v) (dimensions-positive s v) (shared b D (A .key) key) headNode 0 (g .pre)
+        (asc-left 0 (g .pre) (g .post) (subst (Asc 0) (g .splits) (v .ascends))) m (omega arith)
 
 -- The row with one node more
 
-occurrences-put : (c : ℕ) (x : Node) (pre post : List Node) → occurrences c (map (λ y. y .cell) (pre ++ post)) ≤ occurrences c (map (λ y. y .cell) (pre ++ x ∷ post))
+occurrences-put : (c : ℕ) (x : Node) (pre post : List Node) → occurrences c (map (λ y. y .cell) (pre ++ post)) ≤ occurrences c
+    (map (λ y. y .cell) (pre ++ x ∷ post))
 occurrences-put c x pre post =
     let front = map (λ y. y .cell) pre in
     let back = map (λ y. y .cell) post in
@@ -326,7 +360,8 @@ occurrences-put c x pre post =
 
 -- what still owes owed before and was not finished
 pub paid-owes : (c : ℕ) (x : Node) → onCell c paid x .owes ≡ true → (x .owes ≡ true) × (x .cell ≡ c → ⊥)
-paid-owes c x = onCell-cases (λ y. y .owes ≡ true → (x .owes ≡ true) × (x .cell ≡ c → ⊥)) c paid x (λ here h. absurd (let z : _≡_ {A = ℕ} 0 1 = cc in omega arith)) (λ other h. (h, other))
+paid-owes c x = onCell-cases (λ y. y .owes ≡ true → (x .owes ≡ true) × (x .cell ≡ c → ⊥)) c paid x
+    (λ here h. absurd (let z : _≡_ {A = ℕ} 0 1 = cc in omega arith)) (λ other h. (h, other))
 
 -- the state with what the parent owes finished, and then what c owes
 abbrev pub parentPaid : State → Slot → State
@@ -351,7 +386,8 @@ both-position s t =
     keyOf-head-changed (onCell (t .c) paid) (paid-keeping (t .c)) (s .position) (finished (t .parent) (s .row))
     ∙ keyOf-head-changed (onCell (t .parent) paid) (paid-keeping (t .parent)) (s .position) (s .row)
 
-module _ (s : State) (v : Sound s) (key value : ℕ) (positive : 0 < key) (g : Gap key (s .row)) (f : 0 < length (s .free)) (t : Slot) (i : SlotIs s key (g .pre) (g .post) t) where
+module _ (s : State) (v : Sound s) (key value : ℕ) (positive : 0 < key) (g : Gap key (s .row)) (f : 0 < length (s .free)) (t : Slot)
+    (i : SlotIs s key (g .pre) (g .post) t) where
   abbrev b : ℕ
   b = s .settings .base
 
@@ -382,11 +418,13 @@ module _ (s : State) (v : Sound s) (key value : ℕ) (positive : 0 < key) (g : G
 
   last-paid : lastFrom headNode front ≡ pay (lastFrom headNode (g .pre))
   unfolding finished
-  last-paid = last-changed (onCell (t .c) paid) (paid-keeping (t .c)) (finished (t .parent) (g .pre)) ∙ ap (onCell (t .c) paid) (last-changed (onCell (t .parent) paid) (paid-keeping (t .parent)) (g .pre))
+  last-paid = last-changed (onCell (t .c) paid) (paid-keeping (t .c)) (finished (t .parent) (g .pre))
+      ∙ ap (onCell (t .c) paid) (last-changed (onCell (t .parent) paid) (paid-keeping (t .parent)) (g .pre))
 
   next-paid : firstOf back ≡ pay (firstOf (g .post))
   unfolding finished
-  next-paid = firstOf-changed (onCell (t .c) paid) (paid-keeping (t .c)) (finished (t .parent) (g .post)) ∙ ap (onCell (t .c) paid) (firstOf-changed (onCell (t .parent) paid) (paid-keeping (t .parent)) (g .post))
+  next-paid = firstOf-changed (onCell (t .c) paid) (paid-keeping (t .c)) (finished (t .parent) (g .post))
+      ∙ ap (onCell (t .c) paid) (firstOf-changed (onCell (t .parent) paid) (paid-keeping (t .parent)) (g .post))
 
   last-key : lastFrom headNode front .key ≡ lastFrom headNode (g .pre) .key
   last-key = ap (λ y. y .key) last-paid ∙ pay-key (lastFrom headNode (g .pre))
@@ -405,7 +443,8 @@ module _ (s : State) (v : Sound s) (key value : ℕ) (positive : 0 < key) (g : G
           absurd (p .1 (sym (i .parent-is ∙ owing-parent s v key positive g (p .0))))
 
   -- x owes to c, whose debt is finished
-  new-debt : x .owes ≡ true → Debt b D (record { node = x; dimension = dimensionAfter b D headNode front key; before = lastFrom headNode front; beforeDimension = dimensionFrom b D headNode 0 front; later = back })
+  new-debt : x .owes ≡ true → Debt b D (record { node = x; dimension = dimensionAfter b D headNode front key; before = lastFrom headNode front;
+      beforeDimension = dimensionFrom b D headNode 0 front; later = back })
   unfolding finished
   new-debt owes =
       let two = both (not (eqb (t .c) 0)) (ltb (t .p) (t .q)) owes in
@@ -415,7 +454,8 @@ module _ (s : State) (v : Sound s) (key value : ℕ) (positive : 0 < key) (g : G
       let here : onCell (t .parent) paid (firstOf (g .post)) .cell ≡ t .c = paid-keeping (t .parent) .cell (firstOf (g .post)) ∙ sym (i .c-is ∙ next .1) in
       record {
         later = rw (length-map (map (onCell (t .parent) paid) (g .post)) (onCell (t .c) paid), length-map (g .post) (onCell (t .parent) paid)) (next .0);
-        unowing = ap (λ y. y .owes) next-paid ∙ onCell-cases (λ y. y .owes ≡ false) (t .c) paid (onCell (t .parent) paid (firstOf (g .post))) (λ e. refl) (λ other. absurd (other here));
+        unowing = ap (λ y. y .owes) next-paid ∙ onCell-cases (λ y. y .owes ≡ false) (t .c) paid (onCell (t .parent) paid (firstOf (g .post)))
+            (λ e. refl) (λ other. absurd (other here));
         lower = subst₂ (λ m n. shared b D m key < shared b D key n) (sym last-key) (sym next-key) (subst₂ (λ m n. m < n) (i .p-is) (i .q-is held) less);
       }
 
@@ -424,7 +464,8 @@ module _ (s : State) (v : Sound s) (key value : ℕ) (positive : 0 < key) (g : G
   next-same owes =
       let c = paid-owes (t .c) (onCell (t .parent) paid (firstOf (g .post))) (sym (ap (λ y. y .owes) next-paid) ∙ owes) in
       let stands = first-owes (g .post) (paid-owes (t .parent) (firstOf (g .post)) (c .0) .0) in
-      let less = slot-not-first b D key (dimensionAfter b D headNode (g .pre) key) (g .post) stands (λ e. c .1 (paid-keeping (t .parent) .cell (firstOf (g .post)) ∙ e ∙ sym (i .c-is))) in
+      let less = slot-not-first b D key (dimensionAfter b D headNode (g .pre) key) (g .post) stands
+          (λ e. c .1 (paid-keeping (t .parent) .cell (firstOf (g .post)) ∙ e ∙ sym (i .c-is))) in
       let low = gap-last positive g in
       let high = first-has (λ y. key < y .key) (g .post) (g .above) stands in
       let u = ultra b D (lastFrom headNode (g .pre) .key) key (firstOf (g .post) .key) (base-positive s v) (omega arith) (omega arith) in
@@ -438,7 +479,9 @@ module _ (s : State) (v : Sound s) (key value : ℕ) (positive : 0 < key) (g : G
 
   position-old : x .cell ≡ s .position → ⊥
   position-old e =
-      let absent = none-occurs (x .cell) (map (λ y. y .cell) (headNode ∷ settled .row)) (all-mapped (λ c. x .cell ≡ c → ⊥) (λ y. y .cell) (headNode ∷ settled .row) (all-map (λ y n m. n (sym m)) (headNode ∷ settled .row) new-cell)) in
+      let absent = none-occurs (x .cell) (map (λ y. y .cell) (headNode ∷ settled .row))
+          (all-mapped (λ c. x .cell ≡ c → ⊥) (λ y. y .cell) (headNode ∷ settled .row)
+          (all-map (λ y n m. n (sym m)) (headNode ∷ settled .row) new-cell)) in
       let stands = subst (λ c. 0 < occurrences c (map (λ y. y .cell) (headNode ∷ settled .row))) (sym e) (settled-sound .position) in
       omega arith
 
@@ -451,7 +494,8 @@ module _ (s : State) (v : Sound s) (key value : ℕ) (positive : 0 < key) (g : G
   new-ascends = asc-put 0 x front back positive (subst (Asc 0) settled-row (settled-sound .ascends)) (both-gap s t key g .below) (both-gap s t key g .above)
 
   new-apart : Apart (headNode ∷ (front ++ x ∷ back))
-  new-apart = apart-put headNode x front back (subst (λ r. Apart (headNode ∷ r)) settled-row (sound-apart settled settled-sound)) (subst (λ r. Without (x .cell) (headNode ∷ r)) settled-row new-cell)
+  new-apart = apart-put headNode x front back (subst (λ r. Apart (headNode ∷ r)) settled-row (sound-apart settled settled-sound))
+      (subst (λ r. Without (x .cell) (headNode ∷ r)) settled-row new-cell)
 
   new-lowered : Lowered settled key (positionAfter s key (t .n) (front ++ x ∷ back)) (front ++ x ∷ back)
   new-lowered =
@@ -459,7 +503,8 @@ module _ (s : State) (v : Sound s) (key value : ℕ) (positive : 0 < key) (g : G
       let stands = subst (λ r. 0 < occurrences (s .position) (0 ∷ map (λ y. y .cell) r)) settled-row (settled-sound .position) in
       let l = position-lowers s (base-positive s v) (dimensions-positive s v) front x back new-ascends new-apart (omega arith)
       (keyOf-put (s .position) x (headNode ∷ front) back position-old ∙ ap (λ r. keyOf (s .position) (headNode ∷ r)) (sym settled-row) ∙ both-position s t) in
-      record { stands = l .stands; below = l .below; least = subst (λ k. keyOf (positionAfter s key (t .n) (front ++ x ∷ back)) (headNode ∷ (front ++ x ∷ back)) ≤ k) (sym (both-position s t)) (l .least) }
+      record { stands = l .stands; below = l .below; least = subst (λ k. keyOf (positionAfter s key (t .n) (front ++ x ∷ back))
+          (headNode ∷ (front ++ x ∷ back)) ≤ k) (sym (both-position s t)) (l .least) }
 
   pub added-row :
       added s key value t .row
@@ -489,7 +534,8 @@ module _ (s : State) (v : Sound s) (key value : ℕ) (positive : 0 < key) (g : G
       (first-free (s .free) f ∙ ap {B = List ℕ} (λ c. c ∷ drop 1 (s .free)) (sym (i .n-is)))
       (λ l. absurd (let z : _≡_ {A = ℕ} 0 1 = cc in omega arith)) last-unowing new-debt next-same new-lowered)
 
-pub added-sound : (s : State) (key value : ℕ) → Sound s → 1 ≤ key → key ≤ s .settings .largest → nodeAt key (s .row) ≡ none → 0 < length (s .free) → Sound (added s key value (slotFor s key))
+pub added-sound : (s : State) (key value : ℕ) → Sound s → 1 ≤ key → key ≤ s .settings .largest → nodeAt key (s .row) ≡ none → 0 < length (s .free) →
+    Sound (added s key value (slotFor s key))
 added-sound s key value v positive most e f =
     let g = gap key 0 (s .row) (v .ascends) e in
     added-sound-at s v key value positive g f (slotFor s key) (slot-is s v key positive g f) most

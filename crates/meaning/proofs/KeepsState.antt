@@ -18,12 +18,14 @@ use Rattle.meaning.specs.State.{State, keyOf, positionKey}
 use Rattle.meaning.specs.Operations.{deadFront, fromLive, lastOf, lastAlone}
 use Rattle.meaning.proofs.State.{Sound, Debt, cellsIn}
 use Rattle.meaning.proofs.Cells.{row-range}
-use Rattle.meaning.proofs.Places.{Located, occurs-found, keyOf-same, keyOf-other, keyOf-first, places-nodes, Keeping, changedPlace, cells-changed, keyOf-head-changed, asc-changed, firstOf-changed, places-changed}
+use Rattle.meaning.proofs.Places.{Located, occurs-found, keyOf-same, keyOf-other, keyOf-first, places-nodes, Keeping, changedPlace}
+use Rattle.meaning.proofs.Places.{cells-changed, keyOf-head-changed, asc-changed, firstOf-changed, places-changed}
 
 -- Cells
 
 -- the cells of a state, with one node's between the others
-pub cells-split : (s : State) (front : List Node) (x : Node) (later : List Node) → s .row ≡ front ++ (x ∷ later) → cellsIn s ≡ map (λ y. y .cell) front ++ (x .cell ∷ (map (λ y. y .cell) later ++ s .free))
+pub cells-split : (s : State) (front : List Node) (x : Node) (later : List Node) → s .row ≡ front ++ (x ∷ later) →
+    cellsIn s ≡ map (λ y. y .cell) front ++ (x .cell ∷ (map (λ y. y .cell) later ++ s .free))
 cells-split s front x later e =
     ap (λ row. map (λ y. y .cell) row ++ s .free) e
     ∙ ap (λ cs. cs ++ s .free) (map-append (λ y. y .cell) front (x ∷ later))
@@ -36,7 +38,8 @@ pub record Alone (c : ℕ) (front later : List Node) (free : List ℕ) : Type 0 
   pub not-later : occurrences c (map (λ y. y .cell) later) ≡ 0
   pub not-free : occurrences c free ≡ 0
 
-pub cell-alone : (s : State) → Sound s → (front : List Node) (x : Node) (later : List Node) → s .row ≡ front ++ (x ∷ later) → Alone (x .cell) front later (s .free)
+pub cell-alone : (s : State) → Sound s → (front : List Node) (x : Node) (later : List Node) → s .row ≡ front ++ (x ∷ later) →
+    Alone (x .cell) front later (s .free)
 cell-alone s v front x later e =
     let cells = cells-split s front x later e in
     let c = x .cell in
@@ -50,7 +53,8 @@ cell-alone s v front x later e =
     record { standing = range .0; not-front = omega arith; not-later = omega arith; not-free = omega arith }
 
 -- the key of a node's cell is the node's
-pub keyOf-row : (s : State) → Sound s → (front : List Node) (x : Node) (later : List Node) → s .row ≡ front ++ (x ∷ later) → keyOf (x .cell) (headNode ∷ s .row) ≡ x .key
+pub keyOf-row : (s : State) → Sound s → (front : List Node) (x : Node) (later : List Node) → s .row ≡ front ++ (x ∷ later) →
+    keyOf (x .cell) (headNode ∷ s .row) ≡ x .key
 keyOf-row s v front x later e =
     let alone = cell-alone s v front x later e in
     keyOf-other (x .cell) headNode (s .row) (λ z. let h = alone .standing in omega arith)
@@ -62,7 +66,8 @@ pub cells-positive : (s : State) → Sound s → All (λ x. 0 < x .cell) (s .row
 cells-positive s v = all-map (λ x r. r .0) (s .row) (row-range s v)
 
 -- a node's cell can be the position
-pub cell-stands : (s : State) (front : List Node) (x : Node) (later : List Node) → s .row ≡ front ++ (x ∷ later) → 0 < occurrences (x .cell) (0 ∷ map (λ y. y .cell) (s .row))
+pub cell-stands : (s : State) (front : List Node) (x : Node) (later : List Node) → s .row ≡ front ++ (x ∷ later) →
+    0 < occurrences (x .cell) (0 ∷ map (λ y. y .cell) (s .row))
 cell-stands s front x later e =
     let cells = ap (λ row. occurrences (x .cell) (map (λ y. y .cell) row)) e ∙ ap (occurrences (x .cell)) (map-append (λ y. y .cell) front (x ∷ later)) in
     let between = occurrences-between (x .cell) (map (λ y. y .cell) front) (map (λ y. y .cell) later) in
@@ -90,7 +95,8 @@ abbrev pub changedState : State → (Node → Node) → ℕ → State
 changedState s f p = record { settings = s .settings; row = map f (s .row); free = s .free; position = p }
 
 -- a debt after a change that makes nobody owe: it was a debt before, to a node that owes no more than before
-pub debt-changed : (f : Node → Node) → Keeping f → ((x : Node) → x .owes ≡ false → f x .owes ≡ false) → (b D : ℕ) (n : Place) → (n .node .owes ≡ true → Debt b D n) → f (n .node) .owes ≡ true → Debt b D (changedPlace f n)
+pub debt-changed : (f : Node → Node) → Keeping f → ((x : Node) → x .owes ≡ false → f x .owes ≡ false) → (b D : ℕ) (n : Place) →
+    (n .node .owes ≡ true → Debt b D n) → f (n .node) .owes ≡ true → Debt b D (changedPlace f n)
 debt-changed f k paying b D n debt h = at-test (n .node .owes) refl
   where
     at-test : (t : Bool) → n .node .owes ≡ t → Debt b D (changedPlace f n)
@@ -100,7 +106,8 @@ debt-changed f k paying b D n debt h = at-test (n .node .owes) refl
         record {
           later = rw (length-map (n .later) f) (d .later);
           unowing = ap (λ x. x .owes) (firstOf-changed f k (n .later)) ∙ paying (firstOf (n .later)) (d .unowing);
-          lower = subst (λ q. n .dimension < q) (sym (ap₂ (shared b D) (k .key (n .node)) (ap (λ x. x .key) (firstOf-changed f k (n .later)) ∙ k .key (firstOf (n .later))))) (d .lower);
+          lower = subst (λ q. n .dimension < q) (sym (ap₂ (shared b D) (k .key (n .node))
+              (ap (λ x. x .key) (firstOf-changed f k (n .later)) ∙ k .key (firstOf (n .later))))) (d .lower);
         }
 
 -- A change of nodes that keeps cells and keys and makes nobody owe, with a position: in order, if dead nodes have value 0 and
@@ -117,7 +124,8 @@ changed-sound s f p v k paying values position dead =
       ranges = v .ranges;
       base = v .base;
       ascends = asc-changed f k 0 (s .row) (v .ascends);
-      keys = all-mapped (λ x. x .key ≤ s .settings .largest) f (s .row) (all-map (λ x h. subst (λ i. i ≤ s .settings .largest) (sym (k .key x)) h) (s .row) (v .keys));
+      keys = all-mapped (λ x. x .key ≤ s .settings .largest) f (s .row)
+          (all-map (λ x h. subst (λ i. i ≤ s .settings .largest) (sym (k .key x)) h) (s .row) (v .keys));
       count = ap (λ cs. length (cs ++ s .free)) cells ∙ v .count;
       range = subst (λ cs. All (λ c. (0 < c) × (c < s .settings .cells)) (cs ++ s .free)) (sym cells) (v .range);
       once = subst (λ cs. All (λ c. occurrences c (cs ++ s .free) ≡ 1) (cs ++ s .free)) (sym cells) (v .once);
@@ -136,7 +144,8 @@ changed-sound s f p v k paying values position dead =
 pub unowing-debts : (b D : ℕ) (row : List Node) → All (λ x. x .owes ≡ false) row → All (λ n. n .node .owes ≡ true → Debt b D n) (places b D row)
 unfolding places
 unowing-debts b D row a =
-    (λ e. none headNode (headPlace row) refl e, all-map (λ n h e. none (n .node) n h e) (placesAfter b D headNode 0 row) (places-nodes (λ x. x .owes ≡ false) b D headNode 0 row a))
+    (λ e. none headNode (headPlace row) refl e, all-map (λ n h e. none (n .node) n h e) (placesAfter b D headNode 0 row)
+        (places-nodes (λ x. x .owes ≡ false) b D headNode 0 row a))
   where
     none : (x : Node) (n : Place) → x .owes ≡ false → x .owes ≡ true → Debt b D n
     none x n p q = absurd (let z : _≡_ {A = ℕ} 0 1 = cc in omega arith)
@@ -188,7 +197,8 @@ lastAlone-is x [] = refl
 lastAlone-is x (y ∷ row) = lastAlone-is y row
 
 -- The last of some nodes with its list: the head and no node, or one of the nodes and it alone.
-pub last-cases : (P : Node → List Node → Type 0) (Q : Node → Type 0) (row : List Node) → All Q row → P headNode [] → ((x : Node) → Q x → P x (x ∷ [])) → P (lastOf row) (lastAlone row)
+pub last-cases : (P : Node → List Node → Type 0) (Q : Node → Type 0) (row : List Node) → All Q row → P headNode [] →
+    ((x : Node) → Q x → P x (x ∷ [])) → P (lastOf row) (lastAlone row)
 unfolding lastOf lastAlone
 last-cases P Q [] all none one = none
 last-cases P Q (x ∷ row) all none one =

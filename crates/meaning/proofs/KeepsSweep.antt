@@ -112,7 +112,8 @@ swept-stands row =
 
 pub swept-dead : (row : List Node) → Asc 0 row → All (λ x. x .key ≤ lastOf (deadFront row) .key → x .live ≡ false) (keptBy row)
 swept-dead row a =
-    last-cases (λ z last. Asc 0 (last ++ later) → All (λ x. x .key ≤ z .key → x .live ≡ false) (last ++ later)) (λ x. x .live ≡ false) (deadFront row) (deadFront-dead row)
+    last-cases (λ z last. Asc 0 (last ++ later) → All (λ x. x .key ≤ z .key → x .live ≡ false) (last ++ later)) (λ x. x .live ≡ false) (deadFront row)
+        (deadFront-dead row)
     (λ up. all-map (λ x h l. absurd (omega arith)) later (asc-above 0 later up))
     (λ z q up. (λ l. q, all-map (λ x h l. absurd (omega arith)) later (asc-above (z .key) later (up .1))))
     (kept-asc 0 row a)
@@ -134,9 +135,11 @@ swept-sound s v =
       range = swept-all (λ c. (0 < c) × (c < s .settings .cells)) s (v .range);
       once = all-map (λ c h. swept-occurrences s c ∙ h) (cellsIn (swept s)) (swept-all (λ c. occurrences c (cellsIn s) ≡ 1) s (v .once));
       values = all-mapped (λ x. x .live ≡ false → x .value ≡ 0) paid kept (kept-all (λ x. x .live ≡ false → x .value ≡ 0) (s .row) (v .values));
-      debts = unowing-debts (s .settings .base) (s .settings .dimensions) (map paid kept) (all-mapped (λ x. x .owes ≡ false) paid kept (all-each (λ x. refl) kept));
+      debts = unowing-debts (s .settings .base) (s .settings .dimensions) (map paid kept)
+          (all-mapped (λ x. x .owes ≡ false) paid kept (all-each (λ x. refl) kept));
       position = subst (λ cs. 0 < occurrences position (0 ∷ cs)) (sym (cells-changed paid paid-all-keeping kept)) (swept-stands (s .row));
       dead =
           all-mapped (λ x. x .key ≤ keyOf position (headNode ∷ map paid kept) → x .live ≡ false) paid kept
-          (subst (λ k. All (λ x. x .key ≤ k → x .live ≡ false) kept) (sym (keyOf-head-changed paid paid-all-keeping position kept ∙ swept-key s v)) (swept-dead (s .row) (v .ascends)));
+          (subst (λ k. All (λ x. x .key ≤ k → x .live ≡ false) kept) (sym (keyOf-head-changed paid paid-all-keeping position kept ∙ swept-key s v))
+              (swept-dead (s .row) (v .ascends)));
     }

@@ -22,7 +22,8 @@ pub taken-key : (s : State) (x : Node) (later : List Node) → Sound s → fromL
 taken-key s x later v e = keyOf-row s v (deadFront (s .row)) x later (live-split (s .row) x later e)
 
 -- all nodes up to x are dead once x is taken
-pub taken-dead : (s : State) (x : Node) (later : List Node) → Sound s → fromLive (s .row) ≡ x ∷ later → All (λ y. y .key ≤ x .key → onCell (x .cell) deadNode y .live ≡ false) (s .row)
+pub taken-dead : (s : State) (x : Node) (later : List Node) → Sound s → fromLive (s .row) ≡ x ∷ later →
+    All (λ y. y .key ≤ x .key → onCell (x .cell) deadNode y .live ≡ false) (s .row)
 taken-dead s x later v e =
     let split = live-split (s .row) x later e in
     let front = deadFront (s .row) in

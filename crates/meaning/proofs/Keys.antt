@@ -5,13 +5,14 @@ use mathlib.Core.Bool.{true, false}
 use mathlib.Core.Logic.{_↔_}
 use mathlib.Core.List.{List, [], _∷_}
 use Prim.Native.Nat.{ℕ, zero, suc, _+_, _*_, _-_, _/_, _%_, _^_, _≤_, _<_, min}
-use native.Mathlib.Nat.{add-zero, pow-zero, pow-suc, pow-succ', mod-lt, mod-eq-of-lt, zero-mod, mul-add-mod-self-right, zero-div, div-one, div-eq-of-lt, div-add-mod', div-mul-le-self, div-div-eq-div-mul, le-div-iff-mul-le, div-lt-iff-lt-mul, mul-add-div-right}
+use native.Mathlib.Nat.{add-zero, pow-zero, pow-suc, pow-succ', mod-lt, mod-eq-of-lt, zero-mod, mul-add-mod-self-right, zero-div, div-one}
+use native.Mathlib.Nat.{div-eq-of-lt, div-add-mod', div-mul-le-self, div-div-eq-div-mul, le-div-iff-mul-le, div-lt-iff-lt-mul, mul-add-div-right}
 use native.Mathlib.Decide.{ℕ-discrete, decLt}
 use native.Mathlib.Omega.{arith}
 use lib.ListN.{length, getD, length-append, List·getD-append, List·getD-eq-default}
 use lib.Seq.{getD-at}
 use borrow.Author.Tests.{eq-eqb, ne-eqb, lt-ltb, le-ltb}
-use Rattle.lists.specs.Lists.{agreed, precedes}
+use Rattle.lists.specs.Compared.{agreed, precedes}
 use Rattle.meaning.specs.Keys.{coordinates, coordinate, shared}
 
 -- Quotients by the base, and remainders

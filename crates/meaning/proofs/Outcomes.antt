@@ -20,9 +20,12 @@ use Rattle.meaning.specs.Row.{Node, firstOf, Place, places, owed, placeO
 use Rattle.meaning.specs.State.{State, positionKey, placesOf}
 use Rattle.meaning.specs.Picture.{mark, standingWords, wordsOf, picture, nextFree}
 use Rattle.meaning.specs.Reading.{read, isList}
-use Rattle.meaning.specs.Refusals.{Outcome, accepted, Refusal, outOfRange, wrongLength, notAList, badKey, keyLive, noFreeCell, nothingLive, keyNotLive, keyNotStanding, owedNotStanding, refused}
+use Rattle.meaning.specs.Refusals.{Outcome, accepted, Refusal, outOfRange, wrongLength, notAList, badKey, keyLive, noFreeCell, nothingLive}
+use Rattle.meaning.specs.Refusals.{keyNotLive, keyNotStanding, owedNotStanding, refused}
 use Rattle.meaning.specs.Words.{markAt, owedAt}
-use Rattle.meaning.specs.Operations.{onList, onKey, owesFromFree, looked, fresh, setUpOut, finished, withRow, linksMoved, finishAt, finishOut, findAt, findOut, revived, slotFor, added, insertNew, insertAt, insertOut, fromLive, keysAbove, keysPassed, taken, takeFrom, takeOut, freedBy, swept, someOwesFromFree, sweepOn, sweepOut}
+use Rattle.meaning.specs.Operations.{onList, onKey, owesFromFree, looked, fresh, setUpOut, finished, withRow, linksMoved, finishAt, finishOut}
+use Rattle.meaning.specs.Operations.{findAt, findOut, revived, slotFor, added, insertNew, insertAt, insertOut, fromLive, keysAbove, keysPassed}
+use Rattle.meaning.specs.Operations.{taken, takeFrom, takeOut, freedBy, swept, someOwesFromFree, sweepOn, sweepOut}
 use Rattle.meaning.specs.Calls.{outcome}
 use Rattle.meaning.specs.Promises.{RefusedAltersNothing}
 use Rattle.meaning.specs.declared.Call.the-variants.{SetUp, Insert, Find, Finish, Take, Sweep}
@@ -55,12 +58,14 @@ owed-marked ws true y f h = ap (λ n. eqb n 0) (f refl) ∙ mark-stands (y .live
 owed-marked ws false y f h = absurd (omega arith)
 
 -- what a standing cell owes from stands
-pub places-owed : (s : State) → Sound s → All (λ p. 0 < owed p → eqb (markAt (picture s) (owed p)) 0 ≡ false) (places (s .settings .base) (s .settings .dimensions) (s .row))
+pub places-owed : (s : State) → Sound s → All (λ p. 0 < owed p → eqb (markAt (picture s) (owed p)) 0 ≡ false)
+    (places (s .settings .base) (s .settings .dimensions) (s .row))
 places-owed s v =
     let b = s .settings .base in
     let D = s .settings .dimensions in
     all-zip (λ p debt later.
-    owed-marked (picture s) (p .node .owes) (firstOf (p .later)) (λ o. first-has (λ x. markAt (picture s) (x .cell) ≡ mark (x .live)) (p .later) later (debt o .later)))
+    owed-marked (picture s) (p .node .owes) (firstOf (p .later)) (λ o. first-has (λ x. markAt (picture s) (x .cell) ≡ mark (x .live)) (p .later) later
+        (debt o .later)))
     (places b D (s .row)) (v .debts) (places-later (λ x. markAt (picture s) (x .cell) ≡ mark (x .live)) b D (s .row) (row-mark-read s v))
 
 -- "a cell owed from is not standing": of no cell of the picture of a state in order
@@ -153,7 +158,8 @@ pub insert-outcome-not-a-list : (ws : List ℕ) (key value : ℕ) → isList ws 
 unfolding insertOut
 insert-outcome-not-a-list ws key value e = not-on-list ws (λ s. onKey ws s key (insertAt ws s key value (nodeAt key (s .row)))) e
 
-pub insert-outcome-bad-key : (s : State) → Sound s → (key value : ℕ) → (1 ≤ key → s .settings .largest < key) → insertOut (picture s) key value ≡ refused badKey (picture s)
+pub insert-outcome-bad-key : (s : State) → Sound s → (key value : ℕ) → (1 ≤ key → s .settings .largest < key) →
+    insertOut (picture s) key value ≡ refused badKey (picture s)
 unfolding insertOut
 insert-outcome-bad-key s v key value f = on-picture-bad-key s v key (λ t. insertAt (picture s) t key value (nodeAt key (t .row))) f
 
@@ -183,7 +189,8 @@ insert-outcome-full s v key value l h e full =
     insert-outcome s v key value l h ∙ ap (insertAt (picture s) s key value) e ∙ rw (eq-eqb (length (s .free)) 0 full) refl
 
 pub insert-outcome-new : (s : State) → Sound s → (key value : ℕ) → 1 ≤ key → key ≤ s .settings .largest →
-    nodeAt key (s .row) ≡ none → 0 < length (s .free) → insertOut (picture s) key value ≡ accepted key 0 (looked s key) (picture (added s key value (slotFor s key)))
+    nodeAt key (s .row) ≡ none → 0 < length (s .free) → insertOut (picture s) key value
+        ≡ accepted key 0 (looked s key) (picture (added s key value (slotFor s key)))
 unfolding insertAt insertNew
 insert-outcome-new s v key value l h e room =
     insert-outcome s v key value l h ∙ ap (insertAt (picture s) s key value) e
@@ -199,7 +206,8 @@ pub find-outcome-bad-key : (s : State) → Sound s → (key : ℕ) → (1 ≤ ke
 unfolding findOut
 find-outcome-bad-key s v key f = on-picture-bad-key s v key (λ t. findAt (picture s) t key (nodeAt key (t .row))) f
 
-find-outcome : (s : State) → Sound s → (key : ℕ) → 1 ≤ key → key ≤ s .settings .largest → findOut (picture s) key ≡ findAt (picture s) s key (nodeAt key (s .row))
+find-outcome : (s : State) → Sound s → (key : ℕ) → 1 ≤ key → key ≤ s .settings .largest →
+    findOut (picture s) key ≡ findAt (picture s) s key (nodeAt key (s .row))
 unfolding findOut
 find-outcome s v key l h = on-picture-key s v key (λ t. findAt (picture s) t key (nodeAt key (t .row))) l h
 
@@ -232,7 +240,8 @@ pub finish-outcome-bad-key : (s : State) → Sound s → (key : ℕ) → (1 ≤ 
 unfolding finishOut
 finish-outcome-bad-key s v key f = on-picture-bad-key s v key (λ t. finishAt (picture s) t key (nodeAt key (t .row))) f
 
-finish-outcome : (s : State) → Sound s → (key : ℕ) → 1 ≤ key → key ≤ s .settings .largest → finishOut (picture s) key ≡ finishAt (picture s) s key (nodeAt key (s .row))
+finish-outcome : (s : State) → Sound s → (key : ℕ) → 1 ≤ key → key ≤ s .settings .largest →
+    finishOut (picture s) key ≡ finishAt (picture s) s key (nodeAt key (s .row))
 unfolding finishOut
 finish-outcome s v key l h = on-picture-key s v key (λ t. finishAt (picture s) t key (nodeAt key (t .row))) l h
 
@@ -258,7 +267,8 @@ take-outcome : (s : State) → Sound s → takeOut (picture s) ≡ takeFrom (pic
 unfolding takeOut
 take-outcome s v = on-picture s v (λ t. takeFrom (picture s) t (fromLive (t .row)))
 
-pub take-outcome-none : (s : State) → Sound s → fromLive (s .row) ≡ [] → takeOut (picture s) ≡ refused (nothingLive (keysAbove (positionKey s) (s .row))) (picture s)
+pub take-outcome-none : (s : State) → Sound s → fromLive (s .row) ≡ [] →
+    takeOut (picture s) ≡ refused (nothingLive (keysAbove (positionKey s) (s .row))) (picture s)
 unfolding takeFrom
 take-outcome-none s v e = take-outcome s v ∙ ap (takeFrom (picture s) s) e
 
@@ -279,7 +289,8 @@ sweep-outcome s v = on-picture s v (sweepOn (picture s)) ∙ rw (row-owed-never-
 
 -- What holds of each end of an operation, on any words, holds of its outcome
 
-onList-has : (P : Outcome (List ℕ) → Type 0) (ws : List ℕ) (act : State → Outcome (List ℕ)) → P (refused notAList ws) → ((s : State) → P (act s)) → P (onList ws act)
+onList-has : (P : Outcome (List ℕ) → Type 0) (ws : List ℕ) (act : State → Outcome (List ℕ)) → P (refused notAList ws) → ((s : State) → P (act s)) →
+    P (onList ws act)
 unfolding onList
 onList-has P ws act p q = at (isList ws)
   where
@@ -287,7 +298,8 @@ onList-has P ws act p q = at (isList ws)
     at true = q (read ws)
     at false = p
 
-onKey-has : (P : Outcome (List ℕ) → Type 0) (ws : List ℕ) (s : State) (key : ℕ) (done : Outcome (List ℕ)) → P (refused badKey ws) → P done → P (onKey ws s key done)
+onKey-has : (P : Outcome (List ℕ) → Type 0) (ws : List ℕ) (s : State) (key : ℕ) (done : Outcome (List ℕ)) → P (refused badKey ws) → P done →
+    P (onKey ws s key done)
 unfolding onKey
 onKey-has P ws s key done p q = cond-has P (leb 1 key && leb key (s .settings .largest)) done (refused badKey ws) q p
 
@@ -333,7 +345,8 @@ module _ (P : Outcome (List ℕ) → Type 0) (ws : List ℕ) (turned : (r : Refu
     where
       at : (s : State) (o : Option Node) → P (finishAt ws s key o)
       at s none = turned (keyNotStanding key)
-      at s (some x) = cond-has P (owesFromFree ws (x .cell)) _ _ (turned owedNotStanding) (done (linksMoved s (placeOf (x .cell) (placesOf s (s .row)))) (withRow s (finished (x .cell) (s .row))))
+      at s (some x) = cond-has P (owesFromFree ws (x .cell)) _ _ (turned owedNotStanding)
+          (done (linksMoved s (placeOf (x .cell) (placesOf s (s .row)))) (withRow s (finished (x .cell) (s .row))))
 
   take-has : ((key value count : ℕ) (s : State) → P (accepted key value count (picture s))) → P (takeOut ws)
   unfolding takeOut takeFrom
@@ -345,7 +358,8 @@ module _ (P : Outcome (List ℕ) → Type 0) (ws : List ℕ) (turned : (r : Refu
 
   sweep-has : ((count : ℕ) (s : State) → P (accepted 0 0 count (picture s))) → P (sweepOut ws)
   unfolding sweepOut sweepOn
-  sweep-has done = onList-has P ws (sweepOn ws) (turned notAList) (λ s. cond-has P (someOwesFromFree ws (s .row)) _ _ (turned owedNotStanding) (done (length (freedBy (s .row))) (swept s)))
+  sweep-has done = onList-has P ws (sweepOn ws) (turned notAList) (λ s. cond-has P (someOwesFromFree ws (s .row)) _ _ (turned owedNotStanding)
+      (done (length (freedBy (s .row))) (swept s)))
 
 -- A refused call alters nothing
 
@@ -366,7 +380,8 @@ pub find-writes-nothing : (ws : List ℕ) (key : ℕ) → findOut ws key .left �
 find-writes-nothing ws key = find-has (λ o. o .left ≡ ws) ws (λ r. refl) key (λ value count. refl)
 
 -- A key is out of range, or absent, or a node's.
-pub key-cases : {R : Type 0} (s : State) (key : ℕ) → ((1 ≤ key → s .settings .largest < key) → R) → (1 ≤ key → key ≤ s .settings .largest → nodeAt key (s .row) ≡ none → R) →
+pub key-cases : {R : Type 0} (s : State) (key : ℕ) → ((1 ≤ key → s .settings .largest < key) → R) →
+    (1 ≤ key → key ≤ s .settings .largest → nodeAt key (s .row) ≡ none → R) →
     (1 ≤ key → key ≤ s .settings .largest → (x : Node) → nodeAt key (s .row) ≡ some x → R) → R
 key-cases {R} s key bad absent standing = go (decLe 1 key) (decLe key (s .settings .largest))
   where

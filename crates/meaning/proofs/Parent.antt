@@ -103,7 +103,9 @@ apart-at y (z ∷ pre) x post o = (λ e. all-right (λ t. t .cell ≡ y .cell �
 -- the place of a standing cell
 pub place-at :
     (b D : ℕ) (w : Node) (f : ℕ) (y : Node) (e : ℕ) (pre : List Node) (x : Node) (post : List Node) → Without (x .cell) (y ∷ pre) →
-    placeOf (x .cell) (placesFrom b D w f y e (pre ++ x ∷ post)) ≡ some (record { node = x; dimension = dimensionAfter b D y pre (x .key); before = lastFrom y pre; beforeDimension = dimensionFrom b D y e pre; later = post })
+    placeOf (x .cell) (placesFrom b D w f y e (pre ++ x ∷ post)) ≡ some
+        (record { node = x; dimension = dimensionAfter b D y pre (x .key); before = lastFrom y pre; beforeDimension = dimensionFrom b D y e pre;
+        later = post })
 unfolding placeOf placesAfter lastFrom dimensionFrom
 place-at b D w f y e [] x post o = rw (ne-eqb (y .cell) (x .cell) (o .0), eq-eqb (x .cell) (x .cell) refl) refl
 place-at b D w f y e (z ∷ pre) x post o = rw (ne-eqb (y .cell) (x .cell) (o .0)) (place-at b D y e z (shared b D (y .key) (z .key)) pre x post (o .1))
@@ -136,7 +138,8 @@ module _ (b D : ℕ) where
   sharing-alike k l d [] a = refl
   sharing-alike k l d (y ∷ later) a = at (ℕ-discrete (shared b D k (y .key)) d) (sharing-alike k l d later (a .1))
     where
-      at : Dec (shared b D k (y .key) ≡ d) → firstSharing b D k d later ≡ firstSharing b D l d later → firstSharing b D k d (y ∷ later) ≡ firstSharing b D l d (y ∷ later)
+      at : Dec (shared b D k (y .key) ≡ d) → firstSharing b D k d later ≡ firstSharing b D l d later →
+          firstSharing b D k d (y ∷ later) ≡ firstSharing b D l d (y ∷ later)
       at (yes e) more = sharing-hits k d y later e ∙ sym (sharing-hits l d y later (a .0 .0 e))
       at (no ne) more = rw (ne-eqb (shared b D k (y .key)) d ne, ne-eqb (shared b D l (y .key)) d (λ e. ne (a .0 .1 e))) more
 
@@ -149,7 +152,8 @@ module _ (b D : ℕ) where
   sharing-behind pos key d y later h l asc = sharing-none key d later (all-map (λ z m e. omega arith) later (sharing-falls pos key y later h asc))
 
   -- nor does that y itself
-  pub sharing-above : 0 < b → (key d : ℕ) (y : Node) (later : List Node) → key ≤ y .key → Asc (y .key) later → shared b D key (y .key) < d → firstSharing b D key d (y ∷ later) ≡ 0
+  pub sharing-above : 0 < b → (key d : ℕ) (y : Node) (later : List Node) → key ≤ y .key → Asc (y .key) later → shared b D key (y .key) < d →
+      firstSharing b D key d (y ∷ later) ≡ 0
   sharing-above pos key d y later h asc l = sharing-skips key d (y ∷ []) later ((λ e. omega arith), tt) ∙ sharing-behind pos key d (y .key) later h l asc
 
   -- no link leads to a cell that does not come later
@@ -158,7 +162,8 @@ module _ (b D : ℕ) where
   sharing-without key d c [] nz w e = nz (sym e)
   sharing-without key d c (z ∷ later) nz w e = at (ℕ-discrete (shared b D key (z .key)) d) e (sharing-without key d c later nz (w .1))
     where
-      at : Dec (shared b D key (z .key) ≡ d) → cond (eqb (shared b D key (z .key)) d) (z .cell) (firstSharing b D key d later) ≡ c → (firstSharing b D key d later ≡ c → ⊥) → ⊥
+      at : Dec (shared b D key (z .key) ≡ d) → cond (eqb (shared b D key (z .key)) d) (z .cell) (firstSharing b D key d later) ≡ c →
+          (firstSharing b D key d later ≡ c → ⊥) → ⊥
       at (yes q) r ih = w .0 (rw (eq-eqb (shared b D key (z .key)) d q) at r)
       at (no q) r ih = ih (rw (ne-eqb (shared b D key (z .key)) d q) at r)
 
@@ -169,7 +174,8 @@ module _ (b D : ℕ) where
   unfolding firstSharing
   sharing-to key d [] x post nz w e = at (ℕ-discrete (shared b D key (x .key)) d) e
     where
-      at : Dec (shared b D key (x .key) ≡ d) → cond (eqb (shared b D key (x .key)) d) (x .cell) (firstSharing b D key d post) ≡ x .cell → Unit {0} × (shared b D key (x .key) ≡ d)
+      at : Dec (shared b D key (x .key) ≡ d) → cond (eqb (shared b D key (x .key)) d) (x .cell) (firstSharing b D key d post) ≡ x .cell →
+          Unit {0} × (shared b D key (x .key) ≡ d)
       at (yes q) r = (tt, q)
       at (no q) r = absurd (sharing-without key d (x .cell) post nz w (rw (ne-eqb (shared b D key (x .key)) d q) at r))
   sharing-to key d (z ∷ pre) x post nz w e = at (ℕ-discrete (shared b D key (z .key)) d) e (sharing-to key d pre x post nz (w .1))
@@ -177,7 +183,8 @@ module _ (b D : ℕ) where
       Passed : List Node → Type 0
       Passed row = All (λ y. shared b D key (y .key) ≡ d → ⊥) row × (shared b D key (x .key) ≡ d)
 
-      at : Dec (shared b D key (z .key) ≡ d) → cond (eqb (shared b D key (z .key)) d) (z .cell) (firstSharing b D key d (pre ++ x ∷ post)) ≡ x .cell → (firstSharing b D key d (pre ++ x ∷ post) ≡ x .cell → Passed pre) → Passed (z ∷ pre)
+      at : Dec (shared b D key (z .key) ≡ d) → cond (eqb (shared b D key (z .key)) d) (z .cell) (firstSharing b D key d (pre ++ x ∷ post)) ≡ x .cell →
+          (firstSharing b D key d (pre ++ x ∷ post) ≡ x .cell → Passed pre) → Passed (z ∷ pre)
       at (yes q) r ih = absurd (w .0 (rw (eq-eqb (shared b D key (z .key)) d q) at r))
       at (no q) r ih = let t = ih (rw (ne-eqb (shared b D key (z .key)) d q) at r) in ((q, t .0), t .1)
 
@@ -200,7 +207,8 @@ module _ (b D : ℕ) where
   first-front key n y [] later h = first-hits key n y later h ∙ sym (first-hits key n y [] h)
   first-front key n y (z ∷ pre) later h = at (decLt (shared b D (y .key) key) n) (first-front key n z pre later h)
     where
-      at : Dec (shared b D (y .key) key < n) → firstWith b D key n (z ∷ (pre ++ later)) ≡ firstWith b D key n (z ∷ pre) → firstWith b D key n (y ∷ z ∷ (pre ++ later)) ≡ firstWith b D key n (y ∷ z ∷ pre)
+      at : Dec (shared b D (y .key) key < n) → firstWith b D key n (z ∷ (pre ++ later)) ≡ firstWith b D key n (z ∷ pre) →
+          firstWith b D key n (y ∷ z ∷ (pre ++ later)) ≡ firstWith b D key n (y ∷ z ∷ pre)
       at (yes g) ih = first-skips key n y (z ∷ (pre ++ later)) g ∙ ih ∙ sym (first-skips key n y (z ∷ pre) g)
       at (no g) ih = first-hits key n y (z ∷ (pre ++ later)) (omega arith) ∙ sym (first-hits key n y (z ∷ pre) (omega arith))
 
@@ -224,9 +232,12 @@ module _ (b D : ℕ) where
   first-key key n y [] later a o h = rw (first-hits key n y [] h, eq-eqb (y .cell) (y .cell) refl) (omega arith)
   first-key key n y (z ∷ pre) later a o h = at (decLt (shared b D (y .key) key) n) (first-key key n z pre later (a .1) (o .1) h)
     where
-      at : Dec (shared b D (y .key) key < n) → keyOf (firstWith b D key n (z ∷ pre)) (z ∷ (pre ++ later)) ≤ lastFrom z pre .key → cond (eqb (y .cell) (firstWith b D key n (y ∷ z ∷ pre))) (y .key) (keyOf (firstWith b D key n (y ∷ z ∷ pre)) (z ∷ (pre ++ later))) ≤ lastFrom z pre .key
+      at : Dec (shared b D (y .key) key < n) → keyOf (firstWith b D key n (z ∷ pre)) (z ∷ (pre ++ later)) ≤ lastFrom z pre .key →
+          cond (eqb (y .cell) (firstWith b D key n (y ∷ z ∷ pre))) (y .key) (keyOf (firstWith b D key n (y ∷ z ∷ pre)) (z ∷ (pre ++ later)))
+          ≤ lastFrom z pre .key
       at (yes g) ih =
-          let other : y .cell ≡ firstWith b D key n (z ∷ pre) → ⊥ = first-among (λ c. y .cell ≡ c → ⊥) key n z pre h (λ e. o .0 .0 (sym e)) (all-map (λ x k e. k (sym e)) pre (o .0 .1)) in
+          let other : y .cell ≡ firstWith b D key n (z ∷ pre) → ⊥ = first-among (λ c. y .cell ≡ c → ⊥) key n z pre h (λ e. o .0 .0 (sym e))
+              (all-map (λ x k e. k (sym e)) pre (o .0 .1)) in
           rw (first-skips key n y (z ∷ pre) g, ne-eqb (y .cell) (firstWith b D key n (z ∷ pre)) other) ih
       at (no g) ih =
           let l : n ≤ shared b D (y .key) key = omega arith in
@@ -234,7 +245,8 @@ module _ (b D : ℕ) where
           rw (first-hits key n y (z ∷ pre) l, eq-eqb (y .cell) (y .cell) refl) k
 
 -- the node before x shares more with itself than x does
-pub last-shares : (b D : ℕ) → 0 < D → (y : Node) (pre : List Node) (x : Node) (post : List Node) → Asc (y .key) (pre ++ x ∷ post) → dimensionAfter b D y pre (x .key) < shared b D (lastFrom y pre .key) (lastFrom y pre .key)
+pub last-shares : (b D : ℕ) → 0 < D → (y : Node) (pre : List Node) (x : Node) (post : List Node) → Asc (y .key) (pre ++ x ∷ post) →
+    dimensionAfter b D y pre (x .key) < shared b D (lastFrom y pre .key) (lastFrom y pre .key)
 last-shares b D deep y pre x post a =
     let A = lastFrom y pre in
     let r = asc-last y pre (x ∷ post) a .0 in
@@ -251,19 +263,22 @@ module _ (b D : ℕ) (pos : 0 < b) (deep : 0 < D) where
 
   -- y has a link to a later x, if y shares more with the node before x than x does
   pub link-leads :
-      (y : Node) (pre : List Node) (x : Node) (post : List Node) → Asc (y .key) (pre ++ x ∷ post) → dimensionAfter b D y pre (x .key) < shared b D (y .key) (lastFrom y pre .key) →
+      (y : Node) (pre : List Node) (x : Node) (post : List Node) → Asc (y .key) (pre ++ x ∷ post) →
+          dimensionAfter b D y pre (x .key) < shared b D (y .key) (lastFrom y pre .key) →
       firstSharing b D (y .key) (dimensionAfter b D y pre (x .key)) (pre ++ x ∷ post) ≡ x .cell
   link-leads y pre x post a h =
       let A = lastFrom y pre in
       let l = last-least y pre (asc-left (y .key) pre (x ∷ post) a) in
       let r = asc-last y pre (x ∷ post) a .0 in
       let u = ultra b D (y .key) (A .key) (x .key) pos l (omega arith) in
-      sharing-skips b D (y .key) (shared b D (A .key) (x .key)) pre (x ∷ post) (all-map (λ z g. omega arith) pre (near y pre (asc-left (y .key) pre (x ∷ post) a)))
+      sharing-skips b D (y .key) (shared b D (A .key) (x .key)) pre (x ∷ post)
+          (all-map (λ z g. omega arith) pre (near y pre (asc-left (y .key) pre (x ∷ post) a)))
       ∙ sharing-hits b D (y .key) (shared b D (A .key) (x .key)) x post (omega arith)
 
   -- and then only this one, and else none
   pub link-from :
-      (y : Node) (d : ℕ) (pre : List Node) (x : Node) (post : List Node) → Asc (y .key) (pre ++ x ∷ post) → (x .cell ≡ 0 → ⊥) → Without (x .cell) (pre ++ post) →
+      (y : Node) (d : ℕ) (pre : List Node) (x : Node) (post : List Node) → Asc (y .key) (pre ++ x ∷ post) → (x .cell ≡ 0 → ⊥) →
+          Without (x .cell) (pre ++ post) →
       firstSharing b D (y .key) d (pre ++ x ∷ post) ≡ x .cell → (d ≡ dimensionAfter b D y pre (x .key)) × (d < shared b D (y .key) (lastFrom y pre .key))
   link-from y d pre x post a nz w e =
       let A = lastFrom y pre in
@@ -285,11 +300,14 @@ module _ (b D : ℕ) (pos : 0 < b) (deep : 0 < D) where
   settled-leads y e pre x post a h g = rw (le-leb e (dimensionAfter b D y pre (x .key)) g) (link-leads y pre x post a h)
 
   pub settled-from :
-      (e : ℕ) (y : Node) (d : ℕ) (pre : List Node) (x : Node) (post : List Node) → Asc (y .key) (pre ++ x ∷ post) → (x .cell ≡ 0 → ⊥) → Without (x .cell) (pre ++ post) →
-      cond (leb e d) (firstSharing b D (y .key) d (pre ++ x ∷ post)) 0 ≡ x .cell → (e ≤ d) × (d ≡ dimensionAfter b D y pre (x .key)) × (d < shared b D (y .key) (lastFrom y pre .key))
+      (e : ℕ) (y : Node) (d : ℕ) (pre : List Node) (x : Node) (post : List Node) → Asc (y .key) (pre ++ x ∷ post) → (x .cell ≡ 0 → ⊥) →
+          Without (x .cell) (pre ++ post) →
+      cond (leb e d) (firstSharing b D (y .key) d (pre ++ x ∷ post)) 0 ≡ x .cell →
+          (e ≤ d) × (d ≡ dimensionAfter b D y pre (x .key)) × (d < shared b D (y .key) (lastFrom y pre .key))
   settled-from e y d pre x post a nz w q = at (decLe e d) q
     where
-      at : Dec (e ≤ d) → cond (leb e d) (firstSharing b D (y .key) d (pre ++ x ∷ post)) 0 ≡ x .cell → (e ≤ d) × (d ≡ dimensionAfter b D y pre (x .key)) × (d < shared b D (y .key) (lastFrom y pre .key))
+      at : Dec (e ≤ d) → cond (leb e d) (firstSharing b D (y .key) d (pre ++ x ∷ post)) 0 ≡ x .cell →
+          (e ≤ d) × (d ≡ dimensionAfter b D y pre (x .key)) × (d < shared b D (y .key) (lastFrom y pre .key))
       at (yes h) r = let t = link-from y d pre x post a nz w (rw (le-leb e d h) at r) in (h, t .0, t .1)
       at (no h) r = absurd (nz (sym (rw (lt-leb e d (omega arith)) at r)))
 
@@ -302,7 +320,8 @@ module _ (b D : ℕ) (pos : 0 < b) (deep : 0 < D) where
 
   -- The first place whose link of x's dimension leads to x
 
-  leads-step : (c d k : ℕ) (p : Place) (standing : List Place) → (settledLink b D p d ≡ c → ⊥) → leadsTo b D d c standing ≡ k → leadsTo b D d c (p ∷ standing) ≡ k
+  leads-step : (c d k : ℕ) (p : Place) (standing : List Place) → (settledLink b D p d ≡ c → ⊥) → leadsTo b D d c standing ≡ k →
+      leadsTo b D d c (p ∷ standing) ≡ k
   unfolding leadsTo
   leads-step c d k p standing n e = rw (ne-eqb (settledLink b D p d) c n) e
 
@@ -312,13 +331,15 @@ module _ (b D : ℕ) (pos : 0 < b) (deep : 0 < D) where
 
   -- The first that shares enough has dimension at most x's, since the one before it shares too little: so its link leads to x.
   leads-first :
-      (w : Node) (f : ℕ) (y : Node) (e : ℕ) (pre : List Node) (x : Node) (post : List Node) → Asc (y .key) (pre ++ x ∷ post) → (x .cell ≡ 0 → ⊥) → Without (x .cell) (pre ++ post) →
+      (w : Node) (f : ℕ) (y : Node) (e : ℕ) (pre : List Node) (x : Node) (post : List Node) → Asc (y .key) (pre ++ x ∷ post) → (x .cell ≡ 0 → ⊥) →
+          Without (x .cell) (pre ++ post) →
       (dimensionAfter b D y pre (x .key) < shared b D (y .key) (lastFrom y pre .key) → e ≤ dimensionAfter b D y pre (x .key)) →
       leadsTo b D (dimensionAfter b D y pre (x .key)) (x .cell) (placesFrom b D w f y e (pre ++ x ∷ post)) ≡ parentAfter b D y pre (x .key)
   unfolding placesAfter lastFrom
   leads-first w f y e [] x post a nz o i =
       let l = last-shares b D deep y [] x post a in
-      leads-here (x .cell) (shared b D (y .key) (x .key)) (record { node = y; dimension = e; before = w; beforeDimension = f; later = x ∷ post }) (placesAfter b D y e (x ∷ post)) (settled-leads y e [] x post a l (i l))
+      leads-here (x .cell) (shared b D (y .key) (x .key)) (record { node = y; dimension = e; before = w; beforeDimension = f; later = x ∷ post })
+          (placesAfter b D y e (x ∷ post)) (settled-leads y e [] x post a l (i l))
       ∙ sym (first-hits b D (y .key) (suc (shared b D (y .key) (x .key))) y [] l)
   leads-first w f y e (z ∷ pre) x post a nz o i =
       at (decLt d (shared b D (y .key) (A .key))) (leads-first y e z (shared b D (y .key) (z .key)) pre x post (a .1) nz (o .1))
@@ -332,29 +353,38 @@ module _ (b D : ℕ) (pos : 0 < b) (deep : 0 < D) where
       p : Place
       p = record { node = y; dimension = e; before = w; beforeDimension = f; later = z ∷ (pre ++ x ∷ post) }
 
-      at : Dec (d < shared b D (y .key) (A .key)) → ((d < shared b D (z .key) (A .key) → shared b D (y .key) (z .key) ≤ d) → leadsTo b D d (x .cell) (placesAfter b D y e (p .later)) ≡ firstWith b D (A .key) (suc d) (z ∷ pre)) → leadsTo b D d (x .cell) (p ∷ placesAfter b D y e (p .later)) ≡ firstWith b D (A .key) (suc d) (y ∷ z ∷ pre)
-      at (yes h) ih = leads-here (x .cell) d p (placesAfter b D y e (p .later)) (settled-leads y e (z ∷ pre) x post a h (i h)) ∙ sym (first-hits b D (A .key) (suc d) y (z ∷ pre) h)
+      at : Dec (d < shared b D (y .key) (A .key)) → ((d < shared b D (z .key) (A .key) → shared b D (y .key) (z .key) ≤ d) →
+          leadsTo b D d (x .cell) (placesAfter b D y e (p .later)) ≡ firstWith b D (A .key) (suc d) (z ∷ pre)) →
+          leadsTo b D d (x .cell) (p ∷ placesAfter b D y e (p .later)) ≡ firstWith b D (A .key) (suc d) (y ∷ z ∷ pre)
+      at (yes h) ih = leads-here (x .cell) d p (placesAfter b D y e (p .later)) (settled-leads y e (z ∷ pre) x post a h (i h))
+          ∙ sym (first-hits b D (A .key) (suc d) y (z ∷ pre) h)
       at (no h) ih =
           let l = a .0 in
           let g = last-least z pre (asc-left (z .key) pre (x ∷ post) (a .1)) in
           let u = ultra b D (y .key) (z .key) (A .key) pos (omega arith) g in
-          leads-step (x .cell) d (firstWith b D (A .key) (suc d) (y ∷ z ∷ pre)) p (placesAfter b D y e (p .later)) (λ q. let t = settled-from e y d (z ∷ pre) x post a nz o q in h (t .2))
+          leads-step (x .cell) d (firstWith b D (A .key) (suc d) (y ∷ z ∷ pre)) p (placesAfter b D y e (p .later))
+              (λ q. let t = settled-from e y d (z ∷ pre) x post a nz o q in h (t .2))
           (ih (λ k. omega arith) ∙ sym (first-skips b D (A .key) (suc d) y (z ∷ pre) (omega arith)))
 
   -- No other link leads to x
 
   -- no link leads back
-  behind-links : (y : Node) (e c : ℕ) (later : List Node) → (c ≡ 0 → ⊥) → Without c later → All (λ p. (d : ℕ) → settledLink b D p d ≡ c → ⊥) (placesAfter b D y e later)
+  behind-links : (y : Node) (e c : ℕ) (later : List Node) → (c ≡ 0 → ⊥) → Without c later →
+      All (λ p. (d : ℕ) → settledLink b D p d ≡ c → ⊥) (placesAfter b D y e later)
   unfolding placesAfter
   behind-links y e c [] nz o = tt
-  behind-links y e c (z ∷ later) nz o = (λ d q. settled-without (shared b D (y .key) (z .key)) (z .key) d c later nz (o .1) q, behind-links z (shared b D (y .key) (z .key)) c later nz (o .1))
+  behind-links y e c (z ∷ later) nz o = (λ d q. settled-without (shared b D (y .key) (z .key)) (z .key) d c later nz (o .1) q, behind-links z
+      (shared b D (y .key) (z .key)) c later nz (o .1))
 
   -- after a node that shares more with the one before x than x does, dimensions up to x are larger than x's
   deep-links :
-      (y : Node) (e : ℕ) (pre : List Node) (x : Node) (post : List Node) → Asc (y .key) (pre ++ x ∷ post) → (x .cell ≡ 0 → ⊥) → Without (x .cell) (pre ++ post) →
-      dimensionAfter b D y pre (x .key) < shared b D (y .key) (lastFrom y pre .key) → All (λ p. (d : ℕ) → settledLink b D p d ≡ x .cell → ⊥) (placesAfter b D y e (pre ++ x ∷ post))
+      (y : Node) (e : ℕ) (pre : List Node) (x : Node) (post : List Node) → Asc (y .key) (pre ++ x ∷ post) → (x .cell ≡ 0 → ⊥) →
+          Without (x .cell) (pre ++ post) →
+      dimensionAfter b D y pre (x .key) < shared b D (y .key) (lastFrom y pre .key) →
+          All (λ p. (d : ℕ) → settledLink b D p d ≡ x .cell → ⊥) (placesAfter b D y e (pre ++ x ∷ post))
   unfolding placesAfter lastFrom
-  deep-links y e [] x post a nz o h = (λ d q. settled-without (shared b D (y .key) (x .key)) (x .key) d (x .cell) post nz o q, behind-links x (shared b D (y .key) (x .key)) (x .cell) post nz o)
+  deep-links y e [] x post a nz o h = (λ d q. settled-without (shared b D (y .key) (x .key)) (x .key) d (x .cell) post nz o q, behind-links x
+      (shared b D (y .key) (x .key)) (x .cell) post nz o)
   deep-links y e (z ∷ pre) x post a nz o h =
       let l = a .0 in
       let g = last-least z pre (asc-left (z .key) pre (x ∷ post) (a .1)) in
@@ -364,8 +394,10 @@ module _ (b D : ℕ) (pos : 0 < b) (deep : 0 < D) where
       )
 
   unique-from :
-      (w : Node) (f : ℕ) (y : Node) (e : ℕ) (pre : List Node) (x : Node) (post : List Node) → Asc (y .key) (pre ++ x ∷ post) → (x .cell ≡ 0 → ⊥) → Without (x .cell) (pre ++ post) →
-      All (λ p. (d : ℕ) → settledLink b D p d ≡ x .cell → (p .node .cell ≡ parentAfter b D y pre (x .key)) × (d ≡ dimensionAfter b D y pre (x .key))) (placesFrom b D w f y e (pre ++ x ∷ post))
+      (w : Node) (f : ℕ) (y : Node) (e : ℕ) (pre : List Node) (x : Node) (post : List Node) → Asc (y .key) (pre ++ x ∷ post) → (x .cell ≡ 0 → ⊥) →
+          Without (x .cell) (pre ++ post) →
+      All (λ p. (d : ℕ) → settledLink b D p d ≡ x .cell → (p .node .cell ≡ parentAfter b D y pre (x .key)) × (d ≡ dimensionAfter b D y pre (x .key)))
+          (placesFrom b D w f y e (pre ++ x ∷ post))
   unfolding placesAfter lastFrom
   unique-from w f y e [] x post a nz o =
       let l = last-shares b D deep y [] x post a in (
@@ -387,7 +419,8 @@ module _ (b D : ℕ) (pos : 0 < b) (deep : 0 < D) where
       Parent : List Node → Place → Type 0
       Parent row p = (n : ℕ) → settledLink b D p n ≡ x .cell → (p .node .cell ≡ firstWith b D (A .key) (suc d) row) × (n ≡ d)
 
-      at : Dec (d < shared b D (y .key) (A .key)) → All (Parent (z ∷ pre)) (placesAfter b D y e later) → All (Parent (y ∷ z ∷ pre)) (placesFrom b D w f y e later)
+      at : Dec (d < shared b D (y .key) (A .key)) → All (Parent (z ∷ pre)) (placesAfter b D y e later) →
+          All (Parent (y ∷ z ∷ pre)) (placesFrom b D w f y e later)
       at (yes h) ih = (
         λ n q. (sym (first-hits b D (A .key) (suc d) y (z ∷ pre) h), settled-from e y n (z ∷ pre) x post a nz o q .1),
         all-map (λ p k n q. absurd (k n q)) (placesAfter b D y e later) (deep-links y e (z ∷ pre) x post a nz o h),
@@ -402,12 +435,14 @@ module _ (b D : ℕ) (pos : 0 < b) (deep : 0 < D) where
   pub first-place :
       (d : ℕ) (w : Node) (f : ℕ) (y : Node) (e : ℕ) (pre later : List Node) → Asc (y .key) pre → Apart (y ∷ pre) → d < D →
       (d < shared b D (y .key) (lastFrom y pre .key) → e ≤ d) →
-      (p : Place) × (placeOf (firstWith b D (lastFrom y pre .key) (suc d) (y ∷ pre)) (placesFrom b D w f y e (pre ++ later)) ≡ some p) × ParentPlace b D d (lastFrom y pre) later p
+      (p : Place) × (placeOf (firstWith b D (lastFrom y pre .key) (suc d) (y ∷ pre)) (placesFrom b D w f y e (pre ++ later)) ≡ some p)
+          × ParentPlace b D d (lastFrom y pre) later p
   unfolding placeOf placesAfter lastFrom
   first-place d w f y e [] later a o h i =
       let l : d < shared b D (y .key) (y .key) = omega (arith, shared-same b D (y .key)) in
       let p : Place = record { node = y; dimension = e; before = w; beforeDimension = f; later = later } in
-      (p, rw (first-hits b D (y .key) (suc d) y [] l, eq-eqb (y .cell) (y .cell) refl) refl, record { between = []; later-is = refl; last-is = refl; ascends = tt; low = i l; shares = l })
+      (p, rw (first-hits b D (y .key) (suc d) y [] l, eq-eqb (y .cell) (y .cell) refl)
+          refl, record { between = []; later-is = refl; last-is = refl; ascends = tt; low = i l; shares = l })
   first-place d w f y e (z ∷ pre) later a o h i =
       at (decLt d (shared b D (y .key) (A .key))) (first-place d y e z (shared b D (y .key) (z .key)) pre later (a .1) (o .1) h)
     where
@@ -420,20 +455,24 @@ module _ (b D : ℕ) (pos : 0 < b) (deep : 0 < D) where
       Stands : List Node → List Place → Type 0
       Stands row standing = (p : Place) × (placeOf (firstWith b D (A .key) (suc d) row) standing ≡ some p) × ParentPlace b D d A later p
 
-      at : Dec (d < shared b D (y .key) (A .key)) → ((d < shared b D (z .key) (A .key) → shared b D (y .key) (z .key) ≤ d) → Stands (z ∷ pre) (placesAfter b D y e (y-place .later))) → Stands (y ∷ z ∷ pre) (y-place ∷ placesAfter b D y e (y-place .later))
-      at (yes l) ih = (y-place, rw (first-hits b D (A .key) (suc d) y (z ∷ pre) l, eq-eqb (y .cell) (y .cell) refl) refl, record { between = z ∷ pre; later-is = refl; last-is = refl; ascends = a; low = i l; shares = l })
+      at : Dec (d < shared b D (y .key) (A .key)) → ((d < shared b D (z .key) (A .key) → shared b D (y .key) (z .key) ≤ d) →
+          Stands (z ∷ pre) (placesAfter b D y e (y-place .later))) → Stands (y ∷ z ∷ pre) (y-place ∷ placesAfter b D y e (y-place .later))
+      at (yes l) ih = (y-place, rw (first-hits b D (A .key) (suc d) y (z ∷ pre) l, eq-eqb (y .cell) (y .cell) refl)
+          refl, record { between = z ∷ pre; later-is = refl; last-is = refl; ascends = a; low = i l; shares = l })
       at (no l) ih =
           let k = a .0 in
           let g = last-least z pre (a .1) in
           let u = ultra b D (y .key) (z .key) (A .key) pos (omega arith) g in
           let t = ih (λ m. omega arith) in
           let q : suc d ≤ shared b D (A .key) (A .key) = omega (arith, shared-same b D (A .key)) in
-          let other : y .cell ≡ firstWith b D (A .key) (suc d) (z ∷ pre) → ⊥ = first-among b D (λ c. y .cell ≡ c → ⊥) (A .key) (suc d) z pre q (λ r. o .0 .0 (sym r)) (all-map (λ x n r. n (sym r)) pre (o .0 .1)) in
+          let other : y .cell ≡ firstWith b D (A .key) (suc d) (z ∷ pre) → ⊥ =
+              first-among b D (λ c. y .cell ≡ c → ⊥) (A .key) (suc d) z pre q (λ r. o .0 .0 (sym r)) (all-map (λ x n r. n (sym r)) pre (o .0 .1)) in
           let m : shared b D (y .key) (A .key) < suc d = omega arith in
           (t .0, rw (first-skips b D (A .key) (suc d) y (z ∷ pre) m, ne-eqb (y .cell) (firstWith b D (A .key) (suc d) (z ∷ pre)) other) (t .1), t .2)
 
   -- what a node shares with the last one is at most that one's dimension
-  pub last-dimension : (y : Node) (z : Node) (row : List Node) → Asc (y .key) (z ∷ row) → shared b D (y .key) (lastFrom z row .key) ≤ dimensionFrom b D z (shared b D (y .key) (z .key)) row
+  pub last-dimension : (y : Node) (z : Node) (row : List Node) → Asc (y .key) (z ∷ row) →
+      shared b D (y .key) (lastFrom z row .key) ≤ dimensionFrom b D z (shared b D (y .key) (z .key)) row
   unfolding lastFrom dimensionFrom
   last-dimension y z [] a = omega arith
   last-dimension y z (x ∷ row) a =
@@ -456,7 +495,8 @@ module _ (b D : ℕ) (pos : 0 < b) (deep : 0 < D) where
 
 -- In a row of a state
 
-module _ (s : State) (pre : List Node) (x : Node) (post : List Node) (pos : 0 < s .settings .base) (deep : 0 < s .settings .dimensions) (a : Asc 0 (pre ++ x ∷ post)) (o : Apart (headNode ∷ (pre ++ x ∷ post))) where
+module _ (s : State) (pre : List Node) (x : Node) (post : List Node) (pos : 0 < s .settings .base) (deep : 0 < s .settings .dimensions)
+    (a : Asc 0 (pre ++ x ∷ post)) (o : Apart (headNode ∷ (pre ++ x ∷ post))) where
   pub parent-is : parentIn s (x .cell) (pre ++ x ∷ post) ≡ parentAfter (s .settings .base) (s .settings .dimensions) headNode pre (x .key)
   unfolding parentIn places dimensionAt
   parent-is =
@@ -469,16 +509,19 @@ module _ (s : State) (pre : List Node) (x : Node) (post : List Node) (pos : 0 < 
   -- the same, of the whole row: the first of the head and all standing cells
   pub parent-in-row :
       parentIn s (x .cell) (pre ++ x ∷ post)
-      ≡ firstWith (s .settings .base) (s .settings .dimensions) (lastFrom headNode pre .key) (suc (dimensionAfter (s .settings .base) (s .settings .dimensions) headNode pre (x .key))) (headNode ∷ (pre ++ x ∷ post))
+      ≡ firstWith (s .settings .base) (s .settings .dimensions) (lastFrom headNode pre .key)
+          (suc (dimensionAfter (s .settings .base) (s .settings .dimensions) headNode pre (x .key))) (headNode ∷ (pre ++ x ∷ post))
   parent-in-row =
       let b = s .settings .base in
       let D = s .settings .dimensions in
-      parent-is ∙ sym (first-front b D (lastFrom headNode pre .key) (suc (dimensionAfter b D headNode pre (x .key))) headNode pre (x ∷ post) (last-shares b D deep headNode pre x post a))
+      parent-is ∙ sym (first-front b D (lastFrom headNode pre .key) (suc (dimensionAfter b D headNode pre (x .key))) headNode pre (x ∷ post)
+          (last-shares b D deep headNode pre x post a))
 
   -- a place with a settled link that leads to x is the parent, and the link's number is x's dimension
   pub parent-unique :
       All (λ p. (d : ℕ) → settledLink (s .settings .base) (s .settings .dimensions) p d ≡ x .cell →
-      (p .node .cell ≡ parentAfter (s .settings .base) (s .settings .dimensions) headNode pre (x .key)) × (d ≡ dimensionAfter (s .settings .base) (s .settings .dimensions) headNode pre (x .key)))
+      (p .node .cell ≡ parentAfter (s .settings .base) (s .settings .dimensions) headNode pre (x .key))
+          × (d ≡ dimensionAfter (s .settings .base) (s .settings .dimensions) headNode pre (x .key)))
       (places (s .settings .base) (s .settings .dimensions) (pre ++ x ∷ post))
   unfolding places
   parent-unique =

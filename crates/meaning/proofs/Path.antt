@@ -22,7 +22,8 @@ use Rattle.meaning.specs.Layer.Paths.{pathFor, onward}
 use Rattle.meaning.proofs.Order.{Asc}
 use Rattle.meaning.proofs.Keys.{shared-same, shared-sym, shared-le, shared-less, ultra, triangle}
 use Rattle.meaning.proofs.Places.{asc-left, lastFrom}
-use Rattle.meaning.proofs.Parent.{dimensionAfter, Apart, ParentPlace, asc-last, last-least, last-greatest, sharing-skips, sharing-hits, sharing-none, first-hits, first-skips, first-front, near, first-place, sharing-above}
+use Rattle.meaning.proofs.Parent.{dimensionAfter, Apart, ParentPlace, asc-last, last-least, last-greatest, sharing-skips, sharing-hits}
+use Rattle.meaning.proofs.Parent.{sharing-none, first-hits, first-skips, first-front, near, first-place, sharing-above}
 use Rattle.meaning.proofs.WalkRead.{settled-above}
 
 -- The words of a path
@@ -72,7 +73,8 @@ onward-is D path words d y long same h front back =
 -- The first that shares enough
 
 module _ (b D : ℕ) where
-  pub first-past : (key n : ℕ) (pre later : List Node) → All (λ z. shared b D (z .key) key < n) pre → firstWith b D key n (pre ++ later) ≡ firstWith b D key n later
+  pub first-past : (key n : ℕ) (pre later : List Node) → All (λ z. shared b D (z .key) key < n) pre →
+      firstWith b D key n (pre ++ later) ≡ firstWith b D key n later
   first-past key n [] later a = refl
   first-past key n (z ∷ pre) later a = first-skips b D key n z (pre ++ later) (a .0) ∙ first-past key n pre later (a .1)
 
@@ -164,13 +166,15 @@ pub record PathLink (b D : ℕ) (row : List Node) (key d c : ℕ) : Type 0 where
 
 module _ (b D : ℕ) (pos : 0 < b) (deep : 0 < D) where
   -- link d of a place that shares more than d with a leads to the first of what comes after a that shares just d
-  parent-passes : (d : ℕ) (a : Node) (later : List Node) (p : Place) → ParentPlace b D d a later p → settledLink b D p d ≡ firstSharing b D (p .node .key) d later
+  parent-passes : (d : ℕ) (a : Node) (later : List Node) (p : Place) → ParentPlace b D d a later p →
+      settledLink b D p d ≡ firstSharing b D (p .node .key) d later
   parent-passes d a later p at =
       let shares = at .shares in
       let to-last = ap (λ z. shared b D (p .node .key) (z .key)) (at .last-is) in
       settled-above b D p d (at .low)
       ∙ ap (firstSharing b D (p .node .key) d) (at .later-is)
-      ∙ sharing-skips b D (p .node .key) d (at .between) later (all-map (λ z h e. omega arith) (at .between) (near b D pos deep (p .node) (at .between) (at .ascends)))
+      ∙ sharing-skips b D (p .node .key) d (at .between) later (all-map (λ z h e. omega arith) (at .between)
+          (near b D pos deep (p .node) (at .between) (at .ascends)))
 
   pub parent-shares :
       (d : ℕ) (a : Node) (later : List Node) (p : Place) → ParentPlace b D d a later p → (key : ℕ) → a .key ≤ key →

@@ -57,7 +57,8 @@ next-highest ws path (suc n) e y h there other f = at (ℕ-discrete e n) (next-h
     Highest : ℕ → Type 0
     Highest m = nextFrom ws path m ≡ record { cell = y; number = e }
 
-    at : Dec (e ≡ n) → (e < n → linkRead ws (getD path e 0) e ≡ y → 0 < y → ((d : ℕ) → e < d → d < n → linkRead ws (getD path d 0) d ≡ 0) → Highest n) → Highest (suc n)
+    at : Dec (e ≡ n) → (e < n → linkRead ws (getD path e 0) e ≡ y → 0 < y → ((d : ℕ) → e < d → d < n → linkRead ws (getD path d 0) d ≡ 0) → Highest n)
+        → Highest (suc n)
     at (yes q) further = subst (λ m. Highest (suc m)) q (next-here ws path e y there other)
     at (no q) further = next-down ws path n (f n (omega arith) (omega arith)) ∙ further (omega arith) there other (λ d l m. f d l (omega arith))
 

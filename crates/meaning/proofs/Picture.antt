@@ -32,7 +32,8 @@ pub wordsOf-length : (b D c : ℕ) (free : List ℕ) (x : Option Place) → leng
 unfolding standingWords freeWords wordsOf
 wordsOf-length b D c free none = omega (arith, length-replicate {A = ℕ} (cellWords D - 1) 0)
 wordsOf-length b D c free (some x) =
-    omega (arith, length-append (coordinates b D (x .node .key)) (map (link b D x) (numbersFrom 0 D)), coordinates-length b D (x .node .key), made-length (link b D x) 0 D)
+    omega (arith, length-append (coordinates b D (x .node .key)) (map (link b D x) (numbersFrom 0 D)), coordinates-length b D
+        (x .node .key), made-length (link b D x) 0 D)
 
 -- the words of cell c in the picture of a state
 abbrev pub shownWords : State → ℕ → List ℕ
@@ -92,7 +93,9 @@ picture-path s d h =
     ∙ path-word s d h
 
 -- word j of cell c of a picture
-pub picture-word : (s : State) (c j : ℕ) → c < s .settings .cells → j < cellWords (s .settings .dimensions) → wordAt (picture s) c j ≡ getD (wordsOf (s .settings .base) (s .settings .dimensions) (s .free) c (placeOf c (places (s .settings .base) (s .settings .dimensions) (s .row)))) j 0
+pub picture-word : (s : State) (c j : ℕ) → c < s .settings .cells → j < cellWords (s .settings .dimensions) →
+    wordAt (picture s) c j ≡ getD (wordsOf (s .settings .base) (s .settings .dimensions) (s .free) c
+    (placeOf c (places (s .settings .base) (s .settings .dimensions) (s .row)))) j 0
 unfolding cellPictures picture
 picture-word s c j hc hj =
     let D = s .settings .dimensions in
@@ -174,7 +177,8 @@ unfolding places
 places-later P b D row h = (h, later-after P b D headNode 0 row h)
 
 -- each standing cell is found at its place, and a free cell is no standing one
-pub place-found : (s : State) → Sound s → All (λ p. placeOf (p .node .cell) (places (s .settings .base) (s .settings .dimensions) (s .row)) ≡ some p) (places (s .settings .base) (s .settings .dimensions) (s .row))
+pub place-found : (s : State) → Sound s → All (λ p. placeOf (p .node .cell) (places (s .settings .base) (s .settings .dimensions) (s .row)) ≡ some p)
+    (places (s .settings .base) (s .settings .dimensions) (s .row))
 place-found s v =
     let b = s .settings .base in
     let D = s .settings .dimensions in

@@ -25,7 +25,8 @@ use Rattle.meaning.specs.Reading.{settingsAt}
 use Rattle.meaning.proofs.State.{Sound, cellsIn}
 use Rattle.meaning.proofs.Order.{asc-above}
 use Rattle.meaning.proofs.Cells.{row-range, free-range}
-use Rattle.meaning.proofs.Picture.{picture-word, place-here, place-past, Told, told, places-cells, free-found, freeWords-rest, shownWords, picture-path, place-found}
+use Rattle.meaning.proofs.Picture.{picture-word, place-here, place-past, Told, told, places-cells, free-found, freeWords-rest, shownWords}
+use Rattle.meaning.proofs.Picture.{picture-path, place-found}
 use Rattle.meaning.proofs.Places.{keyOf-same, keyOf-other, node-found, nodes-passed}
 use Rattle.meaning.proofs.SentencesNumbers.{cells-cover}
 use Rattle.meaning.proofs.WalkRead.{Held, all-places, places-held, standing-word, standing-coordinate, standing-link}
@@ -317,7 +318,8 @@ pub record FreeHeld (ws free : List ℕ) (c : ℕ) : Type 0 where
   pub next : wordAt ws c 0 ≡ nextFree c free
   pub rest : (j : ℕ) → 0 < j → j < cellWords (dimensionsAt ws) → wordAt ws c j ≡ 0
 
-free-held-word : (ws free : List ℕ) (c : ℕ) → FreeHeld ws free c → (j : ℕ) → j < cellWords (dimensionsAt ws) → wordAt ws c j ≡ getD (freeWords (dimensionsAt ws) (nextFree c free)) j 0
+free-held-word : (ws free : List ℕ) (c : ℕ) → FreeHeld ws free c → (j : ℕ) → j < cellWords (dimensionsAt ws) →
+    wordAt ws c j ≡ getD (freeWords (dimensionsAt ws) (nextFree c free)) j 0
 unfolding freeWords
 free-held-word ws free c t zero h = t .next
 free-held-word ws free c t (suc j) h = t .rest (suc j) (omega arith) h ∙ sym (freeWords-rest (dimensionsAt ws) (nextFree c free) (suc j) (omega arith) h)

@@ -82,14 +82,16 @@ unfolding keyOf
 keyOf-other c x row ne = rw (ne-eqb (x .cell) c ne)
 
 -- the key of a cell that no earlier node has
-pub keyOf-first : (c : ℕ) (front : List Node) (x : Node) (later : List Node) → occurrences c (map (λ y. y .cell) front) ≡ 0 → x .cell ≡ c → keyOf c (front ++ (x ∷ later)) ≡ x .key
+pub keyOf-first : (c : ℕ) (front : List Node) (x : Node) (later : List Node) → occurrences c (map (λ y. y .cell) front) ≡ 0 → x .cell ≡ c →
+    keyOf c (front ++ (x ∷ later)) ≡ x .key
 keyOf-first c [] x later e p = keyOf-same c x later p
 keyOf-first c (y ∷ front) x later e p =
     let n = occurrences-none c (map (λ z. z .cell) (y ∷ front)) e in
     keyOf-other c y (front ++ (x ∷ later)) (λ q. n .0 (sym q)) ∙ keyOf-first c front x later (none-occurs c (map (λ z. z .cell) front) (n .1)) p
 
 -- what holds of the keys of the nodes with a cell holds of the key of a cell that occurs
-pub keyOf-has : (P : ℕ → Type 0) (c : ℕ) (row : List Node) → 0 < occurrences c (map (λ x. x .cell) row) → All (λ x. x .cell ≡ c → P (x .key)) row → P (keyOf c row)
+pub keyOf-has : (P : ℕ → Type 0) (c : ℕ) (row : List Node) → 0 < occurrences c (map (λ x. x .cell) row) → All (λ x. x .cell ≡ c → P (x .key)) row →
+    P (keyOf c row)
 unfolding occurrences
 keyOf-has P c [] h a = absurd (omega arith)
 keyOf-has P c (x ∷ row) h a = at-test (ℕ-discrete (x .cell) c) (λ more. keyOf-has P c row more (a .1))
@@ -149,7 +151,9 @@ dimensionFrom b D a e (x ∷ row) = dimensionFrom b D x (shared b D (a .key) (x 
 abbrev pub longerPlace : List Node → Place → Place
 longerPlace more n = record { node = n .node; dimension = n .dimension; before = n .before; beforeDimension = n .beforeDimension; later = n .later ++ more }
 
-pub placesAfter-append : (b D : ℕ) (a : Node) (e : ℕ) (front later : List Node) → placesAfter b D a e (front ++ later) ≡ map (longerPlace later) (placesAfter b D a e front) ++ placesAfter b D (lastFrom a front) (dimensionFrom b D a e front) later
+pub placesAfter-append : (b D : ℕ) (a : Node) (e : ℕ) (front later : List Node) →
+    placesAfter b D a e (front ++ later) ≡ map (longerPlace later) (placesAfter b D a e front) ++ placesAfter b D (lastFrom a front)
+    (dimensionFrom b D a e front) later
 unfolding placesAfter lastFrom dimensionFrom
 placesAfter-append b D a e [] later = refl
 placesAfter-append b D a e (x ∷ front) later =
@@ -164,7 +168,8 @@ pub record Keeping (f : Node → Node) : Type 0 where
 
 -- a place with its nodes changed: dimensions stay
 abbrev pub changedPlace : (Node → Node) → Place → Place
-changedPlace f n = record { node = f (n .node); dimension = n .dimension; before = f (n .before); beforeDimension = n .beforeDimension; later = map f (n .later) }
+changedPlace f n = record { node = f (n .node); dimension = n .dimension; before = f (n .before); beforeDimension = n .beforeDimension;
+    later = map f (n .later) }
 
 pub cells-changed : (f : Node → Node) → Keeping f → (row : List Node) → map (λ x. x .cell) (map f row) ≡ map (λ x. x .cell) row
 cells-changed f k [] = refl
@@ -192,17 +197,21 @@ pub firstOf-changed : (f : Node → Node) → Keeping f → (row : List Node) �
 firstOf-changed f k [] = sym (k .head)
 firstOf-changed f k (x ∷ row) = refl
 
-pub placesAfter-changed : (f : Node → Node) → Keeping f → (b D : ℕ) (a : Node) (e : ℕ) (row : List Node) → placesAfter b D (f a) e (map f row) ≡ map (changedPlace f) (placesAfter b D a e row)
+pub placesAfter-changed : (f : Node → Node) → Keeping f → (b D : ℕ) (a : Node) (e : ℕ) (row : List Node) →
+    placesAfter b D (f a) e (map f row) ≡ map (changedPlace f) (placesAfter b D a e row)
 unfolding placesAfter
 placesAfter-changed f k b D a e [] = refl
 placesAfter-changed f k b D a e (x ∷ row) =
-    ap {B = List Place} (λ d. record { node = f x; dimension = d; before = f a; beforeDimension = e; later = map f row } ∷ placesAfter b D (f x) d (map f row)) (ap₂ (shared b D) (k .key a) (k .key x))
-    ∙ ap {B = List Place} (λ r. record { node = f x; dimension = shared b D (a .key) (x .key); before = f a; beforeDimension = e; later = map f row } ∷ r) (placesAfter-changed f k b D x (shared b D (a .key) (x .key)) row)
+    ap {B = List Place} (λ d. record { node = f x; dimension = d; before = f a; beforeDimension = e; later = map f row } ∷ placesAfter b D (f x) d
+        (map f row)) (ap₂ (shared b D) (k .key a) (k .key x))
+    ∙ ap {B = List Place} (λ r. record { node = f x; dimension = shared b D (a .key) (x .key); before = f a; beforeDimension = e;
+        later = map f row } ∷ r) (placesAfter-changed f k b D x (shared b D (a .key) (x .key)) row)
 
 pub places-changed : (f : Node → Node) → Keeping f → (b D : ℕ) (row : List Node) → places b D (map f row) ≡ map (changedPlace f) (places b D row)
 unfolding places
 places-changed f k b D row =
-    ap {B = List Place} (λ h. record { node = h; dimension = 0; before = h; beforeDimension = 0; later = map f row } ∷ placesAfter b D h 0 (map f row)) (sym (k .head))
+    ap {B = List Place} (λ h. record { node = h; dimension = 0; before = h; beforeDimension = 0; later = map f row } ∷ placesAfter b D h 0
+        (map f row)) (sym (k .head))
     ∙ ap {B = List Place} (λ r. changedPlace f (headPlace row) ∷ r) (placesAfter-changed f k b D headNode 0 row)
 
 -- a change of the node of one cell
@@ -217,7 +226,8 @@ onCell-cases P c f x here other = at-test (eqb (x .cell) c) refl
     at-test true e = here (eqb-true (x .cell) c e)
     at-test false e = other (eqb-false (x .cell) c e)
 
-pub onCell-keeping : (c : ℕ) (f : Node → Node) → ((x : Node) → f x .cell ≡ x .cell) → ((x : Node) → f x .key ≡ x .key) → (0 ≡ c → f headNode ≡ headNode) → Keeping (onCell c f)
+pub onCell-keeping : (c : ℕ) (f : Node → Node) → ((x : Node) → f x .cell ≡ x .cell) → ((x : Node) → f x .key ≡ x .key) →
+    (0 ≡ c → f headNode ≡ headNode) → Keeping (onCell c f)
 onCell-keeping c f cell key head =
     record {
       cell = λ x. onCell-cases (λ y. y .cell ≡ x .cell) c f x (λ e. cell x) (λ ne. refl);

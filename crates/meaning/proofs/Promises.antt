@@ -18,13 +18,19 @@ use Rattle.meaning.specs.Rule.{rule}
 use Rattle.meaning.specs.Words.{keyAt, dimensionsAt, largestAt, baseAt}
 use Rattle.meaning.specs.Walk.{trailFrom, trail, ends, walk}
 use Rattle.meaning.specs.Book.{standingKeys}
-use Rattle.meaning.specs.Promises.{ListsStayLists, CallsKeepLists, RefusedAltersNothing, Looks, answersLooked, LookedIsWalk, PresentMeansThatKey, TakesInTurn, TakesEnd, CallsAreBooked, FindWritesNothing, TakeWrites, ReviveWrites, InsertWrites, FinishWrites, SweepWrites, EachCellOnce, SweptCellsFirst, InsertUsesFirst, SharedMeansLeading, ListMeansSentences, WalkIsRule, WalkOnce, WalkBounded, WalkEnds, WalkByKeysAlone, OrderIsLexicographic, OneOutcome}
+use Rattle.meaning.specs.Promises.{ListsStayLists, CallsKeepLists, RefusedAltersNothing, Looks, answersLooked, LookedIsWalk}
+use Rattle.meaning.specs.Promises.{PresentMeansThatKey, TakesInTurn, TakesEnd, CallsAreBooked, FindWritesNothing, TakeWrites, ReviveWrites}
+use Rattle.meaning.specs.Promises.{InsertWrites, FinishWrites, SweepWrites, EachCellOnce, SweptCellsFirst, InsertUsesFirst, SharedMeansLeading}
+use Rattle.meaning.specs.Promises.{ListMeansSentences, WalkIsRule, WalkOnce, WalkBounded, WalkEnds, WalkByKeysAlone, OrderIsLexicographic}
+use Rattle.meaning.specs.Promises.{OneOutcome}
 use Rattle.meaning.proofs.Keys.{shared-agreed, lexicographic, coordinates-determine}
 use Rattle.meaning.proofs.Ascending.{asc-rising, rising-equal}
 use Rattle.meaning.proofs.State.{Sound, base-positive, base-above}
 use Rattle.meaning.proofs.Reading.{list-sound, picture-is-list, read-of-picture}
 use Rattle.meaning.proofs.Outcomes as outcomes
-use Rattle.meaning.proofs.Outcomes.{on-lists, insert-outcome-bad-key, insert-outcome-live, insert-outcome-dead, insert-outcome-full, insert-outcome-new, find-outcome-bad-key, find-outcome-absent, find-outcome-dead, find-outcome-live, key-cases, live-cases, free-cases}
+use Rattle.meaning.proofs.Outcomes.{on-lists, insert-outcome-bad-key, insert-outcome-live, insert-outcome-dead, insert-outcome-full}
+use Rattle.meaning.proofs.Outcomes.{insert-outcome-new, find-outcome-bad-key, find-outcome-absent, find-outcome-dead, find-outcome-live}
+use Rattle.meaning.proofs.Outcomes.{key-cases, live-cases, free-cases}
 use Rattle.meaning.proofs.Book as book
 use Rattle.meaning.proofs.Writes as leaves
 use Rattle.meaning.proofs.Serves as serves
@@ -52,7 +58,8 @@ unfolding picture
 walk-is-rule =
     on-lists
     (λ ws. (k : ℕ) → 1 ≤ k → k ≤ largestAt ws → map (keyAt ws) (walk ws k) ≡ rule (baseAt ws) (dimensionsAt ws) (standingKeys ws) k)
-    (λ s v k h l. walks.walk-is-rule s v k h l ∙ ap (λ t. rule (s .settings .base) (s .settings .dimensions) (map (λ x. x .key) (t .row)) k) (sym (read-of-picture s v)))
+    (λ s v k h l. walks.walk-is-rule s v k h l ∙ ap (λ t. rule (s .settings .base) (s .settings .dimensions) (map (λ x. x .key) (t .row)) k)
+        (sym (read-of-picture s v)))
 
 pub walk-once : WalkOnce
 unfolding picture
@@ -83,7 +90,8 @@ pub walk-by-keys-alone : WalkByKeysAlone
 walk-by-keys-alone ws vs e f d l same k h m =
     let b : baseAt ws ≡ baseAt vs = list-base ws e ∙ (ap₂ baseOf d l ∙ sym (list-base vs f)) in
     let keys : standingKeys ws ≡ standingKeys vs =
-    rising-equal 0 (standingKeys ws) (standingKeys vs) (asc-rising 0 (read ws .row) (list-sound ws e .ascends)) (asc-rising 0 (read vs .row) (list-sound vs f .ascends)) same in
+    rising-equal 0 (standingKeys ws) (standingKeys vs) (asc-rising 0 (read ws .row) (list-sound ws e .ascends))
+        (asc-rising 0 (read vs .row) (list-sound vs f .ascends)) same in
     walk-is-rule ws e k h m
     ∙ (ap (λ t. rule t (dimensionsAt ws) (standingKeys ws) k) b
     ∙ (ap (λ t. rule (baseAt vs) t (standingKeys ws) k) d
@@ -93,7 +101,8 @@ pub order-is-lexicographic : OrderIsLexicographic
 order-is-lexicographic ws e x y hx hy =
     let k = list-keys ws e in
     let a = k .1 in
-    (lexicographic (baseAt ws) (dimensionsAt ws) x y (k .0) (omega arith) (omega arith), coordinates-determine (baseAt ws) (dimensionsAt ws) x y (k .0) (omega arith) (omega arith))
+    (lexicographic (baseAt ws) (dimensionsAt ws) x y (k .0) (omega arith) (omega arith), coordinates-determine (baseAt ws) (dimensionsAt ws) x y
+        (k .0) (omega arith) (omega arith))
 
 pub one-outcome : OneOutcome
 one-outcome Lent o r s one other m n = (m .answered ∙ sym (n .answered), m .left ∙ sym (n .left))
@@ -113,7 +122,8 @@ counted-by s key o p h l e c = record { least = h; most = l; count = ap (λ (t :
 not-looked : (s : State) (key : ℕ) (o : Outcome (List ℕ)) → o ≡ refused badKey (picture s) → answersLooked (o .answered .refusal) ≡ true → Counts s key o
 not-looked s key o e l = absurd (let z : true ≡ false = sym l ∙ ap (λ (t : Outcome (List ℕ)). answersLooked (t .answered .refusal)) e in true≢false z)
 
-insert-counts : (s : State) → Sound s → (key value : ℕ) → answersLooked (insertOut (picture s) key value .answered .refusal) ≡ true → Counts s key (insertOut (picture s) key value)
+insert-counts : (s : State) → Sound s → (key value : ℕ) → answersLooked (insertOut (picture s) key value .answered .refusal) ≡ true →
+    Counts s key (insertOut (picture s) key value)
 insert-counts s v key value e =
     key-cases s key
     (λ n. not-looked s key (insertOut (picture s) key value) (insert-outcome-bad-key s v key value n) e)
@@ -151,7 +161,8 @@ looked-is-walk ws fresh =
     (λ ws. (key value : ℕ)
     → (answersLooked (insertOut ws key value .answered .refusal) ≡ true → Looks ws key (insertOut ws key value .answered .count))
     × (answersLooked (findOut ws key .answered .refusal) ≡ true → Looks ws key (findOut ws key .answered .count)))
-    (λ s v key value. (λ e. looks s v key (insertOut (picture s) key value) (insert-counts s v key value e), λ e. looks s v key (findOut (picture s) key) (find-counts s v key e)))
+    (λ s v key value. (λ e. looks s v key (insertOut (picture s) key value) (insert-counts s v key value e), λ e. looks s v key
+        (findOut (picture s) key) (find-counts s v key e)))
     ws
     (book.lists-stay-lists ws fresh)
 

@@ -34,7 +34,8 @@ use Rattle.meaning.proofs.Keys.{shared-same, shared-less}
 use Rattle.meaning.proofs.State.{Sound, valid-sound, sound-valid}
 use Rattle.meaning.proofs.Cells.{row-distinct, free-distinct, row-range, free-range, free-length}
 use Rattle.meaning.proofs.Put.{put-front, put-past}
-use Rattle.meaning.proofs.Picture.{shownWords, shown-length, path-length, picture-length, picture-path, place-past, Told, told, first-has, free-found, freeWords-rest, places-later}
+use Rattle.meaning.proofs.Picture.{shownWords, shown-length, path-length, picture-length, picture-path, place-past, Told, told, first-has}
+use Rattle.meaning.proofs.Picture.{free-found, freeWords-rest, places-later}
 use Rattle.meaning.proofs.Places.{keyOf-has}
 
 -- The blocks

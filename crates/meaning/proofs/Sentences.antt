@@ -31,8 +31,12 @@ use Rattle.meaning.proofs.SentencesRow.{Compared, Least, SharesAtLeast,
 use Rattle.meaning.proofs.SentencesRow.Led.{head, led}
 use Rattle.meaning.proofs.SentencesRow.Compared.{same, later, earlier}
 use Rattle.meaning.proofs.SentencesRow.Least.{least, nowhere}
-use Rattle.meaning.proofs.Placed.{Placed, placed-has, placed-node, placed-cell, placed-keyOf, placed-most, head-placed, place-key, place-value, place-mark, place-owed, place-low, place-high, place-coordinate, place-link, place-standing, free-cell-first, free-cell-rest, free-cell-free, cell-standing, cell-unfound, cell-free, free-cell, position-placed, place-unowing}
-use Rattle.meaning.proofs.SentencesShape.{NextIn, LedIn, HasPlace, placed-shared, placed-digit, placed-led, placed-compared, next-larger, place-after, place-next-smaller, place-dimension, row-placed, place-settled}
+use Rattle.meaning.proofs.Placed.{Placed, placed-has, placed-node, placed-cell, placed-keyOf, placed-most, head-placed, place-key, place-value}
+use Rattle.meaning.proofs.Placed.{place-mark, place-owed, place-low, place-high, place-coordinate, place-link, place-standing, free-cell-first}
+use Rattle.meaning.proofs.Placed.{free-cell-rest, free-cell-free, cell-standing, cell-unfound, cell-free, free-cell, position-placed}
+use Rattle.meaning.proofs.Placed.{place-unowing}
+use Rattle.meaning.proofs.SentencesShape.{NextIn, LedIn, HasPlace, placed-shared, placed-digit, placed-led, placed-compared, next-larger}
+use Rattle.meaning.proofs.SentencesShape.{place-after, place-next-smaller, place-dimension, row-placed, place-settled}
 
 -- What a cell owes
 

@@ -38,7 +38,8 @@ pub data Led (b D : ℕ) (Q : Place → Type 0) (row : List Node) (p : Place) : 
   led : (q : Place) → Q q → Next b D q p → Led b D Q row p
 
 module _ (b D : ℕ) (Q : Place → Type 0) where
-  next-is : (x a : Node) (e : ℕ) (before : Node) (f : ℕ) (row : List Node) → Next b D (place a e before f (x ∷ row)) (place x (shared b D (a .key) (x .key)) a e row)
+  next-is : (x a : Node) (e : ℕ) (before : Node) (f : ℕ) (row : List Node) →
+      Next b D (place a e before f (x ∷ row)) (place x (shared b D (a .key) (x .key)) a e row)
   next-is x a e before f row = record { before = refl; beforeDimension = refl; dimension = refl; later = refl }
 
   followed-after : (a : Node) (e : ℕ) (before : Node) (f : ℕ) (row : List Node) → All Q (placesAfter b D a e row) →

@@ -8,7 +8,7 @@ use native.Mathlib.Decide.{decLe}
 use native.Mathlib.Omega.{arith}
 use lib.ListN.{length}
 use borrow.Author.Tests.{le-leb, lt-leb}
-use Rattle.lists.specs.Lists.{agreed}
+use Rattle.lists.specs.Compared.{agreed}
 use Rattle.lists.proofs.All.{All, all-map, all-zip, all-in}
 use Rattle.meaning.specs.Keys.{coordinate, coordinates, shared}
 use Rattle.meaning.specs.Row.{Node, headNode, firstOf, Place, placesAfter, places, settledLink, firstSharing}
@@ -22,7 +22,8 @@ use Rattle.meaning.proofs.Order.{Asc, asc-above}
 use Rattle.meaning.proofs.Keys.{shared-agreed, coordinate-less, coordinate-larger}
 use Rattle.meaning.proofs.State.{Sound, base-positive, base-above}
 use Rattle.meaning.proofs.Picture.{place-found, places-later}
-use Rattle.meaning.proofs.SentencesRow.{Next, Followed, Led, places-followed, places-led, Later, Compared, places-compared, places-ascend, Least, SharesExactly, first-sharing}
+use Rattle.meaning.proofs.SentencesRow.{Next, Followed, Led, places-followed, places-led, Later, Compared, places-compared, places-ascend}
+use Rattle.meaning.proofs.SentencesRow.{Least, SharesExactly, first-sharing}
 use Rattle.meaning.proofs.SentencesRow.Followed.{last, followed}
 use Rattle.meaning.proofs.SentencesRow.Led.{head, led}
 use Rattle.meaning.proofs.SentencesRow.Compared.{same, later, earlier}
@@ -101,7 +102,8 @@ module _ {s : State} (v : Sound s) where
   pub placed-compared : {x y : ℕ} {p q : Place} → Placed s x p → Placed s y q → Compared p q
   placed-compared {p = p} here there =
       placed-has there (λ q. Compared p q)
-      (placed-has here (λ p. All (λ q. Compared p q) (placesOf s (s .row))) (places-compared (s .settings .base) (s .settings .dimensions) (s .row) (v .ascends)))
+      (placed-has here (λ p. All (λ q. Compared p q) (placesOf s (s .row)))
+          (places-compared (s .settings .base) (s .settings .dimensions) (s .row) (v .ascends)))
 
   -- Neighbours
 

@@ -54,8 +54,10 @@ new-uses-first s v key value h l a f =
     let e = newNode (t .n) key value (slotOwes t) in
     let sound = added-sound s key value v h l a f in
     let found =
-    all-at (λ x. nodeAt (x .key) (added s key value t .row) ≡ some x) (finished (t .c) (finished (t .parent) (g .pre))) e (finished (t .c) (finished (t .parent) (g .post)))
-    (subst (All (λ x. nodeAt (x .key) (added s key value t .row) ≡ some x)) (added-row s v key value h g f t i) (node-found 0 (added s key value t .row) (sound .ascends))) in
+    all-at (λ x. nodeAt (x .key) (added s key value t .row) ≡ some x) (finished (t .c) (finished (t .parent) (g .pre))) e
+        (finished (t .c) (finished (t .parent) (g .post)))
+    (subst (All (λ x. nodeAt (x .key) (added s key value t .row) ≡ some x)) (added-row s v key value h g f t i)
+        (node-found 0 (added s key value t .row) (sound .ascends))) in
     (e, found, i .n-is)
 
 -- an outcome that is a refusal is not accepted
@@ -70,11 +72,13 @@ new-accepted s v key value a z =
     (λ n. absurd (refused-not (insertOut (picture s) key value) (refused badKey (picture s)) 3 (insert-outcome-bad-key s v key value n) refl z))
     (λ h l b.
     free-cases s
-    (λ f. absurd (refused-not (insertOut (picture s) key value) (refused (noFreeCell key (looked s key)) (picture s)) 5 (insert-outcome-full s v key value h l b f) refl z))
+    (λ f. absurd (refused-not (insertOut (picture s) key value) (refused (noFreeCell key (looked s key)) (picture s)) 5
+        (insert-outcome-full s v key value h l b f) refl z))
     (λ f. (h, l, f)))
     (λ h l x b. absurd (let q : _≡_ {A = ℕ} 0 1 = cc in omega arith))
 
-made-uses-first : (s : State) → Sound s → (key value : ℕ) → 1 ≤ key → key ≤ s .settings .largest → nodeAt key (s .row) ≡ none → 0 < length (s .free) → UsesFirst (picture s) (insertOut (picture s) key value .left) key
+made-uses-first : (s : State) → Sound s → (key value : ℕ) → 1 ≤ key → key ≤ s .settings .largest → nodeAt key (s .row) ≡ none → 0 < length (s .free) →
+    UsesFirst (picture s) (insertOut (picture s) key value .left) key
 unfolding added
 made-uses-first s v key value h l a f =
     let new = new-uses-first s v key value h l a f in
@@ -88,7 +92,8 @@ made-uses-first s v key value h l a f =
       free = ap (λ (w : State). w .free) back ∙ ap (λ (w : State). drop 1 (w .free)) (sym (read-of-picture s v));
     }
 
-uses-first : (s : State) → Sound s → (key value : ℕ) → nodeAt key (s .row) ≡ none → insertOut (picture s) key value .answered .refusal ≡ 0 → UsesFirst (picture s) (insertOut (picture s) key value .left) key
+uses-first : (s : State) → Sound s → (key value : ℕ) → nodeAt key (s .row) ≡ none → insertOut (picture s) key value .answered .refusal ≡ 0 →
+    UsesFirst (picture s) (insertOut (picture s) key value .left) key
 uses-first s v key value a z = let (h, l, f) = new-accepted s v key value a z in made-uses-first s v key value h l a f
 
 pub insert-uses-first : InsertUsesFirst

@@ -25,7 +25,9 @@ use Rattle.meaning.proofs.State.{Sound, base-positive}
 use Rattle.meaning.proofs.Cells.{cells-distinct}
 use Rattle.meaning.proofs.Places.{keyOf-first, asc-left, lastFrom, Keeping}
 use Rattle.meaning.proofs.Put.{put-front, put-past}
-use Rattle.meaning.proofs.Parent.{dimensionAfter, parentAfter, Without, Apart, ParentPlace, all-last, asc-last, last-least, apart-left, apart-before, place-at, sharing-skips, sharing-hits, sharing-none, near, first-place, parent-is, sharing-above}
+use Rattle.meaning.proofs.Parent.{dimensionAfter, parentAfter, Without, Apart, ParentPlace, all-last, asc-last, last-least, apart-left}
+use Rattle.meaning.proofs.Parent.{apart-before, place-at, sharing-skips, sharing-hits, sharing-none, near, first-place, parent-is}
+use Rattle.meaning.proofs.Parent.{sharing-above}
 
 -- The nodes below a key and those above it, of a row in which the key does not stand
 
@@ -41,9 +43,12 @@ unfolding nodeAt
 gap key low [] a e = record { pre = []; post = []; splits = refl; below = tt; above = tt }
 gap key low (y ∷ row) a e = at (decLt key (y .key)) (ℕ-discrete (y .key) key) e (gap key (y .key) row (a .1))
   where
-    at : Dec (key < y .key) → Dec (y .key ≡ key) → cond (eqb (y .key) key) (some y) (nodeAt key row) ≡ none → (nodeAt key row ≡ none → Gap key row) → Gap key (y ∷ row)
-    at (yes h) eq q ih = record { pre = []; post = y ∷ row; splits = refl; below = tt; above = (h, all-map (λ z l. omega arith) row (asc-above (y .key) row (a .1))) }
-    at (no h) (yes eq) q ih = absurd (let r : _≡_ {A = Option Node} (some y) none = rw (eq-eqb (y .key) key eq) at q in let z : _≡_ {A = ℕ} 0 1 = cc in omega arith)
+    at : Dec (key < y .key) → Dec (y .key ≡ key) → cond (eqb (y .key) key) (some y) (nodeAt key row) ≡ none → (nodeAt key row ≡ none → Gap key row) →
+        Gap key (y ∷ row)
+    at (yes h) eq q ih = record { pre = []; post = y ∷ row; splits = refl; below = tt;
+        above = (h, all-map (λ z l. omega arith) row (asc-above (y .key) row (a .1))) }
+    at (no h) (yes eq) q ih = absurd (let r : _≡_ {A = Option Node} (some y) none = rw (eq-eqb (y .key) key eq) at q in
+        let z : _≡_ {A = ℕ} 0 1 = cc in omega arith)
     at (no h) (no ne) q ih =
         let g = ih (rw (ne-eqb (y .key) key ne) at q) in
         record { pre = y ∷ g .pre; post = g .post; splits = ap {B = List Node} (λ r. y ∷ r) (g .splits); below = (omega arith, g .below); above = g .above }
@@ -68,14 +73,16 @@ pub put-splits : (x : Node) (row : List Node) → Asc 0 row → nodeAt (x .key) 
 put-splits x row a e = let g = gap (x .key) 0 row a e in (g, put-gap x row g)
 
 -- the row still ascends, and its cells still differ
-pub asc-put : (low : ℕ) (x : Node) (pre post : List Node) → low < x .key → Asc low (pre ++ post) → All (λ y. y .key < x .key) pre → All (λ y. x .key < y .key) post → Asc low (pre ++ x ∷ post)
+pub asc-put : (low : ℕ) (x : Node) (pre post : List Node) → low < x .key → Asc low (pre ++ post) → All (λ y. y .key < x .key) pre →
+    All (λ y. x .key < y .key) post → Asc low (pre ++ x ∷ post)
 asc-put low x [] post h a l g = (h, gap-above (x .key) low post a g)
 asc-put low x (y ∷ pre) post h a l g = (a .0, asc-put (y .key) x pre post (l .0) (a .1) (l .1) g)
 
 pub apart-put : (y : Node) (x : Node) (pre post : List Node) → Apart (y ∷ (pre ++ post)) → Without (x .cell) (y ∷ (pre ++ post)) → Apart (y ∷ (pre ++ x ∷ post))
 apart-put y x [] post o w = ((λ e. w .0 (sym e), o .0), (w .1, o .1))
 apart-put y x (z ∷ pre) post o w = (
-  (o .0 .0, all-append (λ t. t .cell ≡ y .cell → ⊥) pre (x ∷ post) (all-left (λ t. t .cell ≡ y .cell → ⊥) pre post (o .0 .1)) (λ e. w .0 (sym e), all-right (λ t. t .cell ≡ y .cell → ⊥) pre post (o .0 .1))),
+  (o .0 .0, all-append (λ t. t .cell ≡ y .cell → ⊥) pre (x ∷ post) (all-left (λ t. t .cell ≡ y .cell → ⊥) pre post (o .0 .1))
+      (λ e. w .0 (sym e), all-right (λ t. t .cell ≡ y .cell → ⊥) pre post (o .0 .1))),
   apart-put z x pre post (o .1) (w .1),
 )
 
@@ -125,7 +132,8 @@ cellAfter b D key p (x ∷ later) = cond (leb p (shared b D key (x .key))) (x .c
 
 module _ (b D : ℕ) (pos : 0 < b) (deep : 0 < D) where
   -- of what is above the key, the first that shares just p with y, if y shares more than p with the node before the key, whose key is a
-  slot-next : (y a key : ℕ) (post : List Node) → y ≤ a → a < key → Asc key post → shared b D a key < shared b D y a → firstSharing b D y (shared b D a key) post ≡ cellAfter b D key (shared b D a key) post
+  slot-next : (y a key : ℕ) (post : List Node) → y ≤ a → a < key → Asc key post → shared b D a key < shared b D y a →
+      firstSharing b D y (shared b D a key) post ≡ cellAfter b D key (shared b D a key) post
   slot-next y a key [] k l c h = sharing-none b D y (shared b D a key) [] tt
   slot-next y a key (x ∷ later) k l c h = at (decLe p (shared b D key (x .key)))
     where
@@ -160,12 +168,15 @@ module _ (b D : ℕ) (pos : 0 < b) (deep : 0 < D) where
   slot-of a key post p h l g =
       rw (le-leb (p .dimension) (shared b D (a .key) key) (h .low))
       (ap (firstSharing b D (p .node .key) (shared b D (a .key) key)) (h .later-is)
-      ∙ subst (λ z. z .key < key → shared b D (z .key) key < shared b D (p .node .key) (z .key) → firstSharing b D (p .node .key) (shared b D (z .key) key) (h .between ++ post) ≡ cellAfter b D key (shared b D (z .key) key) post) (h .last-is)
+      ∙ subst (λ z. z .key < key → shared b D (z .key) key < shared b D (p .node .key) (z .key) →
+          firstSharing b D (p .node .key) (shared b D (z .key) key) (h .between ++ post) ≡ cellAfter b D key (shared b D (z .key) key) post)
+          (h .last-is)
       (λ m n. slot-held (p .node) (h .between) post key (h .ascends) m g n) l (h .shares))
 
   pub slot-c :
       (key : ℕ) (pre post : List Node) → 0 < key → Asc 0 pre → Apart (headNode ∷ pre) → All (λ y. y .key < key) pre → Asc key post →
-      settledLinkAt b D (dimensionAfter b D headNode pre key) (placeOf (parentAfter b D headNode pre key) (places b D (pre ++ post))) ≡ cellAfter b D key (dimensionAfter b D headNode pre key) post
+      settledLinkAt b D (dimensionAfter b D headNode pre key) (placeOf (parentAfter b D headNode pre key) (places b D (pre ++ post)))
+          ≡ cellAfter b D key (dimensionAfter b D headNode pre key) post
   unfolding settledLinkAt places
   slot-c key pre post h a o l g =
       let A = lastFrom headNode pre in
@@ -175,13 +186,16 @@ module _ (b D : ℕ) (pos : 0 < b) (deep : 0 < D) where
       ap (settledLinkAt b D (shared b D (A .key) key)) (t .1) ∙ slot-of A key post (t .0) (t .2) low g
 
 -- its key is the next larger node's
-slot-key : (b D key p : ℕ) (pre post : List Node) → Apart (pre ++ post) → (cellAfter b D key p post ≡ 0 → ⊥) → keyOf (cellAfter b D key p post) (pre ++ post) ≡ firstOf post .key
+slot-key : (b D key p : ℕ) (pre post : List Node) → Apart (pre ++ post) → (cellAfter b D key p post ≡ 0 → ⊥) →
+    keyOf (cellAfter b D key p post) (pre ++ post) ≡ firstOf post .key
 slot-key b D key p pre [] o n = absurd (n refl)
 slot-key b D key p pre (x ∷ post) o n = at (decLe p (shared b D key (x .key))) n
   where
-    at : Dec (p ≤ shared b D key (x .key)) → (cond (leb p (shared b D key (x .key))) (x .cell) 0 ≡ 0 → ⊥) → keyOf (cond (leb p (shared b D key (x .key))) (x .cell) 0) (pre ++ x ∷ post) ≡ x .key
+    at : Dec (p ≤ shared b D key (x .key)) → (cond (leb p (shared b D key (x .key))) (x .cell) 0 ≡ 0 → ⊥) →
+        keyOf (cond (leb p (shared b D key (x .key))) (x .cell) 0) (pre ++ x ∷ post) ≡ x .key
     at (yes h) m =
-        let absent = none-occurs (x .cell) (map (λ z. z .cell) pre) (all-mapped (λ c. x .cell ≡ c → ⊥) (λ z. z .cell) pre (all-map (λ z n e. n (sym e)) pre (apart-before pre x post o))) in
+        let absent = none-occurs (x .cell) (map (λ z. z .cell) pre) (all-mapped (λ c. x .cell ≡ c → ⊥) (λ z. z .cell) pre
+            (all-map (λ z n e. n (sym e)) pre (apart-before pre x post o))) in
         rw (le-leb p (shared b D key (x .key)) h) (keyOf-first (x .cell) pre x post absent refl)
     at (no h) m = absurd (m (rw (lt-leb p (shared b D key (x .key)) (omega arith)) refl))
 
@@ -190,13 +204,15 @@ pub record SlotIs (s : State) (key : ℕ) (pre post : List Node) (t : Slot) : Ty
   pub n-is : t .n ≡ firstNumber (s .free)
   pub p-is : t .p ≡ dimensionAfter (s .settings .base) (s .settings .dimensions) headNode pre key
   pub parent-is : t .parent ≡ parentAfter (s .settings .base) (s .settings .dimensions) headNode pre key
-  pub c-is : t .c ≡ cellAfter (s .settings .base) (s .settings .dimensions) key (dimensionAfter (s .settings .base) (s .settings .dimensions) headNode pre key) post
+  pub c-is : t .c ≡ cellAfter (s .settings .base) (s .settings .dimensions) key
+      (dimensionAfter (s .settings .base) (s .settings .dimensions) headNode pre key) post
   pub q-is : (t .c ≡ 0 → ⊥) → t .q ≡ shared (s .settings .base) (s .settings .dimensions) key (firstOf post .key)
 
 pub slot-is : (s : State) → Sound s → (key : ℕ) → 0 < key → (g : Gap key (s .row)) → 0 < length (s .free) → SlotIs s key (g .pre) (g .post) (slotFor s key)
 unfolding slotFor dimensionAt places
 slot-is s v key h g f =
-    record { n-is = refl; p-is = p-is; parent-is = parent; c-is = c-is; q-is = λ ne. ap (shared b D key) (ap₂ keyOf c-is (g .splits) ∙ slot-key b D key p (g .pre) (g .post) (o .1) (λ e. ne (c-is ∙ e))) }
+    record { n-is = refl; p-is = p-is; parent-is = parent; c-is = c-is;
+        q-is = λ ne. ap (shared b D key) (ap₂ keyOf c-is (g .splits) ∙ slot-key b D key p (g .pre) (g .post) (o .1) (λ e. ne (c-is ∙ e))) }
   where
     b : ℕ
     b = s .settings .base
@@ -235,11 +251,13 @@ slot-is s v key h g f =
         ap (parentIn s (x .cell)) (put-gap x (s .row) g)
         ∙ parent-is s (g .pre) x (g .post) pos deep (asc-put 0 x (g .pre) (g .post) h a (g .below) (g .above)) (apart-put headNode x (g .pre) (g .post) o new)
 
-    c-is : settledLinkAt b D (dimensionAt (placeOf (x .cell) (places b D (put x (s .row))))) (placeOf (parentIn s (x .cell) (put x (s .row))) (places b D (s .row))) ≡ cellAfter b D key p (g .post)
+    c-is : settledLinkAt b D (dimensionAt (placeOf (x .cell) (places b D (put x (s .row)))))
+        (placeOf (parentIn s (x .cell) (put x (s .row))) (places b D (s .row))) ≡ cellAfter b D key p (g .post)
     c-is =
         ap₂ (λ d c. settledLinkAt b D d (placeOf c (places b D (s .row)))) p-is parent
         ∙ ap (λ r. settledLinkAt b D p (placeOf (parentAfter b D headNode (g .pre) key) (places b D r))) (g .splits)
-        ∙ slot-c b D pos deep key (g .pre) (g .post) h (asc-left 0 (g .pre) (g .post) a) (apart-left (headNode ∷ g .pre) (g .post) o) (g .below) (gap-above key (lastFrom headNode (g .pre) .key) (g .post) (asc-last headNode (g .pre) (g .post) a) (g .above))
+        ∙ slot-c b D pos deep key (g .pre) (g .post) h (asc-left 0 (g .pre) (g .post) a) (apart-left (headNode ∷ g .pre) (g .post) o) (g .below)
+            (gap-above key (lastFrom headNode (g .pre) .key) (g .post) (asc-last headNode (g .pre) (g .post) a) (g .above))
 
 -- Changed nodes: a change that keeps cells and keys keeps what is said above
 
@@ -273,7 +291,8 @@ unfolding firstWith
 first-changed f k b D key n [] = refl
 first-changed f k b D key n (x ∷ row) = rw (k .key x, k .cell x, first-changed f k b D key n row) refl
 
-pub parent-changed : (f : Node → Node) → Keeping f → (b D : ℕ) (pre : List Node) (key : ℕ) → parentAfter b D headNode (map f pre) key ≡ parentAfter b D headNode pre key
+pub parent-changed : (f : Node → Node) → Keeping f → (b D : ℕ) (pre : List Node) (key : ℕ) →
+    parentAfter b D headNode (map f pre) key ≡ parentAfter b D headNode pre key
 parent-changed f k b D pre key =
     ap (λ i. firstWith b D i (suc (shared b D i key)) (headNode ∷ map f pre)) (ap (λ y. y .key) (last-changed f k pre) ∙ k .key (lastFrom headNode pre))
     ∙ ap (λ y. firstWith b D (lastFrom headNode pre .key) (suc (dimensionAfter b D headNode pre key)) (y ∷ map f pre)) (sym (k .head))

@@ -16,7 +16,8 @@ use Rattle.lists.proofs.All.{All, every-all, all-every, all-map}
 use Rattle.lists.proofs.Tests.{both, and-both}
 use Rattle.meaning.specs.Keys.{shared}
 use Rattle.meaning.specs.Row.{firstOf, Place, places, Node}
-use Rattle.meaning.specs.State.{State, positionKey, ascending, debtHolds, settingsHold, keysHold, cellsHold, valuesHold, debtsHold, positionHolds, tests, valid}
+use Rattle.meaning.specs.State.{State, positionKey, ascending, debtHolds, settingsHold, keysHold, cellsHold, valuesHold, debtsHold}
+use Rattle.meaning.specs.State.{positionHolds, tests, valid}
 use Rattle.meaning.proofs.Order.{Asc, ascending-asc, asc-ascending}
 
 -- the cells of a state that are not the head: standing, then free
@@ -38,7 +39,8 @@ pub record Sound (s : State) : Type 0 where
   pub range : All (λ c. (0 < c) × (c < s .settings .cells)) (cellsIn s)
   pub once : All (λ c. occurrences c (cellsIn s) ≡ 1) (cellsIn s)
   pub values : All (λ x. x .live ≡ false → x .value ≡ 0) (s .row)
-  pub debts : All (λ n. n .node .owes ≡ true → Debt (s .settings .base) (s .settings .dimensions) n) (places (s .settings .base) (s .settings .dimensions) (s .row))
+  pub debts : All (λ n. n .node .owes ≡ true → Debt (s .settings .base) (s .settings .dimensions) n)
+      (places (s .settings .base) (s .settings .dimensions) (s .row))
   pub position : 0 < occurrences (s .position) (0 ∷ map (λ x. x .cell) (s .row))
   pub dead : All (λ x. x .key ≤ positionKey s → x .live ≡ false) (s .row)
 

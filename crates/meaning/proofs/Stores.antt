@@ -112,8 +112,10 @@ header-set-word D ws i v x j h = getD-set-other ws i (wordIndex D x j) v 0 (λ e
 pub store-same : {D C : ℕ} {ws : List ℕ} → Exact D C ws → (x j v : ℕ) → x < C → j < cellWords D → wordIn D (store D ws x j v) x j ≡ v
 store-same {D} {C} {ws} e x j v h k = getD-set-same ws (wordIndex D x j) v 0 (omega (arith, index-inside D C x j h k))
 
-pub store-other : (D : ℕ) (ws : List ℕ) (x j v y i : ℕ) → j < cellWords D → i < cellWords D → (y ≡ x → i ≡ j → ⊥) → wordIn D (store D ws x j v) y i ≡ wordIn D ws y i
-store-other D ws x j v y i h k apart = getD-set-other ws (wordIndex D x j) (wordIndex D y i) v 0 (λ e. let same = index-apart D y x i j k h e in apart (same .0) (same .1))
+pub store-other : (D : ℕ) (ws : List ℕ) (x j v y i : ℕ) → j < cellWords D → i < cellWords D → (y ≡ x → i ≡ j → ⊥) →
+    wordIn D (store D ws x j v) y i ≡ wordIn D ws y i
+store-other D ws x j v y i h k apart = getD-set-other ws (wordIndex D x j) (wordIndex D y i) v 0
+    (λ e. let same = index-apart D y x i j k h e in apart (same .0) (same .1))
 
 pub store-below : (D : ℕ) (ws : List ℕ) (x j v i : ℕ) → i < headerWords + D → getD (store D ws x j v) i 0 ≡ getD ws i 0
 store-below D ws x j v i h = getD-set-other ws (wordIndex D x j) i v 0 (λ e. omega arith)
@@ -160,7 +162,8 @@ pub cell-sets-other : (D : ℕ) (ws : List ℕ) (x a : ℕ) (vs : List ℕ) → 
 cell-sets-other D ws x a vs fit y j h ne = at (decLt y x)
   where
     at : Dec (y < x) → wordIn D (sets ws (wordIndex D x a) vs) y j ≡ wordIn D ws y j
-    at (yes l) = sets-before ws vs (wordIndex D x a) (wordIndex D y j) (omega (arith, mul-le-mul-right {m = suc y} {n = x} (cellWords D) l, suc-mul y (cellWords D)))
+    at (yes l) = sets-before ws vs (wordIndex D x a) (wordIndex D y j)
+        (omega (arith, mul-le-mul-right {m = suc y} {n = x} (cellWords D) l, suc-mul y (cellWords D)))
     at (no l) =
         let more : suc x ≤ y = lt-of-le-ne (omega arith) (λ e. ne (sym e)) in
         sets-after ws vs (wordIndex D x a) (wordIndex D y j) (omega (arith, mul-le-mul-right {m = suc x} {n = y} (cellWords D) more, suc-mul x (cellWords D)))
@@ -172,14 +175,16 @@ cell-sets-below D ws x a vs i h = sets-before ws vs (wordIndex D x a) i (omega a
 pub path-sets-header : (ws path : List ℕ) (i : ℕ) → i < headerWords → getD (writePath ws path) i 0 ≡ getD ws i 0
 path-sets-header ws path i h = sets-before ws path headerWords i h
 
-pub path-sets-path : {D C : ℕ} {ws : List ℕ} → Exact D C ws → (path : List ℕ) → length path ≡ D → (d : ℕ) → d < D → getD (writePath ws path) (headerWords + d) 0 ≡ getD path d 0
+pub path-sets-path : {D C : ℕ} {ws : List ℕ} → Exact D C ws → (path : List ℕ) → length path ≡ D → (d : ℕ) → d < D →
+    getD (writePath ws path) (headerWords + d) 0 ≡ getD path d 0
 path-sets-path {ws = ws} exact path e d h = sets-inside ws path headerWords d (omega arith) (omega arith)
 
 pub path-sets-word : (D : ℕ) (ws path : List ℕ) → length path ≡ D → (x j : ℕ) → wordIn D (writePath ws path) x j ≡ wordIn D ws x j
 path-sets-word D ws path e x j = sets-after ws path headerWords (wordIndex D x j) (omega arith)
 
 -- a path written where it stands changes nothing
-pub path-sets-same : {D C : ℕ} {ws : List ℕ} → Exact D C ws → (path : List ℕ) → length path ≡ D → ((d : ℕ) → d < D → getD ws (headerWords + d) 0 ≡ getD path d 0) → writePath ws path ≡ ws
+pub path-sets-same : {D C : ℕ} {ws : List ℕ} → Exact D C ws → (path : List ℕ) → length path ≡ D →
+    ((d : ℕ) → d < D → getD ws (headerWords + d) 0 ≡ getD path d 0) → writePath ws path ≡ ws
 path-sets-same {D} {C} {ws} exact path e stands =
     words-equal (exact-sets exact headerWords path) exact (path-sets-header ws path)
     (λ d h. path-sets-path exact path e d h ∙ sym (stands d h))
@@ -229,17 +234,20 @@ pub moveLinks-field : (D : ℕ) (ws : List ℕ) (n c d k : ℕ) → d + k ≤ D 
     ((m : ℕ) → d ≤ m → m < d + k → j ≡ linkField D m → ⊥) → wordIn D (moveLinks D ws n c d k) x j ≡ wordIn D ws x j
 moveLinks-field D ws n c d k fit x j h other =
     moveLinks-kept D ws n c d k (wordIndex D x j)
-    (λ m l u. (λ e. other m l u (index-apart D x n j (linkField D m) h (omega arith) e .1), λ e. other m l u (index-apart D x c j (linkField D m) h (omega arith) e .1)))
+    (λ m l u. (λ e. other m l u (index-apart D x n j (linkField D m) h (omega arith) e .1), λ e. other m l u
+        (index-apart D x c j (linkField D m) h (omega arith) e .1)))
 
 -- the words after one link has moved
 abbrev movedLink : ℕ → List ℕ → ℕ → ℕ → ℕ → List ℕ
 movedLink D ws n c d = store D (store D ws n (linkField D d) (wordIn D ws c (linkField D d))) c (linkField D d) 0
 
 exact-link : {D C : ℕ} {ws : List ℕ} → Exact D C ws → (n c d : ℕ) → Exact D C (movedLink D ws n c d)
-exact-link {D} {C} {ws} exact n c d = exact-set (exact-set exact (wordIndex D n (linkField D d)) (wordIn D ws c (linkField D d))) (wordIndex D c (linkField D d)) 0
+exact-link {D} {C} {ws} exact n c d = exact-set (exact-set exact (wordIndex D n (linkField D d)) (wordIn D ws c (linkField D d)))
+    (wordIndex D c (linkField D d)) 0
 
 -- the other links of all cells
-link-other : (D : ℕ) (ws : List ℕ) (n c d x i : ℕ) → d < D → i < D → (d ≡ i → ⊥) → wordIn D (movedLink D ws n c d) x (linkField D i) ≡ wordIn D ws x (linkField D i)
+link-other : (D : ℕ) (ws : List ℕ) (n c d x i : ℕ) → d < D → i < D → (d ≡ i → ⊥) →
+    wordIn D (movedLink D ws n c d) x (linkField D i) ≡ wordIn D ws x (linkField D i)
 link-other D ws n c d x i h k ne =
     let value = wordIn D ws c (linkField D d) in
     store-other D (store D ws n (linkField D d) value) c (linkField D d) 0 x (linkField D i) (omega arith) (omega arith) (λ e q. ne (omega arith))
@@ -352,10 +360,12 @@ module _ {D C : ℕ} {ws : List ℕ} (exact : Exact D C ws) (n : ℕ) (debt : Ow
   pub finishWords-debt : (k : ℕ) → k < 3 → wordIn D (finishWords D ws n) n (3 + k) ≡ 0
   finishWords-debt k h =
       finished-as (wordIndex D n (3 + k)) 0
-      (cell-sets-inside (exact-moved exact n (owedAt ws n) (lowAt ws n) (highAt ws n - lowAt ws n)) n 3 (0 ∷ 0 ∷ 0 ∷ []) (debt .cell) (omega arith) k h ∙ zeros-at k)
+      (cell-sets-inside (exact-moved exact n (owedAt ws n) (lowAt ws n) (highAt ws n - lowAt ws n)) n 3 (0 ∷ 0 ∷ 0 ∷ []) (debt .cell) (omega arith)
+          k h ∙ zeros-at k)
 
   -- links low to high-1 of n are those that stood in the owed cell
-  pub finishWords-given : (i : ℕ) → lowAt ws n ≤ i → i < highAt ws n → wordIn D (finishWords D ws n) n (linkField D i) ≡ wordIn D ws (owedAt ws n) (linkField D i)
+  pub finishWords-given : (i : ℕ) → lowAt ws n ≤ i → i < highAt ws n →
+      wordIn D (finishWords D ws n) n (linkField D i) ≡ wordIn D ws (owedAt ws n) (linkField D i)
   finishWords-given i h l =
       finished-as (wordIndex D n (linkField D i)) (wordIn D ws (owedAt ws n) (linkField D i))
       (cell-sets-after D moved n 3 (0 ∷ 0 ∷ 0 ∷ []) (linkField D i) (omega arith)
@@ -379,7 +389,8 @@ module _ {D C : ℕ} {ws : List ℕ} (exact : Exact D C ws) (n : ℕ) (debt : Ow
       at-least e l (no u) = omega arith
 
       uncleared : Dec (x ≡ n) → Dec (j < 3) → wordIn D (clearDebt D moved n) x j ≡ wordIn D moved x j
-      uncleared (yes e) (yes l) = subst (λ y. wordIn D (clearDebt D moved n) y j ≡ wordIn D moved y j) (sym e) (cell-sets-before D moved n 3 (0 ∷ 0 ∷ 0 ∷ []) j l)
+      uncleared (yes e) (yes l) = subst (λ y. wordIn D (clearDebt D moved n) y j ≡ wordIn D moved y j) (sym e)
+          (cell-sets-before D moved n 3 (0 ∷ 0 ∷ 0 ∷ []) j l)
       uncleared (yes e) (no l) =
           subst (λ y. wordIn D (clearDebt D moved n) y j ≡ wordIn D moved y j) (sym e)
           (cell-sets-after D moved n 3 (0 ∷ 0 ∷ 0 ∷ []) j (at-least e (omega arith) (decLt j fieldsBeforeCoordinates)))

@@ -35,7 +35,9 @@ use Rattle.meaning.proofs.WalkRead.{settled-above}
 use Rattle.meaning.proofs.Stores.{Exact, wordIn, picture-exact, words-equal, field-cases}
 use Rattle.meaning.proofs.Changed.{wordsBy, standing-by, by-coordinate, by-link, picture-place, placed-word}
 use Rattle.meaning.proofs.SweepRow.{head-link-below, head-link-at, head-link-above, dimension-falls, path-shifts}
-use Rattle.meaning.proofs.SweepStores.{nextFree-behind, Dropping, exact-dropped, dropFront-header, dropFront-first, dropFront-path-head, dropFront-path-position, dropFront-other, dropFront-taken, dropFront-position, dropFront-head, dropFront-head-at, dropFront-head-above, dropFront-freed}
+use Rattle.meaning.proofs.SweepStores.{nextFree-behind, Dropping, exact-dropped, dropFront-header, dropFront-first, dropFront-path-head}
+use Rattle.meaning.proofs.SweepStores.{dropFront-path-position, dropFront-other, dropFront-taken, dropFront-position, dropFront-head}
+use Rattle.meaning.proofs.SweepStores.{dropFront-head-at, dropFront-head-above, dropFront-freed}
 
 -- Words of cells where nothing is owed
 
@@ -77,8 +79,10 @@ before-links b D value live p q e j h = at (decLt j fieldsBeforeCoordinates)
         ∙ sym (by-coordinate b D value live false false q (j - fieldsBeforeCoordinates) (omega arith)))
 
 -- a standing cell's words
-unowing-word : (s : State) → Sound s → All (λ x. x .owes ≡ false) (s .row) → {x : ℕ} {p : Place} → Placed s x p → (j : ℕ) → j < cellWords (s .settings .dimensions) →
-    wordIn (s .settings .dimensions) (picture s) x j ≡ getD (wordsBy (s .settings .base) (s .settings .dimensions) (p .node .value) (p .node .live) false false p) j 0
+unowing-word : (s : State) → Sound s → All (λ x. x .owes ≡ false) (s .row) → {x : ℕ} {p : Place} → Placed s x p → (j : ℕ) →
+    j < cellWords (s .settings .dimensions) →
+    wordIn (s .settings .dimensions) (picture s) x j ≡ getD (wordsBy (s .settings .base) (s .settings .dimensions) (p .node .value) (p .node .live)
+        false false p) j 0
 unowing-word s v unowing {x} {p} here j h =
     let nothing = placed-has here Unowing (unowing-places (s .settings .base) (s .settings .dimensions) (s .row) unowing) in
     placed-word s here j (placed-below v here) h
@@ -115,7 +119,8 @@ later-words b D free y a e f (x ∷ later) h = at (ℕ-discrete (x .cell) y)
     at (no ne) = ap (wordsOf b D free y) (place-past y (here e) more ne ∙ sym (place-past y (here f) more ne))
 
 -- the places of what comes after x, in a row with a front
-places-past : (b D y : ℕ) (a : Node) (e : ℕ) (front : List Node) (x : Node) (later : List Node) → All (λ c. y ≡ c → ⊥) (map (λ z. z .cell) front) → (y ≡ x .cell → ⊥) →
+places-past : (b D y : ℕ) (a : Node) (e : ℕ) (front : List Node) (x : Node) (later : List Node) → All (λ c. y ≡ c → ⊥) (map (λ z. z .cell) front) →
+    (y ≡ x .cell → ⊥) →
     placeOf y (placesAfter b D a e (front ++ x ∷ later)) ≡ placeOf y (placesAfter b D x (dimensionAfter b D a front (x .key)) later)
 unfolding placesAfter lastFrom
 places-past b D y a e [] x later o ne =
@@ -142,7 +147,8 @@ header-settings s t e (suc (suc (suc zero))) h = ap (λ r. r .base) e
 header-settings s t e (suc (suc (suc (suc i)))) h = absurd (omega arith)
 
 -- a word of a cell is one before the links, or a link
-word-cases : (P : ℕ → Type 0) (D : ℕ) → ((j : ℕ) → j < fieldsBeforeCoordinates + D → P j) → ((d : ℕ) → d < D → P (linkField D d)) → (j : ℕ) → j < cellWords D → P j
+word-cases : (P : ℕ → Type 0) (D : ℕ) → ((j : ℕ) → j < fieldsBeforeCoordinates + D → P j) → ((d : ℕ) → d < D → P (linkField D d)) → (j : ℕ) →
+    j < cellWords D → P j
 word-cases P D before link j h = field-cases P D (λ i l. before i (omega arith)) (λ d l. before (fieldsBeforeCoordinates + d) (omega arith)) link j h
 
 -- The front dropped
@@ -165,7 +171,8 @@ reached s front x = dimensionAfter (s .settings .base) (s .settings .dimensions)
 -- x's place before and after
 abbrev placeBefore : State → List Node → Node → List Node → Place
 placeBefore s front x later =
-    record { node = x; dimension = reached s front x; before = lastFrom headNode front; beforeDimension = dimensionFrom (s .settings .base) (s .settings .dimensions) headNode 0 front; later = later }
+    record { node = x; dimension = reached s front x; before = lastFrom headNode front;
+        beforeDimension = dimensionFrom (s .settings .base) (s .settings .dimensions) headNode 0 front; later = later }
 
 abbrev placeAfter : State → Node → List Node → Place
 placeAfter s x later = record { node = x; dimension = zeros s x; before = headNode; beforeDimension = 0; later = later }
@@ -233,28 +240,34 @@ module _ (s : State) (front : List Node) (x : Node) (later : List Node) (v : Sou
       at (yes e) =
           subst (λ n. getD (picture (dropped s front x later)) n 0 ≡ getD (written s front x later) n 0) (sym e)
           (picture-free (dropped s front x later) ∙ sym (dropFront-first exact pathBefore dropping (s .free) (picture-free (fronted s front x later))))
-      at (no ne) = let l : i < 4 = lt-of-le-ne (omega arith) ne in header-settings (dropped s front x later) (fronted s front x later) refl i l ∙ sym (dropFront-header exact pathBefore dropping i l)
+      at (no ne) = let l : i < 4 = lt-of-le-ne (omega arith) ne in header-settings (dropped s front x later) (fronted s front x later) refl i l
+          ∙ sym (dropFront-header exact pathBefore dropping i l)
 
   position-key : positionKey (dropped s front x later) ≡ x .key
   position-key = keyOf-other (x .cell) headNode (x ∷ later) (others .0) ∙ keyOf-same (x .cell) x later refl
 
-  path-dropped : (d : ℕ) → d < s .settings .dimensions → getD (picture (dropped s front x later)) (headerWords + d) 0 ≡ getD (written s front x later) (headerWords + d) 0
+  path-dropped : (d : ℕ) → d < s .settings .dimensions → getD (picture (dropped s front x later)) (headerWords + d) 0
+      ≡ getD (written s front x later) (headerWords + d) 0
   path-dropped d h =
       picture-path (dropped s front x later) d h
       ∙ ap (λ k. firstWith (s .settings .base) (s .settings .dimensions) k (suc d) (headNode ∷ x ∷ later)) position-key
       ∙ at (decLt d (zeros s x))
     where
-      at : Dec (d < zeros s x) → firstWith (s .settings .base) (s .settings .dimensions) (x .key) (suc d) (headNode ∷ x ∷ later) ≡ getD (written s front x later) (headerWords + d) 0
-      at (yes l) = first-hits (s .settings .base) (s .settings .dimensions) (x .key) (suc d) headNode (x ∷ later) l ∙ sym (dropFront-path-head exact pathBefore dropping d l)
+      at : Dec (d < zeros s x) → firstWith (s .settings .base) (s .settings .dimensions) (x .key) (suc d) (headNode ∷ x ∷ later)
+          ≡ getD (written s front x later) (headerWords + d) 0
+      at (yes l) = first-hits (s .settings .base) (s .settings .dimensions) (x .key) (suc d) headNode (x ∷ later) l
+          ∙ sym (dropFront-path-head exact pathBefore dropping d l)
       at (no l) =
           first-skips (s .settings .base) (s .settings .dimensions) (x .key) (suc d) headNode (x ∷ later) (omega arith)
-          ∙ first-hits (s .settings .base) (s .settings .dimensions) (x .key) (suc d) x later (omega (arith, shared-same (s .settings .base) (s .settings .dimensions) (x .key)))
+          ∙ first-hits (s .settings .base) (s .settings .dimensions) (x .key) (suc d) x later
+              (omega (arith, shared-same (s .settings .base) (s .settings .dimensions) (x .key)))
           ∙ sym (dropFront-path-position exact pathBefore dropping d (omega arith) h)
 
   -- A cell that is neither the head nor the new position, and is not freed
 
   found-before : (y : ℕ) → (y ≡ 0 → ⊥) → (y ≡ x .cell → ⊥) → All (λ c. y ≡ c → ⊥) (map (λ z. z .cell) front) →
-      placeOf y (placesOf (fronted s front x later) (fronted s front x later .row)) ≡ placeOf y (placesAfter (s .settings .base) (s .settings .dimensions) x (reached s front x) later)
+      placeOf y (placesOf (fronted s front x later) (fronted s front x later .row))
+          ≡ placeOf y (placesAfter (s .settings .base) (s .settings .dimensions) x (reached s front x) later)
   unfolding places
   found-before y not-head not-x a =
       let b = s .settings .base in
@@ -263,7 +276,8 @@ module _ (s : State) (front : List Node) (x : Node) (later : List Node) (v : Sou
       ∙ places-past b D y headNode 0 front x later a not-x
 
   found-after : (y : ℕ) → (y ≡ 0 → ⊥) → (y ≡ x .cell → ⊥) →
-      placeOf y (placesOf (dropped s front x later) (dropped s front x later .row)) ≡ placeOf y (placesAfter (s .settings .base) (s .settings .dimensions) x (zeros s x) later)
+      placeOf y (placesOf (dropped s front x later) (dropped s front x later .row))
+          ≡ placeOf y (placesAfter (s .settings .base) (s .settings .dimensions) x (zeros s x) later)
   unfolding places lastFrom
   found-after y not-head not-x =
       let b = s .settings .base in
@@ -274,7 +288,8 @@ module _ (s : State) (front : List Node) (x : Node) (later : List Node) (v : Sou
   abbrev Dropped : ℕ → ℕ → Type 0
   Dropped y j = wordIn (s .settings .dimensions) (picture (dropped s front x later)) y j ≡ wordIn (s .settings .dimensions) (written s front x later) y j
 
-  other-dropped : (y j : ℕ) → y < s .settings .cells → j < cellWords (s .settings .dimensions) → (y ≡ 0 → ⊥) → (y ≡ x .cell → ⊥) → All (λ c. y ≡ c → ⊥) (map (λ z. z .cell) front) → Dropped y j
+  other-dropped : (y j : ℕ) → y < s .settings .cells → j < cellWords (s .settings .dimensions) → (y ≡ 0 → ⊥) → (y ≡ x .cell → ⊥) →
+      All (λ c. y ≡ c → ⊥) (map (λ z. z .cell) front) → Dropped y j
   other-dropped y j h k not-head not-x a =
       let b = s .settings .base in
       let D = s .settings .dimensions in
@@ -298,7 +313,8 @@ module _ (s : State) (front : List Node) (x : Node) (later : List Node) (v : Sou
       let freed = map (λ z. z .cell) front in
       let chain = reverseAux freed (s .free) in
       let met : 0 < occurrences y chain = omega (arith, within, occurrences-reverseAux y freed (s .free)) in
-      let unfound = occurs-has (λ c. placeOf c (placesOf (dropped s front x later) (dropped s front x later .row)) ≡ none) y chain met (free-found (dropped s front x later) w) in
+      let unfound = occurs-has (λ c. placeOf c (placesOf (dropped s front x later) (dropped s front x later .row)) ≡ none) y chain met
+          (free-found (dropped s front x later) w) in
       picture-place (dropped s front x later) y j h k
       ∙ ap (λ o. getD (wordsOf b D chain y o) j 0) unfound
       ∙ sym (occurs-has (λ c. (i : ℕ) → i < cellWords D → wordIn D (written s front x later) c i ≡ getD (freeWords D (nextFree c chain)) i 0) y freed within
@@ -320,19 +336,23 @@ module _ (s : State) (front : List Node) (x : Node) (later : List Node) (v : Sou
   position-link d h =
       unowing-link (dropped s front x later) w unowing-later placed-after d h ∙ at (decLt d (zeros s x)) (decLt d (reached s front x))
     where
-      kept : ((i : ℕ) → zeros s x ≤ i → i < reached s front x → d ≡ i → ⊥) → settledLink (s .settings .base) (s .settings .dimensions) (placeBefore s front x later) d ≡ wordIn (s .settings .dimensions) (written s front x later) (x .cell) (linkField (s .settings .dimensions) d)
+      kept : ((i : ℕ) → zeros s x ≤ i → i < reached s front x → d ≡ i → ⊥) →
+          settledLink (s .settings .base) (s .settings .dimensions) (placeBefore s front x later) d
+          ≡ wordIn (s .settings .dimensions) (written s front x later) (x .cell) (linkField (s .settings .dimensions) d)
       kept other =
           sym (unowing-link (fronted s front x later) v unowing placed-before d h)
           ∙ sym (dropFront-position exact pathBefore dropping (linkField (s .settings .dimensions) d) (omega arith) (λ i l u e. other i l u (omega arith)))
 
-      at : Dec (d < zeros s x) → Dec (d < reached s front x) → settledLink (s .settings .base) (s .settings .dimensions) (placeAfter s x later) d ≡ wordIn (s .settings .dimensions) (written s front x later) (x .cell) (linkField (s .settings .dimensions) d)
+      at : Dec (d < zeros s x) → Dec (d < reached s front x) → settledLink (s .settings .base) (s .settings .dimensions) (placeAfter s x later) d
+          ≡ wordIn (s .settings .dimensions) (written s front x later) (x .cell) (linkField (s .settings .dimensions) d)
       at (yes l) more =
           let falls = dropping .falls in
           settled-below (s .settings .base) (s .settings .dimensions) (placeAfter s x later) d l
           ∙ sym (settled-below (s .settings .base) (s .settings .dimensions) (placeBefore s front x later) d (omega arith))
           ∙ kept (λ i g u e. omega arith)
       at (no l) (yes m) =
-          let link = path-shifts (s .settings .base) (s .settings .dimensions) pos deep front x later d (v .ascends) (sound-apart (fronted s front x later) v) h in
+          let link = path-shifts (s .settings .base) (s .settings .dimensions) pos deep front x later d (v .ascends)
+              (sound-apart (fronted s front x later) v) h in
           settled-above (s .settings .base) (s .settings .dimensions) (placeAfter s x later) d (omega arith)
           ∙ sym (link .leads)
           ∙ sym (unowing-link (fronted s front x later) v unowing (record { found = link .found }) d h)

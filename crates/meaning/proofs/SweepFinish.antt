@@ -37,7 +37,8 @@ finished-none c [] a = refl
 finished-none c (x ∷ row) a =
     ap₂ {C = List Node} (λ y r. y ∷ r) (onCell-cases (λ y. y ≡ x) c paid x (λ e. absurd (a .0 (sym e))) (λ ne. refl)) (finished-none c row (a .1))
 
-pub finish-cell : (s : State) → Sound s → (x : ℕ) → x < s .settings .cells → finishWords (s .settings .dimensions) (picture s) x ≡ picture (withRow s (finished x (s .row)))
+pub finish-cell : (s : State) → Sound s → (x : ℕ) → x < s .settings .cells →
+    finishWords (s .settings .dimensions) (picture s) x ≡ picture (withRow s (finished x (s .row)))
 finish-cell s v x below = at (decLt 0 (occurrences x (0 ∷ cells)))
   where
     cells : List ℕ
@@ -49,7 +50,8 @@ finish-cell s v x below = at (decLt 0 (occurrences x (0 ∷ cells)))
         let others = occurrences-none x (0 ∷ cells) (omega arith) in
         let apart = subst (All (λ c. x ≡ c → ⊥)) (sym (places-cells (s .settings .base) (s .settings .dimensions) (s .row))) others in
         let unfound : placeOf x (placesOf s (s .row)) ≡ none =
-        place-none x (placesOf s (s .row)) (all-map (λ p ne e. ne (sym e)) (placesOf s (s .row)) (all-of-map (λ c. x ≡ c → ⊥) (λ p. p .node .cell) (placesOf s (s .row)) apart)) in
+        place-none x (placesOf s (s .row)) (all-map (λ p ne e. ne (sym e)) (placesOf s (s .row))
+            (all-of-map (λ c. x ≡ c → ⊥) (λ p. p .node .cell) (placesOf s (s .row)) apart)) in
         finishWords-none (s .settings .dimensions) (picture s) x (free-cell-rest s x below unfound 3 (omega arith) (omega arith))
         ∙ ap (λ row. picture (withRow s row)) (sym (finished-none x (s .row) (all-of-map (λ c. x ≡ c → ⊥) (λ y. y .cell) (s .row) (others .1))))
 
@@ -60,7 +62,8 @@ finishedFrom : ℕ → ℕ → List Node → List Node
 finishedFrom x zero row = row
 finishedFrom x (suc n) row = finishedFrom (suc x) n (finished x row)
 
-finish-from : (s : State) → Sound s → (x n : ℕ) → x + n ≤ s .settings .cells → finishAll (s .settings .dimensions) (picture s) x n ≡ picture (withRow s (finishedFrom x n (s .row)))
+finish-from : (s : State) → Sound s → (x n : ℕ) → x + n ≤ s .settings .cells →
+    finishAll (s .settings .dimensions) (picture s) x n ≡ picture (withRow s (finishedFrom x n (s .row)))
 unfolding finishAll finishedFrom
 finish-from s v x zero h = refl
 finish-from s v x (suc n) h =
@@ -106,7 +109,8 @@ finish-all s v =
     let least = v .ranges .cells-least in
     finish-from s v 1 (s .settings .cells - 1) (omega arith)
     ∙ ap (λ row. picture (withRow s row))
-    (finished-all 1 (s .settings .cells - 1) (s .row) (all-map (λ y r. let above = r .0 in let below = r .1 in (λ l. absurd (omega arith), omega arith)) (s .row) (row-range s v)))
+    (finished-all 1 (s .settings .cells - 1) (s .row) (all-map (λ y r. let above = r .0 in let below = r .1 in
+        (λ l. absurd (omega arith), omega arith)) (s .row) (row-range s v)))
 
 -- the state then is in order, and no node owes
 pub paid-sound : (s : State) → Sound s → Sound (withRow s (map paid (s .row)))

@@ -25,7 +25,8 @@ use Rattle.meaning.proofs.Picture.{picture-free}
 use Rattle.meaning.proofs.Places.{asc-left, asc-right}
 use Rattle.meaning.proofs.KeepsState.{cells-positive, row-split, deadFront-dead, fromLive-live, live-split, last-split, last-cases}
 use Rattle.meaning.proofs.KeepsSweep.{keptBy, swept-split, kept-asc, swept-dead, swept-sound}
-use Rattle.meaning.proofs.Placed.{Placed, placed-node, placed-cell, head-placed, place-key, place-value, place-mark, place-standing, free-cell-rest, cell-standing, cell-free, free-cell, place-unowing}
+use Rattle.meaning.proofs.Placed.{Placed, placed-node, placed-cell, head-placed, place-key, place-value, place-mark, place-standing}
+use Rattle.meaning.proofs.Placed.{free-cell-rest, cell-standing, cell-free, free-cell, place-unowing}
 use Rattle.meaning.proofs.SentencesShape.{HasPlace, row-placed}
 use Rattle.meaning.proofs.Sentences.{position-is, picture-sentences}
 use Rattle.meaning.proofs.SweepFinish.{paid-owes-nothing}
@@ -65,9 +66,11 @@ descending-onto key (x ∷ xs) ys asc low down =
     descending-onto (x .key) xs (x ∷ ys) (asc .1) (omega arith, all-map (λ y h. omega arith) ys low) (all-map (λ y h. omega arith) ys low, down)
 
 pub freed-descending : (s : State) → Sound s → Descending (reverse (freedBy (s .row)))
-freed-descending s v = descending-onto 0 (freedBy (s .row)) [] (asc-left 0 (freedBy (s .row)) (keptBy (s .row)) (subst (Asc 0) (swept-split (s .row)) (v .ascends))) tt tt
+freed-descending s v = descending-onto 0 (freedBy (s .row)) [] (asc-left 0 (freedBy (s .row)) (keptBy (s .row))
+    (subst (Asc 0) (swept-split (s .row)) (v .ascends))) tt tt
 
-cells-onto : (xs ys : List Node) (free : List ℕ) → reverseAux (map (λ x. x .cell) xs) (map (λ x. x .cell) ys ++ free) ≡ map (λ x. x .cell) (reverseAux xs ys) ++ free
+cells-onto : (xs ys : List Node) (free : List ℕ) → reverseAux (map (λ x. x .cell) xs) (map (λ x. x .cell) ys ++ free)
+    ≡ map (λ x. x .cell) (reverseAux xs ys) ++ free
 cells-onto [] ys free = refl
 cells-onto (x ∷ xs) ys free = cells-onto xs (x ∷ ys) free
 
@@ -91,7 +94,8 @@ freed-free s v =
 -- none of those freed is live
 freed-dead : (row : List Node) → All (λ x. x .live ≡ false) (freedBy row)
 unfolding freedBy
-freed-dead row = all-left (λ x. x .live ≡ false) (freedBy row) (lastAlone (deadFront row)) (subst (All (λ x. x .live ≡ false)) (sym (last-split (deadFront row))) (deadFront-dead row))
+freed-dead row = all-left (λ x. x .live ≡ false) (freedBy row) (lastAlone (deadFront row))
+    (subst (All (λ x. x .live ≡ false)) (sym (last-split (deadFront row))) (deadFront-dead row))
 
 those-paid : (row : List Node) → those (λ x. x .live) (map paid row) ≡ map paid (those (λ x. x .live) row)
 unfolding those
@@ -99,14 +103,16 @@ those-paid [] = refl
 those-paid (x ∷ row) = at (x .live) (those-paid row)
   where
     at : (t : Bool) → those (λ y. y .live) (map paid row) ≡ map paid (those (λ y. y .live) row) →
-        cond t (paid x ∷ those (λ y. y .live) (map paid row)) (those (λ y. y .live) (map paid row)) ≡ map paid (cond t (x ∷ those (λ y. y .live) row) (those (λ y. y .live) row))
+        cond t (paid x ∷ those (λ y. y .live) (map paid row)) (those (λ y. y .live) (map paid row))
+            ≡ map paid (cond t (x ∷ those (λ y. y .live) row) (those (λ y. y .live) row))
     at true e = ap {B = List Node} (λ r. paid x ∷ r) e
     at false e = e
 
 those-past : (front later : List Node) → All (λ x. x .live ≡ false) front → those (λ x. x .live) (front ++ later) ≡ those (λ x. x .live) later
 unfolding those
 those-past [] later a = refl
-those-past (x ∷ front) later a = ap (λ t. cond t (x ∷ those (λ y. y .live) (front ++ later)) (those (λ y. y .live) (front ++ later))) (a .0) ∙ those-past front later (a .1)
+those-past (x ∷ front) later a = ap (λ t. cond t (x ∷ those (λ y. y .live) (front ++ later)) (those (λ y. y .live) (front ++ later))) (a .0)
+    ∙ those-past front later (a .1)
 
 -- only debts change
 pub swept-live : (s : State) → those (λ x. x .live) (swept s .row) ≡ map paid (those (λ x. x .live) (s .row))
@@ -165,7 +171,8 @@ module _ {s : State} (v : Sound s) where
 
   kept-above : All (λ y. target s .key ≤ y .key) (keptBy (s .row))
   kept-above =
-      last-cases (λ z last. Asc 0 (last ++ later) → All (λ y. z .key ≤ y .key) (last ++ later)) (λ x. x .live ≡ false) (deadFront (s .row)) (deadFront-dead (s .row))
+      last-cases (λ z last. Asc 0 (last ++ later) → All (λ y. z .key ≤ y .key) (last ++ later)) (λ x. x .live ≡ false) (deadFront (s .row))
+          (deadFront-dead (s .row))
       (λ up. all-map (λ y h. omega arith) later (asc-above 0 later up))
       (λ z q up. (omega arith, all-map (λ y h. omega arith) later (asc-above (z .key) later (up .1))))
       (kept-asc 0 (s .row) (v .ascends))
@@ -273,7 +280,8 @@ module _ {s : State} (v : Sound s) where
       (live-marked (p .node .live) (sym (place-mark v here) ∙ live)) in
       omega (arith, above, target-key, place-key v here)
 
-  words-greatest : (x : ℕ) → Standing (picture s) x → ((y : ℕ) → Standing (picture s) y → markAt (picture s) y ≡ 1 → keyAt (picture s) x < keyAt (picture s) y) →
+  words-greatest : (x : ℕ) → Standing (picture s) x → ((y : ℕ) → Standing (picture s) y → markAt (picture s) y ≡ 1 →
+      keyAt (picture s) x < keyAt (picture s) y) →
       keyAt (picture s) x ≤ keyAt (picture s) (positionAt (picture (swept s)))
   words-greatest x stands below =
       let (p, here) = cell-standing s x stands in
@@ -284,7 +292,8 @@ module _ {s : State} (v : Sound s) where
       omega (arith, less, place-key v here, place-key v (h .placed), ap (λ y. y .key) (h .node))) in
       omega (arith, up-to, target-key, place-key v here)
 
-  words-freed : (x : ℕ) → Standing (picture s) x → 0 < keyAt (picture s) x → keyAt (picture s) x < keyAt (picture s) (positionAt (picture (swept s))) → markAt (picture (swept s)) x ≡ 0
+  words-freed : (x : ℕ) → Standing (picture s) x → 0 < keyAt (picture s) x →
+      keyAt (picture s) x < keyAt (picture s) (positionAt (picture (swept s))) → markAt (picture (swept s)) x ≡ 0
   words-freed x stands low high =
       let (p, here) = cell-standing s x stands in
       let free =
@@ -293,17 +302,20 @@ module _ {s : State} (v : Sound s) where
       ap (markAt (picture (swept s))) (sym (placed-cell here)) ∙ free .mark
 
   words-kept : (x : ℕ) → Standing (picture s) x → (x ≡ 0) ⊎ (keyAt (picture s) (positionAt (picture (swept s))) ≤ keyAt (picture s) x) →
-      (keyAt (picture (swept s)) x ≡ keyAt (picture s) x) × ((valueAt (picture (swept s)) x ≡ valueAt (picture s) x) × (markAt (picture (swept s)) x ≡ markAt (picture s) x))
+      (keyAt (picture (swept s)) x ≡ keyAt (picture s) x) × ((valueAt (picture (swept s)) x ≡ valueAt (picture s) x)
+          × (markAt (picture (swept s)) x ≡ markAt (picture s) x))
   words-kept x stands rest =
       let (p, here) = cell-standing s x stands in
       let stays =
       placed-node here (λ y. (y .cell ≡ 0) ⊎ (target s .key ≤ y .key) → Stays (picture (swept s)) y) (λ r. head-stays) kept-all-stay (is p here rest) in
       let cell = sym (placed-cell here) in (
         ap (keyAt (picture (swept s))) cell ∙ stays .key ∙ sym (place-key v here),
-        (ap (valueAt (picture (swept s))) cell ∙ stays .value ∙ sym (place-value v here), ap (markAt (picture (swept s))) cell ∙ stays .same ∙ sym (place-mark v here)),
+        (ap (valueAt (picture (swept s))) cell ∙ stays .value ∙ sym (place-value v here), ap (markAt (picture (swept s))) cell ∙ stays .same
+            ∙ sym (place-mark v here)),
       )
     where
-      is : (p : Place) → Placed s x p → (x ≡ 0) ⊎ (keyAt (picture s) (positionAt (picture (swept s))) ≤ keyAt (picture s) x) → (p .node .cell ≡ 0) ⊎ (target s .key ≤ p .node .key)
+      is : (p : Place) → Placed s x p → (x ≡ 0) ⊎ (keyAt (picture s) (positionAt (picture (swept s))) ≤ keyAt (picture s) x) →
+          (p .node .cell ≡ 0) ⊎ (target s .key ≤ p .node .key)
       is p here (inl e) = inl (placed-cell here ∙ e)
       is p here (inr h) = inr (omega (arith, h, target-key, place-key v here))
 

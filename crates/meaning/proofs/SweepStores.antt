@@ -19,7 +19,9 @@ use Rattle.meaning.specs.Words.{wordIndex, firstFreeAt, linkField}
 use Rattle.meaning.specs.Layer.Paths.{onward}
 use Rattle.meaning.specs.Layer.Stores.{store}
 use Rattle.meaning.specs.Layer.SweepStores.{takeLinks, relinkHead, freeCell, freeAll, dropFront}
-use Rattle.meaning.proofs.Stores.{Exact, wordIn, exact-set, exact-sets, header-set-same, header-set-word, store-same, store-other, store-below, cell-sets-inside, cell-sets-before, cell-sets-other, cell-sets-below, path-sets-header, path-sets-path, path-sets-word}
+use Rattle.meaning.proofs.Stores.{Exact, wordIn, exact-set, exact-sets, header-set-same, header-set-word, store-same, store-other, store-below}
+use Rattle.meaning.proofs.Stores.{cell-sets-inside, cell-sets-before, cell-sets-other, cell-sets-below, path-sets-header, path-sets-path}
+use Rattle.meaning.proofs.Stores.{path-sets-word}
 use Rattle.meaning.proofs.Path.{onward-length, onward-front, onward-back}
 
 -- Links taken from a path's cells
@@ -63,7 +65,8 @@ takeLinks-taken {D} {C} {ws} exact x path d (suc k) here fit i h l =
     taken : List ℕ
     taken = takenLink D ws x path d
 
-    at : Dec (d ≡ i) → (suc d ≤ i → i < suc d + k → wordIn D (takeLinks D taken x path (suc d) k) x (linkField D i) ≡ wordIn D taken (getD path i 0) (linkField D i)) →
+    at : Dec (d ≡ i) → (suc d ≤ i → i < suc d + k → wordIn D (takeLinks D taken x path (suc d) k) x (linkField D i)
+        ≡ wordIn D taken (getD path i 0) (linkField D i)) →
         wordIn D (takeLinks D taken x path (suc d) k) x (linkField D i) ≡ wordIn D ws (getD path i 0) (linkField D i)
     at (yes e) more =
         subst (λ m. wordIn D (takeLinks D taken x path (suc d) k) x (linkField D m) ≡ wordIn D ws (getD path m 0) (linkField D m)) e
@@ -105,7 +108,8 @@ module _ {D C : ℕ} {ws : List ℕ} (exact : Exact D C ws) (some : 0 < C) (x z 
   pub relinkHead-above : (d : ℕ) → z < d → d < D → wordIn D (relinkHead D ws x z) 0 (linkField D d) ≡ 0
   relinkHead-above d h k =
       let there : linkField D d ≡ linkField D z + suc (d - suc z) = omega arith in
-      ap (λ j. wordIn D (relinkHead D ws x z) 0 j) there ∙ relinked (suc (d - suc z)) (omega arith) ∙ getD-replicate {A = ℕ} (D - suc z) (d - suc z) 0 0 (omega arith)
+      ap (λ j. wordIn D (relinkHead D ws x z) 0 j) there ∙ relinked (suc (d - suc z)) (omega arith)
+          ∙ getD-replicate {A = ℕ} (D - suc z) (d - suc z) 0 0 (omega arith)
 
 -- A cell that becomes free
 
@@ -128,7 +132,8 @@ unfolding freeCell
 freeCell-first {D} {C} {ws} exact x = header-set-same (exact-sets exact (wordIndex D x 0) (freeWords D (firstFreeAt ws))) 4 x (omega arith)
 
 -- "A free cell's first word holds the next free cell, its other words are 0."
-pub freeCell-own : {D C : ℕ} {ws : List ℕ} → Exact D C ws → (x : ℕ) → x < C → (j : ℕ) → j < cellWords D → wordIn D (freeCell D ws x) x j ≡ getD (freeWords D (firstFreeAt ws)) j 0
+pub freeCell-own : {D C : ℕ} {ws : List ℕ} → Exact D C ws → (x : ℕ) → x < C → (j : ℕ) → j < cellWords D →
+    wordIn D (freeCell D ws x) x j ≡ getD (freeWords D (firstFreeAt ws)) j 0
 unfolding freeCell
 freeCell-own {D} {C} {ws} exact x h j k =
     let words = freeWords D (firstFreeAt ws) in
@@ -162,7 +167,8 @@ freeAll-cell D ws [] y j h a = refl
 freeAll-cell D ws (x ∷ xs) y j h a = freeAll-cell D (freeCell D ws x) xs y j h (a .1) ∙ freeCell-cell D ws x y j h (a .0)
 
 -- "each put at the front of the free chain": the last is the first free cell
-pub freeAll-first : {D C : ℕ} {ws : List ℕ} → Exact D C ws → (xs free : List ℕ) → firstFreeAt ws ≡ firstNumber free → getD (freeAll D ws xs) 4 0 ≡ firstNumber (reverseAux xs free)
+pub freeAll-first : {D C : ℕ} {ws : List ℕ} → Exact D C ws → (xs free : List ℕ) → firstFreeAt ws ≡ firstNumber free →
+    getD (freeAll D ws xs) 4 0 ≡ firstNumber (reverseAux xs free)
 unfolding freeAll
 freeAll-first exact [] free e = e
 freeAll-first exact (x ∷ xs) free e = freeAll-first (exact-freed exact x) xs (x ∷ free) (freeCell-first exact x)
@@ -238,7 +244,8 @@ module _ {D C : ℕ} {ws : List ℕ} (exact : Exact D C ws) {x number z : ℕ} {
       ∙ relinkHead-below D taken x z i (omega arith)
       ∙ takeLinks-below D ws x path z (number - z) i (omega arith)
 
-  pub dropFront-first : (free : List ℕ) → firstFreeAt ws ≡ firstNumber free → getD (dropFront D ws x number path z between) 4 0 ≡ firstNumber (reverseAux between free)
+  pub dropFront-first : (free : List ℕ) → firstFreeAt ws ≡ firstNumber free →
+      getD (dropFront D ws x number path z between) 4 0 ≡ firstNumber (reverseAux between free)
   unfolding dropFront
   dropFront-first free e =
       path-sets-header (freeAll D relinkedWords between) (onward D (replicate D 0) z x) 4 (omega arith)
@@ -262,10 +269,12 @@ module _ {D C : ℕ} {ws : List ℕ} (exact : Exact D C ws) {x number z : ℕ} {
   -- a cell's words after all, if it is not freed
   dropped-word : (y j : ℕ) → j < cellWords D → All (λ c. y ≡ c → ⊥) between → wordIn D (dropFront D ws x number path z between) y j ≡ wordIn D relinkedWords y j
   unfolding dropFront
-  dropped-word y j h a = path-sets-word D (freeAll D relinkedWords between) (onward D (replicate D 0) z x) head-path y j ∙ freeAll-cell D relinkedWords between y j h a
+  dropped-word y j h a = path-sets-word D (freeAll D relinkedWords between) (onward D (replicate D 0) z x) head-path y j
+      ∙ freeAll-cell D relinkedWords between y j h a
 
   -- every cell but the head, the new position and those freed
-  pub dropFront-other : (y j : ℕ) → j < cellWords D → (y ≡ 0 → ⊥) → (y ≡ x → ⊥) → All (λ c. y ≡ c → ⊥) between → wordIn D (dropFront D ws x number path z between) y j ≡ wordIn D ws y j
+  pub dropFront-other : (y j : ℕ) → j < cellWords D → (y ≡ 0 → ⊥) → (y ≡ x → ⊥) → All (λ c. y ≡ c → ⊥) between →
+      wordIn D (dropFront D ws x number path z between) y j ≡ wordIn D ws y j
   dropFront-other y j h not-head not-x a =
       let falls = drop .falls in
       let least = drop .least in
@@ -279,13 +288,15 @@ module _ {D C : ℕ} {ws : List ℕ} (exact : Exact D C ws) {x number z : ℕ} {
       let standing = drop .standing in
       dropped-word x j h (drop .apart) ∙ relinkHead-cell D taken x z (drop .inside) x j h (λ e. omega arith)
 
-  pub dropFront-taken : (d : ℕ) → z ≤ d → d < number → wordIn D (dropFront D ws x number path z between) x (linkField D d) ≡ wordIn D ws (getD path d 0) (linkField D d)
+  pub dropFront-taken : (d : ℕ) → z ≤ d → d < number → wordIn D (dropFront D ws x number path z between) x (linkField D d)
+      ≡ wordIn D ws (getD path d 0) (linkField D d)
   dropFront-taken d h k =
       let least = drop .least in
       position-word (linkField D d) (omega arith)
       ∙ takeLinks-taken exact x path z (number - z) (drop .cell) (omega arith) d h (omega arith)
 
-  pub dropFront-position : (j : ℕ) → j < cellWords D → ((d : ℕ) → z ≤ d → d < number → j ≡ linkField D d → ⊥) → wordIn D (dropFront D ws x number path z between) x j ≡ wordIn D ws x j
+  pub dropFront-position : (j : ℕ) → j < cellWords D → ((d : ℕ) → z ≤ d → d < number → j ≡ linkField D d → ⊥) →
+      wordIn D (dropFront D ws x number path z between) x j ≡ wordIn D ws x j
   dropFront-position j h other =
       let falls = drop .falls in
       let least = drop .least in
@@ -318,7 +329,8 @@ module _ {D C : ℕ} {ws : List ℕ} (exact : Exact D C ws) {x number z : ℕ} {
 
   -- each freed cell
   pub dropFront-freed : (free : List ℕ) → firstFreeAt ws ≡ firstNumber free →
-      All (λ y. (j : ℕ) → j < cellWords D → wordIn D (dropFront D ws x number path z between) y j ≡ getD (freeWords D (nextFree y (reverseAux between free))) j 0) between
+      All (λ y. (j : ℕ) → j < cellWords D → wordIn D (dropFront D ws x number path z between) y j
+          ≡ getD (freeWords D (nextFree y (reverseAux between free))) j 0) between
   unfolding dropFront
   dropFront-freed free e =
       all-map (λ y own j h. path-sets-word D (freeAll D relinkedWords between) (onward D (replicate D 0) z x) head-path y j ∙ own j h) between

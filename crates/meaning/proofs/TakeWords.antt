@@ -22,11 +22,13 @@ use Rattle.meaning.proofs.Placed.{Placed, placed-cell, occurs-placed, p
 use Rattle.meaning.proofs.KeepsState.{cell-stands, changedState, live-split}
 use Rattle.meaning.proofs.KeepsTake.{dead-keeping}
 use Rattle.meaning.proofs.KeepsInsert.{node-split, revived-keeping}
-use Rattle.meaning.proofs.Stores.{wordIn, picture-exact, words-equal, exact-sets, cell-sets-inside, cell-sets-before, cell-sets-after, cell-sets-other, cell-sets-below, path-sets-header, path-sets-path, path-sets-word, path-sets-same}
+use Rattle.meaning.proofs.Stores.{wordIn, picture-exact, words-equal, exact-sets, cell-sets-inside, cell-sets-before, cell-sets-after}
+use Rattle.meaning.proofs.Stores.{cell-sets-other, cell-sets-below, path-sets-header, path-sets-path, path-sets-word, path-sets-same}
 use Rattle.meaning.proofs.Changed.{path-unmoved, picture-path-word, wordsBy, placed-word, changed-word, changed-free, changed-header}
 
 -- value and mark stand in words 1 and 2 alone
-values-apart : (b D : ℕ) (value : ℕ) (live : Bool) (other : ℕ) (marked : Bool) (led owes : Bool) (q : Place) (j : ℕ) → 3 ≤ j → getD (wordsBy b D value live led owes q) j 0 ≡ getD (wordsBy b D other marked led owes q) j 0
+values-apart : (b D : ℕ) (value : ℕ) (live : Bool) (other : ℕ) (marked : Bool) (led owes : Bool) (q : Place) (j : ℕ) → 3 ≤ j →
+    getD (wordsBy b D value live led owes q) j 0 ≡ getD (wordsBy b D other marked led owes q) j 0
 unfolding wordsBy
 values-apart b D value live other marked led owes q zero h = absurd (omega arith)
 values-apart b D value live other marked led owes q (suc zero) h = absurd (omega arith)
@@ -34,7 +36,8 @@ values-apart b D value live other marked led owes q (suc (suc zero)) h = absurd 
 values-apart b D value live other marked led owes q (suc (suc (suc j))) h = refl
 
 -- A cell c gets a value and a mark, by a change of its node that keeps its debt; and the position moves.
-module _ {s : State} (v : Sound s) {c : ℕ} {p : Place} (here : Placed s c p) (g : Node → Node) (keeping : Keeping (onCell c g)) (debts : (y : Node) → g y .owes ≡ y .owes)
+module _ {s : State} (v : Sound s) {c : ℕ} {p : Place} (here : Placed s c p) (g : Node → Node) (keeping : Keeping (onCell c g))
+    (debts : (y : Node) → g y .owes ≡ y .owes)
     (value : ℕ) (live : Bool) (values : (y : Node) → g y .value ≡ value) (marks : (y : Node) → g y .live ≡ live) (position : ℕ) where
   abbrev b : ℕ
   b = s .settings .base
@@ -53,7 +56,8 @@ module _ {s : State} (v : Sound s) {c : ℕ} {p : Place} (here : Placed s c p) (
       wordIn D (picture after) x j ≡ getD (wordsBy b D (onCell c g (q .node) .value) (onCell c g (q .node) .live) (q .before .owes) (q .node .owes) q) j 0
   written-word {x} {q} there j h =
       changed-word s (onCell c g) keeping position there j (placed-below v there) h
-      ∙ ap₂ (λ led owes. getD (wordsBy b D (onCell c g (q .node) .value) (onCell c g (q .node) .live) led owes q) j 0) (owes-kept (q .before)) (owes-kept (q .node))
+      ∙ ap₂ (λ led owes. getD (wordsBy b D (onCell c g (q .node) .value) (onCell c g (q .node) .live) led owes q) j 0) (owes-kept (q .before))
+          (owes-kept (q .node))
 
   -- another cell's words stay
   other-kept : (x j : ℕ) → x < s .settings .cells → j < cellWords D → (x ≡ c → ⊥) → wordIn D (picture after) x j ≡ wordIn D (picture s) x j
@@ -63,7 +67,8 @@ module _ {s : State} (v : Sound s) {c : ℕ} {p : Place} (here : Placed s c p) (
       at none e = changed-free s (onCell c g) keeping position x e j h k
       at (some q) e =
           let there : Placed s x q = record { found = e } in
-          let same : onCell c g (q .node) ≡ q .node = onCell-cases (λ z. z ≡ q .node) c g (q .node) (λ f. absurd (ne (sym (placed-cell there) ∙ f))) (λ f. refl) in
+          let same : onCell c g (q .node) ≡ q .node = onCell-cases (λ z. z ≡ q .node) c g (q .node) (λ f. absurd (ne (sym (placed-cell there) ∙ f)))
+              (λ f. refl) in
           written-word there j k
           ∙ ap (λ y. getD (wordsBy b D (y .value) (y .live) (q .before .owes) (q .node .owes) q) j 0) same
           ∙ sym (placed-word s there j h k)
@@ -73,14 +78,17 @@ module _ {s : State} (v : Sound s) {c : ℕ} {p : Place} (here : Placed s c p) (
   own-after j h =
       let new : onCell c g (p .node) ≡ g (p .node) = onCell-cases (λ z. z ≡ g (p .node)) c g (p .node) (λ e. refl) (λ ne. absurd (ne (placed-cell here))) in
       written-word here j h
-      ∙ ap₂ (λ a m. getD (wordsBy b D a m (p .before .owes) (p .node .owes) p) j 0) (ap (λ y. y .value) new ∙ values (p .node)) (ap (λ y. y .live) new ∙ marks (p .node))
+      ∙ ap₂ (λ a m. getD (wordsBy b D a m (p .before .owes) (p .node .owes) p) j 0) (ap (λ y. y .value) new ∙ values (p .node))
+          (ap (λ y. y .live) new ∙ marks (p .node))
 
   own-written : (j : ℕ) → j < cellWords D → wordIn D (picture after) c j ≡ wordIn D (writeNode D (picture s) c value (mark live)) c j
   unfolding wordsBy
   own-written zero h =
       own-after 0 h ∙ sym (placed-word s here 0 (placed-below v here) h) ∙ sym (cell-sets-before D (picture s) c 1 (value ∷ mark live ∷ []) 0 (omega arith))
-  own-written (suc zero) h = own-after 1 h ∙ sym (cell-sets-inside (picture-exact s) c 1 (value ∷ mark live ∷ []) (placed-below v here) (omega arith) 0 (omega arith))
-  own-written (suc (suc zero)) h = own-after 2 h ∙ sym (cell-sets-inside (picture-exact s) c 1 (value ∷ mark live ∷ []) (placed-below v here) (omega arith) 1 (omega arith))
+  own-written (suc zero) h = own-after 1 h ∙ sym (cell-sets-inside (picture-exact s) c 1 (value ∷ mark live ∷ []) (placed-below v here) (omega arith)
+      0 (omega arith))
+  own-written (suc (suc zero)) h = own-after 2 h ∙ sym (cell-sets-inside (picture-exact s) c 1 (value ∷ mark live ∷ []) (placed-below v here)
+      (omega arith) 1 (omega arith))
   own-written (suc (suc (suc j))) h =
       own-after (suc (suc (suc j))) h
       ∙ values-apart b D value live (p .node .value) (p .node .live) (p .before .owes) (p .node .owes) p (suc (suc (suc j))) (omega arith)
@@ -98,7 +106,8 @@ module _ {s : State} (v : Sound s) {c : ℕ} {p : Place} (here : Placed s c p) (
       (λ d h. picture-path-word after d h ∙ sym (path-sets-path exact (path after) (path-length after) d h))
       (λ x j h k. at x j h k (ℕ-discrete x c) ∙ sym (path-sets-word D node (path after) (path-length after) x j))
     where
-      at : (x j : ℕ) → x < s .settings .cells → j < cellWords D → Dec (x ≡ c) → wordIn D (picture after) x j ≡ wordIn D (writeNode D (picture s) c value (mark live)) x j
+      at : (x j : ℕ) → x < s .settings .cells → j < cellWords D → Dec (x ≡ c) →
+          wordIn D (picture after) x j ≡ wordIn D (writeNode D (picture s) c value (mark live)) x j
       at x j h k (yes e) = subst (λ y. wordIn D (picture after) y j ≡ wordIn D (writeNode D (picture s) c value (mark live)) y j) (sym e) (own-written j k)
       at x j h k (no ne) = other-kept x j h k ne ∙ sym (cell-sets-other D (picture s) c 1 (value ∷ mark live ∷ []) (omega arith) x j k ne)
 
@@ -126,7 +135,8 @@ unfolding revived positionAfter
 revived-path s x value v e h =
     let (pre, post, split) = node-split (x .key) x (s .row) e in
     let keeping = revived-keeping s x value v pre post split in
-    path-unmoved (revived s x value) s refl (rw (lt-leb (x .key) (positionKey s) h) refl) (cells-changed (onCell (x .cell) (revivedNode value)) keeping (s .row)) (keys-changed (onCell (x .cell) (revivedNode value)) keeping (s .row))
+    path-unmoved (revived s x value) s refl (rw (lt-leb (x .key) (positionKey s) h) refl)
+        (cells-changed (onCell (x .cell) (revivedNode value)) keeping (s .row)) (keys-changed (onCell (x .cell) (revivedNode value)) keeping (s .row))
 
 pub revived-words-above : (s : State) (x : Node) (value : ℕ) → Sound s → nodeAt (x .key) (s .row) ≡ some x → positionKey s < x .key →
     picture (revived s x value) ≡ writeNode (s .settings .dimensions) (picture s) (x .cell) value 1

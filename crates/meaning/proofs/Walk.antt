@@ -32,7 +32,8 @@ use Rattle.meaning.proofs.Picture.{picture-dimensions, picture-base}
 use Rattle.meaning.proofs.Placed.{Own, placed-has, placed-other}
 use Rattle.meaning.proofs.SentencesShape.{places-placed, key-below}
 use Rattle.meaning.proofs.Rule.{met, rule-is-met}
-use Rattle.meaning.proofs.WalkRow.{met-all, met-distinct, NextOf, StopAt, next, RowTrail, rises, moves, wants, reaches, row-trail-ends, row-trail-meets, row-trail-bounded}
+use Rattle.meaning.proofs.WalkRow.{met-all, met-distinct, NextOf, StopAt, next, RowTrail, rises, moves, wants, reaches, row-trail-ends}
+use Rattle.meaning.proofs.WalkRow.{row-trail-meets, row-trail-bounded}
 use Rattle.meaning.proofs.WalkRead.{Read, settled-above, places-read, row-key-read}
 use Rattle.meaning.proofs.WalkSteps.{trail-first, trail-enough}
 

@@ -18,7 +18,8 @@ use Rattle.lists.proofs.Numbers.{made-at}
 use Rattle.lists.proofs.All.{All, all-map, all-zip}
 use Rattle.lists.proofs.Tests.{both, and-both}
 use Rattle.meaning.specs.Keys.{coordinates, coordinate, shared}
-use Rattle.meaning.specs.Row.{Node, headNode, firstOf, firstSharing, Place, headPlace, placesAfter, places, settledLink, owed, low, high, between, link, placeOf}
+use Rattle.meaning.specs.Row.{Node, headNode, firstOf, firstSharing, Place, headPlace, placesAfter, places, settledLink, owed, low, high}
+use Rattle.meaning.specs.Row.{between, link, placeOf}
 use Rattle.meaning.specs.State.{State}
 use Rattle.meaning.specs.Picture.{standingWords, wordsOf, picture, mark}
 use Rattle.meaning.specs.Words.{wordAt, keyAt, owedAt, lowAt, highAt, coordinateAt, linkAt, valueAt, markAt}
@@ -86,7 +87,8 @@ module _ (s : State) where
       picture-word s x j h l ∙ ap (λ o. getD (wordsOf (s .settings .base) (s .settings .dimensions) (s .free) x o) j 0) found
 
   held : (p : Place) → p .node .cell < s .settings .cells →
-      placeOf (p .node .cell) (places (s .settings .base) (s .settings .dimensions) (s .row)) ≡ some p → Held (picture s) (s .settings .base) (s .settings .dimensions) p
+      placeOf (p .node .cell) (places (s .settings .base) (s .settings .dimensions) (s .row)) ≡ some p →
+          Held (picture s) (s .settings .base) (s .settings .dimensions) p
   unfolding standingWords
   held p h found =
       let b = s .settings .base in
@@ -105,12 +107,14 @@ module _ (s : State) where
             ∙ word (fieldsBeforeCoordinates + D + d) (omega arith) ∙ standing-link b D p d l;
       }
 
-  pub places-held : Sound s → All (Held (picture s) (s .settings .base) (s .settings .dimensions)) (places (s .settings .base) (s .settings .dimensions) (s .row))
+  pub places-held : Sound s → All (Held (picture s) (s .settings .base) (s .settings .dimensions))
+      (places (s .settings .base) (s .settings .dimensions) (s .row))
   places-held v =
       let C = s .settings .cells in
       let standing = places (s .settings .base) (s .settings .dimensions) (s .row) in
       all-zip held standing
-      (all-places (λ x. x .cell < C) (s .settings .base) (s .settings .dimensions) (s .row) (let h = v .ranges .cells-least in omega arith) (all-map (λ x h. h .1) (s .row) (row-range s v)))
+      (all-places (λ x. x .cell < C) (s .settings .base) (s .settings .dimensions) (s .row) (let h = v .ranges .cells-least in omega arith)
+          (all-map (λ x h. h .1) (s .row) (row-range s v)))
       (place-found s v)
 
 -- Links as they stand.
@@ -147,7 +151,8 @@ abbrev pub linkOwing : ℕ → ℕ → Place → ℕ → Bool
 linkOwing b D p d = p .node .owes && between (low p) (high b D p) d
 
 -- the link, where it is known whether it is the one or the other
-pub link-tested : (b D : ℕ) (p : Place) (d : ℕ) {t u : Bool} → linkDue p d ≡ t → linkOwing b D p d ≡ u → link b D p d ≡ cond t (dueLink b D p d) (cond u 0 (settledLink b D p d))
+pub link-tested : (b D : ℕ) (p : Place) (d : ℕ) {t u : Bool} → linkDue p d ≡ t → linkOwing b D p d ≡ u →
+    link b D p d ≡ cond t (dueLink b D p d) (cond u 0 (settledLink b D p d))
 unfolding link
 link-tested b D p d e f = ap₂ (λ t u. cond t (dueLink b D p d) (cond u 0 (settledLink b D p d))) e f
 
@@ -161,7 +166,8 @@ link-settled b D p d h e = link-tested b D p d (undue-above p d h) e
 
 -- below the dimension, where the cell before owes, link d is what that one is due
 link-due : (b D : ℕ) (p : Place) (d : ℕ) → p .before .owes ≡ true → p .beforeDimension ≤ d → d < p .dimension → link b D p d ≡ dueLink b D p d
-link-due b D p d e h l = link-tested b D p d (and-both (p .before .owes) (between (p .beforeDimension) (p .dimension) d) e (between-is (p .beforeDimension) (p .dimension) d h l)) refl
+link-due b D p d e h l = link-tested b D p d (and-both (p .before .owes) (between (p .beforeDimension) (p .dimension) d) e
+    (between-is (p .beforeDimension) (p .dimension) d h l)) refl
 
 -- from the dimension up, the settled link is not cut off
 pub settled-above : (b D : ℕ) (p : Place) (d : ℕ) → p .dimension ≤ d → settledLink b D p d ≡ firstSharing b D (p .node .key) d (p .later)
@@ -269,7 +275,8 @@ module _ (ws : List ℕ) (b D : ℕ) where
 
 module _ (s : State) (v : Sound s) where
   pub places-read : All (Read (picture s) (s .settings .base) (s .settings .dimensions)) (places (s .settings .base) (s .settings .dimensions) (s .row))
-  places-read = reads (picture s) (s .settings .base) (s .settings .dimensions) (s .row) (places-held s v) (v .debts) (all-map (λ x h. h .0) (s .row) (row-range s v))
+  places-read = reads (picture s) (s .settings .base) (s .settings .dimensions) (s .row) (places-held s v) (v .debts)
+      (all-map (λ x h. h .0) (s .row) (row-range s v))
 
   pub key-read : All (λ p. keyAt (picture s) (p .node .cell) ≡ p .node .key) (places (s .settings .base) (s .settings .dimensions) (s .row))
   key-read = all-map (λ p h. h .key) (places (s .settings .base) (s .settings .dimensions) (s .row)) (places-held s v)

@@ -16,13 +16,15 @@ use Rattle.meaning.specs.State.{State, positionKey, placesOf}
 use Rattle.meaning.specs.Picture.{mark, picture, path}
 use Rattle.meaning.specs.Refusals.{Outcome, refused, badKey, keyLive, nothingLive, keyNotStanding}
 use Rattle.meaning.specs.Words.{keyAt, markAt, positionAt, wordAt, dimensionsAt}
-use Rattle.meaning.specs.Operations.{looked, insertOut, finishOut, takeOut, sweepOut, deadFront, fromLive, taken, revived, revivedNode, parentIn, positionAfter, slotFor, finished, withRow, linksMoved, keysAbove}
+use Rattle.meaning.specs.Operations.{looked, insertOut, finishOut, takeOut, sweepOut, deadFront, fromLive, taken, revived, revivedNode}
+use Rattle.meaning.specs.Operations.{parentIn, positionAfter, slotFor, finished, withRow, linksMoved, keysAbove}
 use Rattle.meaning.specs.Calls.{outcome}
 use Rattle.meaning.specs.Writes.{Parent, Inserted, Taken, Revived, Swept, Marked}
 use Rattle.meaning.specs.Sentences.{Standing, Settled}
 use Rattle.meaning.specs.Promises.{FindWritesNothing, TakeWrites, ReviveWrites, InsertWrites, Finishes, FinishWrites, SweepWrites}
 use Rattle.meaning.specs.Layer.Stores.{writePath, writeNode}
-use Rattle.meaning.proofs.Stores.{Exact, picture-exact, wordIn, wordAt-in, cell-sets-inside, cell-sets-before, cell-sets-after, cell-sets-other, cell-sets-below, path-sets-header, path-sets-word}
+use Rattle.meaning.proofs.Stores.{Exact, picture-exact, wordIn, wordAt-in, cell-sets-inside, cell-sets-before, cell-sets-after}
+use Rattle.meaning.proofs.Stores.{cell-sets-other, cell-sets-below, path-sets-header, path-sets-word}
 use Rattle.meaning.proofs.Order.{Asc, asc-above}
 use Rattle.meaning.proofs.State.{Sound, base-positive}
 use Rattle.meaning.proofs.Picture.{path-length, picture-dimensions, picture-cells}
@@ -43,7 +45,9 @@ use Rattle.meaning.proofs.KeepsInsert.{node-split, revived-keeping, rev
 use Rattle.meaning.proofs.FinishWords.{finish-moved, finish-own, finish-others, finish-nothing, finish-finished}
 use Rattle.meaning.proofs.TakeWords.{taken-words, revived-words, revived-path}
 use Rattle.meaning.proofs.InsertWords.{added-inserted}
-use Rattle.meaning.proofs.Outcomes.{on-read-lists, find-writes-nothing, take-outcome-none, take-outcome-first, insert-outcome-bad-key, insert-outcome-live, insert-outcome-dead, insert-outcome-new, finish-outcome-bad-key, finish-outcome-absent, finish-outcome-standing, sweep-outcome, key-cases, live-cases}
+use Rattle.meaning.proofs.Outcomes.{on-read-lists, find-writes-nothing, take-outcome-none, take-outcome-first, insert-outcome-bad-key}
+use Rattle.meaning.proofs.Outcomes.{insert-outcome-live, insert-outcome-dead, insert-outcome-new, finish-outcome-bad-key}
+use Rattle.meaning.proofs.Outcomes.{finish-outcome-absent, finish-outcome-standing, sweep-outcome, key-cases, live-cases}
 use Rattle.meaning.proofs.SweepSentences.{live-marked, swept-leaves}
 use Rattle.meaning.proofs.Serves.{refused-not, new-accepted}
 
@@ -66,7 +70,8 @@ live-least s v x later e =
     (all-map (λ y dead live. absurd (true≢false (sym live ∙ dead))) front (deadFront-dead (s .row)))
     (λ live. omega arith, all-map (λ y above live. omega arith) later (asc-above (x .key) later (up .1))))
 
-words-least : (s : State) → Sound s → (x : Node) (later : List Node) → fromLive (s .row) ≡ x ∷ later → (y : ℕ) → Standing (picture s) y → markAt (picture s) y ≡ 1 → x .key ≤ keyAt (picture s) y
+words-least : (s : State) → Sound s → (x : Node) (later : List Node) → fromLive (s .row) ≡ x ∷ later → (y : ℕ) → Standing (picture s) y →
+    markAt (picture s) y ≡ 1 → x .key ≤ keyAt (picture s) y
 words-least s v x later e y stands live =
     let (p, here) = cell-standing s y stands in
     let least =
@@ -102,7 +107,8 @@ marked-words s path {us} {cell} {k} {value} {mark} stands same long words =
     inside = omega (arith, stands .cell, picture-cells s)
 
     header : (i : ℕ) → i < headerWords → getD us i 0 ≡ getD (picture s) i 0
-    header i h = rw words (path-sets-header (writeNode D (picture s) cell value mark) path i h ∙ cell-sets-below D (picture s) cell 1 (value ∷ mark ∷ []) i (omega arith))
+    header i h = rw words (path-sets-header (writeNode D (picture s) cell value mark) path i h
+        ∙ cell-sets-below D (picture s) cell 1 (value ∷ mark ∷ []) i (omega arith))
 
     in-words : (x j : ℕ) → wordAt us x j ≡ wordIn D (writeNode D (picture s) cell value mark) x j
     in-words x j =
@@ -128,7 +134,8 @@ marked-words s path {us} {cell} {k} {value} {mark} stands same long words =
             above (suc (suc zero)) l one two = absurd (two refl)
             above (suc (suc (suc n))) l one two = omega arith
 
-take-taken : (s : State) → Sound s → takeOut (picture s) .answered .refusal ≡ 0 → Taken (picture s) (takeOut (picture s) .left) (takeOut (picture s) .answered .key)
+take-taken : (s : State) → Sound s → takeOut (picture s) .answered .refusal ≡ 0 →
+    Taken (picture s) (takeOut (picture s) .left) (takeOut (picture s) .answered .key)
 unfolding picture taken
 take-taken s v z = go (fromLive (s .row)) refl
   where
@@ -141,10 +148,12 @@ take-taken s v z = go (fromLive (s .row)) refl
           cell = x .cell;
           marked =
               marked-words s (path (taken s x)) (place-standing v (here .placed))
-              (at-live (λ y. keyAt (picture s) (y .cell) ≡ y .key) (s .row) x later e (row-key-read s v) ∙ ap (λ (p : Outcome (List ℕ)). p .answered .key) (sym o))
+              (at-live (λ y. keyAt (picture s) (y .cell) ≡ y .key) (s .row) x later e (row-key-read s v)
+                  ∙ ap (λ (p : Outcome (List ℕ)). p .answered .key) (sym o))
               (path-length (taken s x)) (ap (λ (p : Outcome (List ℕ)). p .left) o ∙ taken-words s x later v e);
           live = place-mark v (here .placed) ∙ ap (λ (y : Node). mark (y .live)) (here .node) ∙ ap mark (fromLive-live (s .row) x later e);
-          least = λ y stands live. subst (λ (k : ℕ). k ≤ keyAt (picture s) y) (ap (λ (p : Outcome (List ℕ)). p .answered .key) (sym o)) (words-least s v x later e y stands live);
+          least = λ y stands live. subst (λ (k : ℕ). k ≤ keyAt (picture s) y) (ap (λ (p : Outcome (List ℕ)). p .answered .key) (sym o))
+              (words-least s v x later e y stands live);
           position = ap (λ (p : Outcome (List ℕ)). positionAt (p .left)) o ∙ position-is (taken-sound s x later v e);
         }
 
@@ -154,7 +163,8 @@ take-writes =
     on-read-lists (λ s ws. takeOut ws .answered .refusal ≡ 0 → Taken ws (takeOut ws .left) (takeOut ws .answered .key)) take-taken
 
 -- a standing cell's parent, where it is the position, on the words
-parent-found : (s : State) → Sound s → (c : ℕ) → Located c (s .row) → positionAt (picture s) ≡ parentIn s c (s .row) → Parent (picture s) c (positionAt (picture s))
+parent-found : (s : State) → Sound s → (c : ℕ) → Located c (s .row) → positionAt (picture s) ≡ parentIn s c (s .row) →
+    Parent (picture s) c (positionAt (picture s))
 parent-found s v c t e =
     let b = s .settings .base in
     let D = s .settings .dimensions in
@@ -162,7 +172,8 @@ parent-found s v c t e =
     let d = dimensionAfter b D headNode (t .front) (x .key) in
     let parent : positionAt (picture s) ≡ parentAfter b D headNode (t .front) (x .key) =
     e ∙ ap₂ (parentIn s) (sym (t .cell)) (t .split)
-    ∙ parent-is s (t .front) x (t .later) (base-positive s v) (dimensions-positive s v) (subst (Asc 0) (t .split) (v .ascends)) (subst (λ (r : List Node). Apart (headNode ∷ r)) (t .split) (sound-apart s v)) in
+    ∙ parent-is s (t .front) x (t .later) (base-positive s v) (dimensions-positive s v) (subst (Asc 0) (t .split) (v .ascends))
+        (subst (λ (r : List Node). Apart (headNode ∷ r)) (t .split) (sound-apart s v)) in
     record {
       standing = position-standing v;
       number = d;
@@ -170,14 +181,16 @@ parent-found s v c t e =
     }
 
 -- the words of a revival
-revived-leaves : (s : State) (x : Node) (value : ℕ) → Sound s → nodeAt (x .key) (s .row) ≡ some x → x .live ≡ false → Revived (picture s) (picture (revived s x value)) (x .key) value
+revived-leaves : (s : State) (x : Node) (value : ℕ) → Sound s → nodeAt (x .key) (s .row) ≡ some x → x .live ≡ false →
+    Revived (picture s) (picture (revived s x value)) (x .key) value
 unfolding picture revived positionAfter parentIn
 revived-leaves s x value v a dead =
     let after = revived s x value in
     let sound = revived-sound s x value v a dead in
     let here = node-has (HasPlace s) (x .key) x (s .row) a (row-placed v) in
     let lowered : x .key ≤ keyAt (picture s) (positionAt (picture s)) → positionAt (picture after) ≡ parentIn after (x .cell) (after .row) =
-    λ low. position-is sound ∙ ap (λ t. cond t (parentIn s (x .cell) (after .row)) (s .position)) (le-leb (x .key) (positionKey s) (subst (λ (n : ℕ). x .key ≤ n) (position-key-is v) low)) in
+    λ low. position-is sound ∙ ap (λ t. cond t (parentIn s (x .cell) (after .row)) (s .position))
+        (le-leb (x .key) (positionKey s) (subst (λ (n : ℕ). x .key ≤ n) (position-key-is v) low)) in
     record {
       cell = x .cell;
       marked =
@@ -202,13 +215,15 @@ revived-leaves s x value v a dead =
           parent-found after sound (x .cell) found (lowered low);
     }
 
-revive-revived : (s : State) → Sound s → (key value : ℕ) → (nodeAt key (s .row) ≡ none → ⊥) → insertOut (picture s) key value .answered .refusal ≡ 0 → Revived (picture s) (insertOut (picture s) key value .left) key value
+revive-revived : (s : State) → Sound s → (key value : ℕ) → (nodeAt key (s .row) ≡ none → ⊥) → insertOut (picture s) key value .answered .refusal ≡ 0 →
+    Revived (picture s) (insertOut (picture s) key value .left) key value
 revive-revived s v key value stands z =
     key-cases s key
     (λ n. absurd (refused-not (insertOut (picture s) key value) (refused badKey (picture s)) 3 (insert-outcome-bad-key s v key value n) refl z))
     (λ h l a. absurd (stands a))
     (λ h l x a. live-cases x
-    (λ q. absurd (refused-not (insertOut (picture s) key value) (refused (keyLive key (looked s key)) (picture s)) 4 (insert-outcome-live s v key value h l x a q) refl z))
+    (λ q. absurd (refused-not (insertOut (picture s) key value) (refused (keyLive key (looked s key)) (picture s)) 4
+        (insert-outcome-live s v key value h l x a q) refl z))
     (λ q.
     let k = node-key key x (s .row) a in
     let o = ap (λ (p : Outcome (List ℕ)). p .left) (insert-outcome-dead s v key value h l x a q) in
@@ -219,33 +234,40 @@ pub revive-writes : ReviveWrites
 unfolding outcome
 revive-writes =
     on-read-lists
-    (λ s ws. (key value : ℕ) → (nodeAt key (s .row) ≡ none → ⊥) → insertOut ws key value .answered .refusal ≡ 0 → Revived ws (insertOut ws key value .left) key value)
+    (λ s ws. (key value : ℕ) → (nodeAt key (s .row) ≡ none → ⊥) → insertOut ws key value .answered .refusal ≡ 0 →
+        Revived ws (insertOut ws key value .left) key value)
     revive-revived
 
-insert-inserted : (s : State) → Sound s → (key value : ℕ) → nodeAt key (s .row) ≡ none → insertOut (picture s) key value .answered .refusal ≡ 0 → Inserted (picture s) (insertOut (picture s) key value .left) key value (slotFor s key)
+insert-inserted : (s : State) → Sound s → (key value : ℕ) → nodeAt key (s .row) ≡ none → insertOut (picture s) key value .answered .refusal ≡ 0 →
+    Inserted (picture s) (insertOut (picture s) key value .left) key value (slotFor s key)
 insert-inserted s v key value a z =
     let (h, l, f) = new-accepted s v key value a z in
-    subst (λ (us : List ℕ). Inserted (picture s) us key value (slotFor s key)) (ap (λ (p : Outcome (List ℕ)). p .left) (sym (insert-outcome-new s v key value h l a f))) (added-inserted s v key value h l a f)
+    subst (λ (us : List ℕ). Inserted (picture s) us key value (slotFor s key))
+        (ap (λ (p : Outcome (List ℕ)). p .left) (sym (insert-outcome-new s v key value h l a f))) (added-inserted s v key value h l a f)
 
 pub insert-writes : InsertWrites
 unfolding outcome
 insert-writes =
     on-read-lists
-    (λ s ws. (key value : ℕ) → nodeAt key (s .row) ≡ none → insertOut ws key value .answered .refusal ≡ 0 → Inserted ws (insertOut ws key value .left) key value (slotFor s key))
+    (λ s ws. (key value : ℕ) → nodeAt key (s .row) ≡ none → insertOut ws key value .answered .refusal ≡ 0 →
+        Inserted ws (insertOut ws key value .left) key value (slotFor s key))
     insert-inserted
 
 -- the cell of a standing key is one of the row's
 node-stands : (s : State) (key : ℕ) (x : Node) → nodeAt key (s .row) ≡ some x → 0 < occurrences (x .cell) (0 ∷ map (λ y. y .cell) (s .row))
 node-stands s key x a = let t = node-split key x (s .row) a in cell-stands s (t .0) x (t .1) (t .2)
 
-finish-finishes : (s : State) → Sound s → (key : ℕ) → finishOut (picture s) key .answered .refusal ≡ 0 → Finishes (picture s) (finishOut (picture s) key .left) key (finishOut (picture s) key .answered .count)
+finish-finishes : (s : State) → Sound s → (key : ℕ) → finishOut (picture s) key .answered .refusal ≡ 0 →
+    Finishes (picture s) (finishOut (picture s) key .left) key (finishOut (picture s) key .answered .count)
 finish-finishes s v key z =
     key-cases s key
     (λ n. absurd (refused-not (finishOut (picture s) key) (refused badKey (picture s)) 3 (finish-outcome-bad-key s v key n) refl z))
     (λ h l a. absurd (refused-not (finishOut (picture s) key) (refused (keyNotStanding key) (picture s)) 7 (finish-outcome-absent s v key h l a) refl z))
-    (λ h l x a. subst (λ (p : Outcome (List ℕ)). Finishes (picture s) (p .left) key (p .answered .count)) (sym (finish-outcome-standing s v key h l x a)) (done x a))
+    (λ h l x a. subst (λ (p : Outcome (List ℕ)). Finishes (picture s) (p .left) key (p .answered .count))
+        (sym (finish-outcome-standing s v key h l x a)) (done x a))
   where
-    done : (x : Node) → nodeAt key (s .row) ≡ some x → Finishes (picture s) (picture (withRow s (finished (x .cell) (s .row)))) key (linksMoved s (placeOf (x .cell) (placesOf s (s .row))))
+    done : (x : Node) → nodeAt key (s .row) ≡ some x → Finishes (picture s) (picture (withRow s (finished (x .cell) (s .row)))) key
+        (linksMoved s (placeOf (x .cell) (placesOf s (s .row))))
     done x a =
         let n = node-stands s key x a in
         record {

@@ -14,7 +14,8 @@ use Rattle.meaning.specs.Row.{Node, headNode, Place, settledLink, low, h
 use Rattle.meaning.specs.State.{State, keyOf, positionKey, placesOf}
 use Rattle.meaning.specs.Picture.{picture}
 use Rattle.meaning.specs.Reading.{read, isList}
-use Rattle.meaning.specs.Refusals.{Outcome, accepted, outOfRange, wrongLength, notAList, badKey, keyLive, noFreeCell, nothingLive, keyNotLive, keyNotStanding, owedNotStanding, refused}
+use Rattle.meaning.specs.Refusals.{Outcome, accepted, outOfRange, wrongLength, notAList, badKey, keyLive, noFreeCell, nothingLive, keyNotLive}
+use Rattle.meaning.specs.Refusals.{keyNotStanding, owedNotStanding, refused}
 use Rattle.meaning.specs.Rule.{rule}
 use Rattle.meaning.specs.Words.{markAt, owedAt, freeMark}
 

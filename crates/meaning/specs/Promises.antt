@@ -8,7 +8,8 @@ use mathlib.Core.Option.{none, some}
 use Prim.Native.Nat.{ℕ, zero, suc, _+_, _*_, _-_, _≤_, _<_}
 use lib.Dec.{eqb}
 use lib.ListN.{length, drop}
-use Rattle.lists.specs.Lists.{occurrences, firstNumber, agreed, precedes}
+use Rattle.lists.specs.Lists.{occurrences, firstNumber}
+use Rattle.lists.specs.Compared.{agreed, precedes}
 use Rattle.meaning.specs.declared.Answer.{Answer}
 use Rattle.meaning.specs.Keys.{coordinates, shared}
 use Rattle.meaning.specs.Row.{Node, nodeAt}

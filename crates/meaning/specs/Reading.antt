@@ -11,7 +11,8 @@ use Rattle.lists.specs.Lists.{blocks, same}
 use Rattle.meaning.specs.Row.{Node, put}
 use Rattle.meaning.specs.State.{State, valid}
 use Rattle.meaning.specs.Picture.{picture}
-use Rattle.meaning.specs.Words.{dimensionsAt, largestAt, cellsAt, baseAt, firstFreeAt, positionAt, keyField, valueField, markField, owedField, freeMark, liveMark}
+use Rattle.meaning.specs.Words.{dimensionsAt, largestAt, cellsAt, baseAt, firstFreeAt, positionAt, keyField, valueField, markField, owedField}
+use Rattle.meaning.specs.Words.{freeMark, liveMark}
 
 -- "key, value, mark, owed cell": a standing cell is live or dead, and owes if its owed word is not 0
 abbrev pub nodeOf : ℕ → List ℕ → Node

@@ -57,7 +57,8 @@ places b D row = headPlace row ∷ placesAfter b D headNode 0 row
 abbrev pub settledLink : ℕ → ℕ → Place → ℕ → ℕ
 settledLink b D x d = cond (leb (x .dimension) d) (firstSharing b D (x .node .key) d (x .later)) 0
 
--- A debt is what a cell owes, as its words owed, low and high say it: "its owed cell c is the standing cell of next larger key, .. low is n's dimension, high is the number of coordinates n and c
+-- A debt is what a cell owes, as its words owed, low and high say it: "its owed cell c is the standing cell of next larger key, .. low is
+-- n's dimension, high is the number of coordinates n and c
 -- share"; "A cell that owes nothing has owed, low and high 0."
 abbrev pub owed : Place → ℕ
 owed n = cond (n .node .owes) (firstOf (n .later) .cell) 0

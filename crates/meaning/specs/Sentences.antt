@@ -8,9 +8,11 @@ use Prim.Native.Nat.{ℕ, suc, _+_, _-_, _≤_, _<_}
 use lib.ListN.{length}
 use Rattle.settings.specs.Numbers.{leastDimensions, mostDimensions, leastLargest, mostLargest, leastCells, mostCells, cellWords, lengthOf}
 use Rattle.settings.specs.Base.{IsBase}
-use Rattle.lists.specs.Lists.{occurrences, agreed}
+use Rattle.lists.specs.Lists.{occurrences}
+use Rattle.lists.specs.Compared.{agreed}
 use Rattle.meaning.specs.Keys.{coordinates, coordinate}
-use Rattle.meaning.specs.Words.{wordAt, keyAt, valueAt, markAt, owedAt, lowAt, highAt, coordinateAt, linkAt, dimensionsAt, largestAt, cellsAt, baseAt, positionAt, firstFreeAt, freeMark, liveMark, deadMark, pathAt}
+use Rattle.meaning.specs.Words.{wordAt, keyAt, valueAt, markAt, owedAt, lowAt, highAt, coordinateAt, linkAt, dimensionsAt, largestAt, cellsAt}
+use Rattle.meaning.specs.Words.{baseAt, positionAt, firstFreeAt, freeMark, liveMark, deadMark, pathAt}
 
 -- coordinate d of a cell, and the leading coordinates that two cells share
 abbrev pub digitAt : List ℕ → ℕ → ℕ → ℕ
@@ -134,7 +136,8 @@ pub record AList (ws : List ℕ) : Type 0 where
   -- "in a list a cell n other than the head may owe, and only so"
   pub debts : (n : ℕ) → Standing ws n → 0 < owedAt ws n → MayOwe ws n
   -- "Every other link is settled."
-  pub links : (x d : ℕ) → Standing ws x → d < dimensionsAt ws → (Owing ws x d → ⊥) → ((n : ℕ) → Owing ws n d → owedAt ws n ≡ x → ⊥) → Settled ws x d (linkAt ws x d)
+  pub links : (x d : ℕ) → Standing ws x → d < dimensionsAt ws → (Owing ws x d → ⊥) → ((n : ℕ) → Owing ws n d → owedAt ws n ≡ x → ⊥) →
+      Settled ws x d (linkAt ws x d)
   -- "The position is the last cell of the path. Path word d is the least-key standing cell sharing .."
   pub position : Standing ws (positionAt ws)
   pub path : (d : ℕ) → d < dimensionsAt ws → OnPath ws d

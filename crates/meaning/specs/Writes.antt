@@ -6,7 +6,8 @@ use Prim.Native.Nat.{ℕ, _+_, _≤_, _<_}
 use lib.ListN.{getD}
 use Rattle.settings.specs.Numbers.{headerWords, fieldsBeforeCoordinates, cellWords}
 use Rattle.meaning.specs.Keys.{coordinate, shared}
-use Rattle.meaning.specs.Words.{wordAt, keyAt, valueAt, markAt, owedAt, lowAt, highAt, coordinateAt, linkAt, cellsAt, positionAt, dimensionsAt, baseAt, firstFreeAt, linkField, freeMark, liveMark, deadMark, pathAt, valueField, markField}
+use Rattle.meaning.specs.Words.{wordAt, keyAt, valueAt, markAt, owedAt, lowAt, highAt, coordinateAt, linkAt, cellsAt, positionAt, dimensionsAt}
+use Rattle.meaning.specs.Words.{baseAt, firstFreeAt, linkField, freeMark, liveMark, deadMark, pathAt, valueField, markField}
 use Rattle.meaning.specs.Operations.{Slot, parentIn}
 use Rattle.meaning.specs.Reading.{read}
 use Rattle.meaning.specs.Sentences.{Free, Standing, Settled}
@@ -123,7 +124,8 @@ pub record Swept (ws us : List ℕ) : Type 0 where
   pub position : Standing ws (positionAt us)
   pub dead : markAt ws (positionAt us) ≡ deadMark
   pub below-live : (x : ℕ) → Standing ws x → markAt ws x ≡ liveMark → keyAt ws (positionAt us) < keyAt ws x
-  pub greatest : (x : ℕ) → Standing ws x → markAt ws x ≡ deadMark → ((y : ℕ) → Standing ws y → markAt ws y ≡ liveMark → keyAt ws x < keyAt ws y) → keyAt ws x ≤ keyAt ws (positionAt us)
+  pub greatest : (x : ℕ) → Standing ws x → markAt ws x ≡ deadMark → ((y : ℕ) → Standing ws y → markAt ws y ≡ liveMark → keyAt ws x < keyAt ws y) →
+      keyAt ws x ≤ keyAt ws (positionAt us)
   -- "frees every cell strictly between head and position in key order"
   pub freed : (x : ℕ) → Standing ws x → 0 < keyAt ws x → keyAt ws x < keyAt ws (positionAt us) → markAt us x ≡ freeMark
   -- "the rest": the head, the position and every cell of larger key

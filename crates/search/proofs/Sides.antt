@@ -20,7 +20,8 @@ use Rattle.meaning.proofs.Order.{Asc, asc-above}
 use Rattle.meaning.proofs.Keys.{shared-same, shared-less, ultra}
 use Rattle.meaning.proofs.State.{Sound, base-positive}
 use Rattle.meaning.proofs.Places.{asc-left, asc-smaller, asc-larger, places-nodes, lastFrom}
-use Rattle.meaning.proofs.Parent.{dimension-least, dimensionAfter, parentAfter, placesFrom, all-last, last-least, last-greatest, first-skips, first-hits, first-front}
+use Rattle.meaning.proofs.Parent.{dimension-least, dimensionAfter, parentAfter, placesFrom, all-last, last-least, last-greatest, first-skips}
+use Rattle.meaning.proofs.Parent.{first-hits, first-front}
 use Rattle.meaning.proofs.Slot as slot
 use Rattle.meaning.proofs.Placed.{Placed, placed-has}
 use Rattle.meaning.proofs.WalkStop.{Hangs}
@@ -38,7 +39,8 @@ pub record Sides (k : ℕ) (row pre middle post : List Node) : Type 0 where
 pub sides-absent : {k : ℕ} {row : List Node} (g : slot.Gap k row) → Sides k row (g .pre) [] (g .post)
 sides-absent g = record { splits = g .splits; below = g .below; here = tt; above = g .above }
 
-pub sides-present : {k : ℕ} {row : List Node} (pre : List Node) (x : Node) (post : List Node) → Asc 0 row → x .key ≡ k → row ≡ pre ++ x ∷ post → Sides k row pre (x ∷ []) post
+pub sides-present : {k : ℕ} {row : List Node} (pre : List Node) (x : Node) (post : List Node) → Asc 0 row → x .key ≡ k → row ≡ pre ++ x ∷ post →
+    Sides k row pre (x ∷ []) post
 sides-present pre x post a e split =
     let c = subst (Asc 0) split a in
     record {
@@ -68,7 +70,8 @@ module _ {k : ℕ} {row pre middle post : List Node} (g : Sides k row pre middle
       (those-append test pre (middle ++ post)
       ∙ ap₂ _++_ (those-all test pre (all-map (λ y h. lt-ltb (y .key) k h) pre (g .below)))
       (those-none test (middle ++ post)
-      (all-append (λ y. test y ≡ false) middle post (all-map (λ y h. le-ltb (y .key) k (omega arith)) middle (g .here)) (all-map (λ y h. le-ltb (y .key) k (omega arith)) post (g .above))))
+      (all-append (λ y. test y ≡ false) middle post (all-map (λ y h. le-ltb (y .key) k (omega arith)) middle (g .here))
+          (all-map (λ y h. le-ltb (y .key) k (omega arith)) post (g .above))))
       ∙ append-nil pre)
       ∙ last-of pre
 
@@ -80,7 +83,8 @@ module _ {k : ℕ} {row pre middle post : List Node} (g : Sides k row pre middle
       (those-append test pre (middle ++ post)
       ∙ ap₂ _++_ (those-none test pre (all-map (λ y h. le-ltb k (y .key) (omega arith)) pre (g .below)))
       (those-append test middle post
-      ∙ ap₂ _++_ (those-none test middle (all-map (λ y h. le-ltb k (y .key) (omega arith)) middle (g .here))) (those-all test post (all-map (λ y h. lt-ltb k (y .key) h) post (g .above)))))
+      ∙ ap₂ _++_ (those-none test middle (all-map (λ y h. le-ltb k (y .key) (omega arith)) middle (g .here)))
+          (those-all test post (all-map (λ y h. lt-ltb k (y .key) h) post (g .above)))))
 
 -- The slot of k
 
@@ -89,7 +93,8 @@ pub record SlotAt (s : State) (k : ℕ) (pre post : List Node) : Type 0 where
   pub number : slotNumber s k ≡ dimensionAfter (s .settings .base) (s .settings .dimensions) headNode pre k
   pub parent : slotParent s k ≡ parentAfter (s .settings .base) (s .settings .dimensions) headNode pre k
   pub shares : slotShared s k ≡ shared (s .settings .base) (s .settings .dimensions) k (firstOf post .key)
-  pub cell : slotCell s k ≡ slot.cellAfter (s .settings .base) (s .settings .dimensions) k (dimensionAfter (s .settings .base) (s .settings .dimensions) headNode pre k) post
+  pub cell : slotCell s k ≡ slot.cellAfter (s .settings .base) (s .settings .dimensions) k
+      (dimensionAfter (s .settings .base) (s .settings .dimensions) headNode pre k) post
 
 -- the last node below k shares less with k than with itself
 pub last-below : (b D k : ℕ) (pre : List Node) → 0 < D → 0 < k → All (λ y. y .key < k) pre →
@@ -134,16 +139,20 @@ slot-at s v k h {pre} {middle} {post} g =
 module _ (b D : ℕ) (pos : 0 < b) (deep : 0 < D) where
   -- where y and the nodes `pre` are below k and the `rest` is not, each place from which k would hang is the parent
   hung :
-      (k : ℕ) (w : Node) (f : ℕ) (y : Node) (e : ℕ) (pre rest : List Node) → y .key < k → Asc (y .key) (pre ++ rest) → All (λ z. z .key < k) pre → All (λ z. k ≤ z .key) rest →
-      All (λ p. Hangs b D k p → (dimensionAfter b D y pre k ≡ shared b D (p .node .key) k) × (parentAfter b D y pre k ≡ p .node .cell)) (placesFrom b D w f y e (pre ++ rest))
+      (k : ℕ) (w : Node) (f : ℕ) (y : Node) (e : ℕ) (pre rest : List Node) → y .key < k → Asc (y .key) (pre ++ rest) → All (λ z. z .key < k) pre →
+          All (λ z. k ≤ z .key) rest →
+      All (λ p. Hangs b D k p → (dimensionAfter b D y pre k ≡ shared b D (p .node .key) k) × (parentAfter b D y pre k ≡ p .node .cell))
+          (placesFrom b D w f y e (pre ++ rest))
   unfolding placesAfter lastFrom
   hung k w f y e [] rest h a l g = (
-    λ t. (refl, first-hits b D (y .key) (suc (shared b D (y .key) k)) y [] (omega (arith, shared-same b D (y .key), shared-less b D (y .key) k deep (omega arith)))),
+    λ t. (refl, first-hits b D (y .key) (suc (shared b D (y .key) k)) y []
+        (omega (arith, shared-same b D (y .key), shared-less b D (y .key) k deep (omega arith)))),
     all-map (λ p m t. absurd (let low = t .below in omega arith)) (placesAfter b D y e rest) (places-nodes (λ z. k ≤ z .key) b D y e rest g),
   )
   hung k w f y e (z ∷ pre) rest h a l g = (
     λ t.
-        let more : shared b D (y .key) k < shared b D (y .key) (A .key) = all-last Nearer z pre (t .between .0) (all-left Nearer pre rest (t .between .1)) low in
+        let more : shared b D (y .key) k < shared b D (y .key) (A .key) =
+            all-last Nearer z pre (t .between .0) (all-left Nearer pre rest (t .between .1)) low in
         let u = ultra b D (y .key) (A .key) k pos (last-least y (z ∷ pre) ascends) (omega (arith, low)) in
         (omega arith, first-hits b D (A .key) (suc (shared b D (A .key) k)) y (z ∷ pre) (omega arith)),
     all-zip {P = Known} {Q = λ p. Hangs b D k p → Is (z ∷ pre) p} {R = λ p. Hangs b D k p → Is (y ∷ z ∷ pre) p}
@@ -179,7 +188,8 @@ module _ (b D : ℕ) (pos : 0 < b) (deep : 0 < D) where
       known : All Known (placesAfter b D y e later)
       known =
           all-zip (λ p m n. (m, n)) (placesAfter b D y e later) (places-nodes (λ x. y .key < x .key) b D y e later (asc-above (y .key) later a))
-          (all-zip (λ p m n. (m, n)) (placesAfter b D y e later) (places-nodes (λ x. x .key < k → x .key ≤ A .key) b D y e later reach) (dimension-least b D pos y e later a))
+          (all-zip (λ p m n. (m, n)) (placesAfter b D y e later) (places-nodes (λ x. x .key < k → x .key ≤ A .key) b D y e later reach)
+              (dimension-least b D pos y e later a))
 
       -- y comes before the place p, and so shares too little
       past : (p : Place) → Known p → Hangs b D k p → Is (z ∷ pre) p → Is (y ∷ z ∷ pre) p
@@ -207,5 +217,6 @@ hung-at {s} v {k} h {pre} {middle} {post} g here = placed-has here Is (subst (λ
 
     all : All Is (places b D (pre ++ (middle ++ post)))
     all =
-        hung b D (base-positive s v) (slot.dimensions-positive s v) k headNode 0 headNode 0 pre (middle ++ post) h (subst (Asc 0) (g .splits) (v .ascends)) (g .below)
+        hung b D (base-positive s v) (slot.dimensions-positive s v) k headNode 0 headNode 0 pre (middle ++ post) h
+            (subst (Asc 0) (g .splits) (v .ascends)) (g .below)
         (all-append (λ z. k ≤ z .key) middle post (all-map (λ z m. omega arith) middle (g .here)) (all-map (λ z m. omega arith) post (g .above)))

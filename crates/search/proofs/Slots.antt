@@ -38,7 +38,8 @@ Stands s c = 0 < occurrences c (0 ∷ map (λ x. x .cell) (s .row))
 pub all-stand : (s : State) → Stands s 0 × All (λ x. Stands s (x .cell)) (s .row)
 all-stand s =
     let cells : List ℕ = 0 ∷ map (λ x. x .cell) (s .row) in
-    let all = all-splits (λ c. 0 < occurrences c cells) cells (λ front c later e. let n = ap (occurrences c) e in omega (arith, n, occurrences-between c front later)) in
+    let all = all-splits (λ c. 0 < occurrences c cells) cells (λ front c later e. let n = ap (occurrences c) e in
+        omega (arith, n, occurrences-between c front later)) in
     (all .0, all-of-map (λ c. 0 < occurrences c cells) (λ x. x .cell) (s .row) (all .1))
 
 pub stands-below : {s : State} → Sound s → (c : ℕ) → Stands s c → c < s .settings .cells
@@ -211,7 +212,8 @@ module _ {s : State} (v : Sound s) {k : ℕ} (least : 1 ≤ k) {f : Found} (is :
     where
       at : (o : Option Node) → nodeAt k (s .row) ≡ o → Absent s k f
       at none e = subst (Absent s k) (sym (is ∙ ap (foundAt s k) e)) (absent-at s v k least e)
-      at (some x) e = absurd (let q : f ≡ foundAt s k (some x) = is ∙ ap (foundAt s k) e in let z : false ≡ true = sym t ∙ ap (λ g. g .standing) q in false≢true z)
+      at (some x) e = absurd (let q : f ≡ foundAt s k (some x) = is ∙ ap (foundAt s k) e in let z : false ≡ true = sym t ∙ ap (λ g. g .standing) q in
+          false≢true z)
 
   pub found-slot : f .standing ≡ false → 0 < length (s .free) → SlotFound f (slotFor s k)
   unfolding foundOf

@@ -3,12 +3,14 @@
 use mathlib.Core.Path.{_≡_, refl, sym, _∙_}
 use mathlib.Core.Bool.{Bool, true, false, _&&_}
 use Prim.Native.Nat.{ℕ, zero, suc, _+_, _*_, _-_, _^_, _≤_, _<_}
-use native.Mathlib.Nat.{add-zero, add-suc, suc-add, mul-zero, mul-le-mul, le-antisymm, lt-of-not-le, not-le-of-lt, lt-of-le-of-lt, pow-zero, pow-suc, pow-le-pow-left, pow-le-pow-right}
+use native.Mathlib.Nat.{add-zero, add-suc, suc-add, mul-zero, mul-le-mul, le-antisymm, lt-of-not-le, not-le-of-lt, lt-of-le-of-lt, pow-zero, pow-suc}
+use native.Mathlib.Nat.{pow-le-pow-left, pow-le-pow-right}
 use native.Mathlib.Numerals.{add-one}
 use native.Mathlib.Omega.{arith}
 use lib.Dec.{leb, ltb}
 use borrow.Author.Tests.{ltb-true, ltb-false, leb-true, le-leb}
-use Rattle.settings.specs.Numbers.{leastDimensions, mostDimensions, leastLargest, mostLargest, leastCells, mostCells, within, inRange, firstAbove, baseOf, cellWords}
+use Rattle.settings.specs.Numbers.{leastDimensions, mostDimensions, leastLargest, mostLargest, leastCells, mostCells, within, inRange}
+use Rattle.settings.specs.Numbers.{firstAbove, baseOf, cellWords}
 use Rattle.settings.specs.Base.{IsBase}
 
 -- Powers

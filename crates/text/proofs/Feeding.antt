@@ -9,7 +9,8 @@ use lib.Dec.{eqb, leb}
 use lib.ListN.{length, length-append}
 use borrow.Author.Tests.{lt-leb, leb-false}
 use Rattle.text.specs.Lines.{lineFeed, mostBytes, linesAfter, linesOf, Handed, line, tooLong, handed, handedOf}
-use Rattle.text.specs.Feeding.{longer, begunAfter, handedBy, handedAtEnd, begunAfterPart, handedByPart, handedByParts, started, begunIn, toldIn, Ready, Stepped, FeedEnded}
+use Rattle.text.specs.Feeding.{longer, begunAfter, handedBy, handedAtEnd, begunAfterPart, handedByPart, handedByParts, started, begunIn, toldIn}
+use Rattle.text.specs.Feeding.{Ready, Stepped, FeedEnded}
 use Rattle.text.specs.declared.feed.Feed.{Feed}
 use Rattle.text.specs.declared.feed.Fed.{Fed}
 use Rattle.text.specs.declared.feed.Told.{Told}

@@ -88,7 +88,8 @@ module _ (ws : List ℕ) (head : Head ws) where
   chain-shorter zero c e = tt
   chain-shorter (suc n) c e = (
     (suc n, (omega arith, e)),
-    all-map (λ x t. (t .0, (let h = t .1 .0 in omega arith, t .1 .1))) (chainCells ws n (wordAt ws c 0)) (chain-shorter n (wordAt ws c 0) (chain-step ws n c e .1)),
+    all-map (λ x t. (t .0, (let h = t .1 .0 in omega arith, t .1 .1))) (chainCells ws n (wordAt ws c 0))
+        (chain-shorter n (wordAt ws c 0) (chain-step ws n c e .1)),
   )
 
   pub chain-distinct : (n c : ℕ) → chainRight ws n c ≡ true → Distinct (chainCells ws n c)

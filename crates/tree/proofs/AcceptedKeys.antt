@@ -44,7 +44,9 @@ pub record Keyed (ws : List ℕ) (x : ℕ) : Type 0 where
 
 coordinate-word : (ws : List ℕ) (c d : ℕ) → d < dimensionsAt ws → coordinateAt ws c d ≡ getD (coordinateWords ws c) d 0
 coordinate-word ws c d l =
-    ap (λ i. getD ws i 0) (let there : wordIndex (dimensionsAt ws) c (fieldsBeforeCoordinates + d) ≡ wordIndex (dimensionsAt ws) c fieldsBeforeCoordinates + d = omega arith in there)
+    ap (λ i. getD ws i 0)
+        (let there : wordIndex (dimensionsAt ws) c (fieldsBeforeCoordinates + d) ≡ wordIndex (dimensionsAt ws) c fieldsBeforeCoordinates + d =
+        omega arith in there)
     ∙ sym (getD-drop (wordIndex (dimensionsAt ws) c fieldsBeforeCoordinates) ws d 0)
     ∙ sym (getD-take (dimensionsAt ws) (drop (wordIndex (dimensionsAt ws) c fieldsBeforeCoordinates) ws) d 0 l)
 
@@ -97,13 +99,15 @@ rowIn ws met = map (λ m. nodeIn ws (m .cell)) met
 -- cells met after cell x: each has a larger key than the one before, and shares with it what the number says by which it was met
 abbrev pub Rising : List ℕ → ℕ → List Met → Type 0
 Rising ws x [] = Unit {0}
-Rising ws x (m ∷ met) = ((keyAt ws x < keyAt ws (m .cell)) × (shared (baseAt ws) (dimensionsAt ws) (keyAt ws x) (keyAt ws (m .cell)) ≡ m .linkNumber)) × Rising ws (m .cell) met
+Rising ws x (m ∷ met) = ((keyAt ws x < keyAt ws (m .cell)) × (shared (baseAt ws) (dimensionsAt ws) (keyAt ws x) (keyAt ws (m .cell)) ≡ m .linkNumber))
+    × Rising ws (m .cell) met
 
 pub row-asc : (ws : List ℕ) (x : ℕ) (met : List Met) → Rising ws x met → Asc (keyAt ws x) (rowIn ws met)
 row-asc ws x [] r = tt
 row-asc ws x (m ∷ met) r = (r .0 .0, row-asc ws (m .cell) met (r .1))
 
-pub rising : (ws : List ℕ) → Header ws → (s : Seen) (met : List Met) → Keyed ws (s .last) → Trace ws s met → All (λ m. m .linkNumber < dimensionsAt ws) met → Rising ws (s .last) met
+pub rising : (ws : List ℕ) → Header ws → (s : Seen) (met : List Met) → Keyed ws (s .last) → Trace ws s met →
+    All (λ m. m .linkNumber < dimensionsAt ws) met → Rising ws (s .last) met
 rising ws header s [] keyed t levels = tt
 rising ws header s (m ∷ met) keyed t levels =
     let b = baseAt ws in
@@ -128,7 +132,8 @@ module _ (ws : List ℕ) (pos : 0 < baseAt ws) where
   unfolding firstSharing next
   sharing-next x p d [] r h l = refl
   sharing-next x p d (m ∷ met) r h l =
-      at (decLt d (m .linkNumber)) (ℕ-discrete (m .linkNumber) d) (r .0 .1) (ultra b D (keyAt ws x) (keyAt ws p) (keyAt ws (m .cell)) pos h (let k = r .0 .0 in omega arith))
+      at (decLt d (m .linkNumber)) (ℕ-discrete (m .linkNumber) d) (r .0 .1)
+          (ultra b D (keyAt ws x) (keyAt ws p) (keyAt ws (m .cell)) pos h (let k = r .0 .0 in omega arith))
       (λ k. sharing-next x (m .cell) d met (r .1) (let i = r .0 .0 in omega arith) k)
     where
       b : ℕ
@@ -146,9 +151,11 @@ module _ (ws : List ℕ) (pos : 0 < baseAt ws) where
       at (no k) (yes q) is u more =
           sharing-hits b D (keyAt ws x) d (nodeIn ws (m .cell)) (rowIn ws met) (omega arith) ∙ sym (next-here d m met q)
       at (no k) (no q) is u more =
-          sharing-above b D pos (keyAt ws x) d (nodeIn ws (m .cell)) (rowIn ws met) (let i = r .0 .0 in omega arith) (row-asc ws (m .cell) met (r .1)) (omega arith)
+          sharing-above b D pos (keyAt ws x) d (nodeIn ws (m .cell)) (rowIn ws met) (let i = r .0 .0 in omega arith) (row-asc ws (m .cell) met (r .1))
+              (omega arith)
           ∙ sym (next-none d m met (omega arith))
 
   -- link d of x
-  pub sharing-is-next : (x d : ℕ) (met : List Met) → Rising ws x met → d < dimensionsAt ws → firstSharing (baseAt ws) (dimensionsAt ws) (keyAt ws x) d (rowIn ws met) ≡ next d met
+  pub sharing-is-next : (x d : ℕ) (met : List Met) → Rising ws x met → d < dimensionsAt ws →
+      firstSharing (baseAt ws) (dimensionsAt ws) (keyAt ws x) d (rowIn ws met) ≡ next d met
   sharing-is-next x d met r l = sharing-next x x d met r (omega arith) (omega (arith, shared-same (baseAt ws) (dimensionsAt ws) (keyAt ws x)))

@@ -104,14 +104,16 @@ agreed-onward ws way y e agreed a d l = at (ltb agreed e) refl l
 
 -- Path word d: where the position shares d coordinates or fewer with the cell read before, it is of those met then, else of that one's
 -- way down.
-path-met : (ws : List ℕ) → 0 < baseAt ws → (s : Seen) (met : List Met) (way : ℕ → ℕ) → Trace ws s met → Rising ws (s .last) met → Occurs ws (positionAt ws) met →
+path-met : (ws : List ℕ) → 0 < baseAt ws → (s : Seen) (met : List Met) (way : ℕ → ℕ) → Trace ws s met → Rising ws (s .last) met →
+    Occurs ws (positionAt ws) met →
     Agreed ws way (s .agreed) → (d : ℕ) → d < dimensionsAt ws →
     getD ws (headerWords + d) 0 ≡ cond (ltb d (shared (baseAt ws) (dimensionsAt ws) (keyAt ws (s .last)) (keyAt ws (positionAt ws)))) (way d)
     (firstWith (baseAt ws) (dimensionsAt ws) (keyAt ws (positionAt ws)) (suc d) (rowIn ws met))
 unfolding firstWith occurrences
 path-met ws pos s [] way t r o a d l = absurd (omega arith)
 path-met ws pos s (m ∷ met) way t r o a d l =
-    at (occurs-cases ws (positionAt ws) m met o) (λ later. path-met ws pos (seen ws m s) met (wayOn way (m .cell) (m .linkNumber)) (t .1) (r .1) later (agreed-onward ws way (m .cell) (m .linkNumber) (s .agreed) a) d l)
+    at (occurs-cases ws (positionAt ws) m met o) (λ later. path-met ws pos (seen ws m s) met (wayOn way (m .cell) (m .linkNumber)) (t .1) (r .1) later
+        (agreed-onward ws way (m .cell) (m .linkNumber) (s .agreed) a) d l)
   where
     b : ℕ
     b = baseAt ws
@@ -140,11 +142,13 @@ path-met ws pos s (m ∷ met) way t r o a d l =
         word ≡ cond (ltb d (shared b D x k)) (way d) (cond (ltb (shared b D y k) (suc d)) later-first (m .cell))
     past is u more = go (decLt d (shared b D y k)) (decLt d (m .linkNumber))
       where
-        go : Dec (d < shared b D y k) → Dec (d < m .linkNumber) → word ≡ cond (ltb d (shared b D x k)) (way d) (cond (ltb (shared b D y k) (suc d)) later-first (m .cell))
+        go : Dec (d < shared b D y k) → Dec (d < m .linkNumber) → word
+            ≡ cond (ltb d (shared b D x k)) (way d) (cond (ltb (shared b D y k) (suc d)) later-first (m .cell))
         go (yes h) (yes i) =
             rw (lt-ltb d (shared b D x k) (omega arith)) (rw (lt-ltb d (shared b D y k) h, lt-ltb d (m .linkNumber) i) at more)
         go (yes h) (no i) =
-            rw (le-ltb d (shared b D x k) (omega arith), le-ltb (shared b D y k) (suc d) (omega arith)) (rw (lt-ltb d (shared b D y k) h, le-ltb d (m .linkNumber) (omega arith)) at more)
+            rw (le-ltb d (shared b D x k) (omega arith), le-ltb (shared b D y k) (suc d) (omega arith))
+                (rw (lt-ltb d (shared b D y k) h, le-ltb d (m .linkNumber) (omega arith)) at more)
         go (no h) i =
             rw (le-ltb d (shared b D x k) (omega arith), lt-ltb (shared b D y k) (suc d) (omega arith)) (rw (le-ltb d (shared b D y k) (omega arith)) at more)
 
@@ -158,7 +162,8 @@ path-met ws pos s (m ∷ met) way t r o a d l =
         rw (le-ltb (shared b D y k) (suc d) (omega arith), linkNumber)
         (agreed-onward ws way (m .cell) (m .linkNumber) (s .agreed) a d (let n = t .0 .path e in omega arith))
     at (inr n) more =
-        past (r .0 .1) (ultra b D x y k pos (let h = r .0 .0 in omega arith) (let h = occurs-above ws (m .cell) (positionAt ws) met (r .1) (n .1) in omega arith)) (more (n .1))
+        past (r .0 .1) (ultra b D x y k pos (let h = r .0 .0 in omega arith)
+            (let h = occurs-above ws (m .cell) (positionAt ws) met (r .1) (n .1) in omega arith)) (more (n .1))
 
 -- the position is the head, or one of the cells met
 pub position-met : (ws : List ℕ) (met : List Met) → seenAfter ws (atHead ws) met .reached ≡ true → (positionAt ws ≡ 0) ⊎ Occurs ws (positionAt ws) met
@@ -215,7 +220,8 @@ position-key ws head met rises (inr o) =
 -- Marks
 
 -- a cell read up to the position is dead
-pub dead-met : (ws : List ℕ) (s : Seen) (met : List Met) → Trace ws s met → Rising ws (s .last) met → (s .reached ≡ true → keyAt ws (positionAt ws) ≤ keyAt ws (s .last)) →
+pub dead-met : (ws : List ℕ) (s : Seen) (met : List Met) → Trace ws s met → Rising ws (s .last) met →
+    (s .reached ≡ true → keyAt ws (positionAt ws) ≤ keyAt ws (s .last)) →
     All (λ x. x .key ≤ keyAt ws (positionAt ws) → x .live ≡ false) (rowIn ws met)
 dead-met ws s [] t r reached = tt
 dead-met ws s (m ∷ met) t r reached = (

@@ -66,7 +66,8 @@ abbrev pub Links : List ℕ → List Met → Type 0
 Links ws [] = Unit {0}
 Links ws (m ∷ met) = Linked ws (m .cell) (m .linkNumber) met × Links ws met
 
-links-append : (ws : List ℕ) (front : List Met) (m : Met) (later : List Met) → All (λ n. m .linkNumber < n .linkNumber) front → Links ws front → Links ws (m ∷ later) →
+links-append : (ws : List ℕ) (front : List Met) (m : Met) (later : List Met) → All (λ n. m .linkNumber < n .linkNumber) front → Links ws front →
+    Links ws (m ∷ later) →
     Links ws (front ++ (m ∷ later))
 links-append ws [] m later a front-links links = links
 links-append ws (n ∷ front) m later a front-links links = (
@@ -76,7 +77,8 @@ links-append ws (n ∷ front) m later a front-links links = (
 
 -- what has been seen once a cell is read
 abbrev pub seen : List ℕ → Met → Seen → Seen
-seen ws m s = record { right = true; left = s .left - 1; last = m .cell; agreed = agreedAt ws (m .cell) (m .linkNumber) (s .agreed); reached = s .reached || eqb (m .cell) (positionAt ws) }
+seen ws m s = record { right = true; left = s .left - 1; last = m .cell; agreed = agreedAt ws (m .cell) (m .linkNumber) (s .agreed);
+    reached = s .reached || eqb (m .cell) (positionAt ws) }
 
 unfoldable pub seenAfter : List ℕ → Seen → List Met → Seen
 seenAfter ws s [] = s
@@ -134,7 +136,8 @@ run-more ws e x y s t u inside leads pos r right more =
       met = r .met ++ (m ∷ more .met);
       trace = trace-append ws s (r .met) (m ∷ more .met) (r .trace) (subst (λ z. Trace ws z (m ∷ more .met)) (r .ends) (right, more .trace));
       ends = more .ends ∙ ap (λ z. seenAfter ws z (m ∷ more .met)) (r .ends) ∙ sym (seen-append ws s (r .met) (m ∷ more .met));
-      levels = all-append (λ n. (e ≤ n .linkNumber) × (n .linkNumber < dimensionsAt ws)) (r .met) (m ∷ more .met) (all-map (λ n h. (let k = h .0 in omega arith, h .1)) (r .met) (r .levels)) ((omega arith, inside), more .levels);
+      levels = all-append (λ n. (e ≤ n .linkNumber) × (n .linkNumber < dimensionsAt ws)) (r .met) (m ∷ more .met)
+          (all-map (λ n h. (let k = h .0 in omega arith, h .1)) (r .met) (r .levels)) ((omega arith, inside), more .levels);
       cells = all-append (λ n. 0 < n .cell) (r .met) (m ∷ more .met) (r .cells) (pos, more .cells);
       linked = λ d h l. at d l (ℕ-discrete e d) h;
       links = links-append ws (r .met) m (more .met) higher (r .links) (more .linked, more .links);

@@ -14,9 +14,11 @@ use Rattle.settings.specs.Base.{IsBase}
 use Rattle.settings.proofs.Numbers.{Ranges, ranges, is-base}
 use Rattle.lists.proofs.All.{All}
 use Rattle.lists.proofs.Tests.{both}
-use Rattle.meaning.specs.Words.{wordAt, keyAt, valueAt, markAt, owedAt, lowAt, highAt, coordinateAt, linkAt, dimensionsAt, largestAt, cellsAt, baseAt, positionAt}
+use Rattle.meaning.specs.Words.{wordAt, keyAt, valueAt, markAt, owedAt, lowAt, highAt, coordinateAt, linkAt, dimensionsAt, largestAt, cellsAt, baseAt}
+use Rattle.meaning.specs.Words.{positionAt}
 use Rattle.tree.specs.declared.Seen.{Seen}
-use Rattle.tree.specs.Tree.{allFrom, writesKey, follows, nodeRight, dueTo, linksBelow, debtRight, agreedAt, cellAloneRight, cellRight, headRight, freeRight, headerRight}
+use Rattle.tree.specs.Tree.{allFrom, writesKey, follows, nodeRight, dueTo, linksBelow, debtRight, agreedAt, cellAloneRight, cellRight}
+use Rattle.tree.specs.Tree.{headRight, freeRight, headerRight}
 
 -- Tests of several parts
 
@@ -41,7 +43,8 @@ unfolding allFrom
 all-from test i zero d e h l = absurd (omega arith)
 all-from test i (suc n) d e h l = at (ℕ-discrete i d) (both (test i) (allFrom test (suc i) n) e) (all-from test (suc i) n d)
   where
-    at : Dec (i ≡ d) → (test i ≡ true) × (allFrom test (suc i) n ≡ true) → (allFrom test (suc i) n ≡ true → suc i ≤ d → d < suc i + n → test d ≡ true) → test d ≡ true
+    at : Dec (i ≡ d) → (test i ≡ true) × (allFrom test (suc i) n ≡ true) →
+        (allFrom test (suc i) n ≡ true → suc i ≤ d → d < suc i + n → test d ≡ true) → test d ≡ true
     at (yes q) t more = ap test (sym q) ∙ t .0
     at (no ne) t more = more (t .1) (omega arith) (omega arith)
 
@@ -83,7 +86,8 @@ owing-right ws x y e h ne =
       high = ltb-true e (highAt ws y) (t .1 .1 .0);
       inside = ltb-true (highAt ws y) (dimensionsAt ws) (t .1 .1 .1 .0);
       cell = ltb-true (owedAt ws y) (cellsAt ws) (t .1 .1 .1 .1 .0);
-      links = λ d l. eqb-true (linkAt ws y d) (cond (eqb d (highAt ws y)) (owedAt ws y) 0) (all-from links 0 (dimensionsAt ws) d (t .1 .1 .1 .1 .1 .0) (omega arith) (omega arith));
+      links = λ d l. eqb-true (linkAt ws y d) (cond (eqb d (highAt ws y)) (owedAt ws y) 0)
+          (all-from links 0 (dimensionsAt ws) d (t .1 .1 .1 .1 .1 .0) (omega arith) (omega arith));
     }
 
 unowing-right : (ws : List ℕ) (x y e : ℕ) → debtRight ws x y e ≡ true → owedAt ws y ≡ 0 → (lowAt ws y ≡ 0) × (highAt ws y ≡ 0)
@@ -108,7 +112,8 @@ node-right ws y reached h =
 
 below-right : (ws : List ℕ) (x y e : ℕ) → linksBelow ws x y e ≡ true → (d : ℕ) → d < e → (linkAt ws y d ≡ 0) ⊎ (dueTo ws x d ≡ true)
 unfolding linksBelow
-below-right ws x y e h d l = at (either (eqb (linkAt ws y d) 0) (dueTo ws x d) (all-from (λ i. eqb (linkAt ws y i) 0 || dueTo ws x i) 0 e d h (omega arith) (omega arith)))
+below-right ws x y e h d l = at (either (eqb (linkAt ws y d) 0) (dueTo ws x d)
+    (all-from (λ i. eqb (linkAt ws y i) 0 || dueTo ws x i) 0 e d h (omega arith) (omega arith)))
   where
     at : (eqb (linkAt ws y d) 0 ≡ true) ⊎ (dueTo ws x d ≡ true) → (linkAt ws y d ≡ 0) ⊎ (dueTo ws x d ≡ true)
     at (inl q) = inl (eqb-true (linkAt ws y d) 0 q)
@@ -183,7 +188,8 @@ head-right ws h =
       owed = eqb-true (owedAt ws 0) 0 (t .1 .1 .1 .0);
       low = eqb-true (lowAt ws 0) 0 (t .1 .1 .1 .1 .0);
       high = eqb-true (highAt ws 0) 0 (t .1 .1 .1 .1 .1 .0);
-      coordinate = λ d l. eqb-true (coordinateAt ws 0 d) 0 (all-from (λ i. eqb (coordinateAt ws 0 i) 0) 0 (dimensionsAt ws) d (t .1 .1 .1 .1 .1 .1 .0) (omega arith) (omega arith));
+      coordinate = λ d l. eqb-true (coordinateAt ws 0 d) 0 (all-from (λ i. eqb (coordinateAt ws 0 i) 0) 0 (dimensionsAt ws) d (t .1 .1 .1 .1 .1 .1 .0)
+          (omega arith) (omega arith));
     }
 
 -- A free cell

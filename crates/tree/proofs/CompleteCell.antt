@@ -21,7 +21,8 @@ use Rattle.meaning.proofs.Keys.{shared-same, shared-le, shared-less, coordinate
 use Rattle.meaning.proofs.State.{Debt}
 use Rattle.meaning.proofs.WalkRead.{Held, between-is, between-not, linkOwing, link-tested}
 use Rattle.meaning.proofs.Parent.{sharing-hits, sharing-above}
-use Rattle.tree.specs.Tree.{allFrom, written, coordinateWords, allBelow, writesKey, follows, nodeRight, dueTo, linksBelow, debtRight, agreedAt, cellRight, entered}
+use Rattle.tree.specs.Tree.{allFrom, written, coordinateWords, allBelow, writesKey, follows, nodeRight, dueTo, linksBelow, debtRight, agreedAt}
+use Rattle.tree.specs.Tree.{cellRight, entered}
 use Rattle.tree.proofs.Written.{all-allBelow, coordinates-below, coordinates-write}
 use Rattle.tree.proofs.CompleteOrder.{placeAfter, seenAt, seenBefore}
 use Rattle.tree.proofs.CompletePath.{PlaceOnPath, agreed-is, position-here, position-apart}

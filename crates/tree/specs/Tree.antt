@@ -8,7 +8,8 @@ use lib.Dec.{eqb, leb, ltb}
 use lib.ListN.{length, take, drop}
 use Rattle.settings.specs.Numbers.{fieldsBeforeCoordinates, cellWords, lengthOf, inRange}
 use Rattle.meaning.specs.Row.{between}
-use Rattle.meaning.specs.Words.{wordIndex, wordAt, keyAt, valueAt, markAt, owedAt, lowAt, highAt, coordinateAt, linkAt, dimensionsAt, largestAt, cellsAt, baseAt, firstFreeAt, liveMark, deadMark, pathAt, positionAt}
+use Rattle.meaning.specs.Words.{wordIndex, wordAt, keyAt, valueAt, markAt, owedAt, lowAt, highAt, coordinateAt, linkAt, dimensionsAt, largestAt}
+use Rattle.meaning.specs.Words.{cellsAt, baseAt, firstFreeAt, liveMark, deadMark, pathAt, positionAt}
 use Rattle.meaning.specs.Walk.{linkRead}
 use Rattle.tree.specs.declared.Seen.{Seen}
 

@@ -47,7 +47,8 @@ word-requires-2 c κs =
     let s = c .before .before .before .before .before .before .before .before .before in
     let f = c .before .before .before .before .search in (
       listed-shaped (s .pre),
-      field-within (find-cell (s .pre) (s .args .key) (omega arith) (omega arith) (f .ensures) (not-false (f .result .standing) (c .before .before .if3 .left))) (omega arith),
+      field-within (find-cell (s .pre) (s .args .key) (omega arith) (omega arith) (f .ensures)
+          (not-false (f .result .standing) (c .before .before .if3 .left))) (omega arith),
     )
 
 returns-5 : tie.Need-returns-5
@@ -55,7 +56,8 @@ returns-5 c =
     let s = c .before .before .before .before .before .before .before .before .before .before .before in
     let f = c .before .before .before .before .before .before .search in
     c .accepted .ensures
-    ∙ find-live (s .pre) (s .args .key) (omega (arith, c .before .before .before .before .before .before .before .before .before .if1 .left)) (omega arith) (f .ensures) (not-false (f .result .standing) (c .before .before .before .before .if3 .left))
+    ∙ find-live (s .pre) (s .args .key) (omega (arith, c .before .before .before .before .before .before .before .before .before .if1 .left))
+        (omega arith) (f .ensures) (not-false (f .result .standing) (c .before .before .before .before .if3 .left))
     (c .before .before .before .word .ensures) (c .before .before .if4 .left) (c .before .word2 .ensures)
 
 pub find-spec : {M : Type 1} → statement M

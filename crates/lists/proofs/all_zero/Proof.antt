@@ -5,7 +5,7 @@ use Prim.Native.Nat.{_-_, _≤_}
 use lib.Dec.{eqb}
 use lib.ListN.{length, drop}
 use borrow.Author.Needs.{needs}
-use Rattle.lists.specs.Lists.{allZero}
+use Rattle.lists.specs.Zeros.{allZero}
 use Rattle.lists.proofs.AllZero.{zero-more, zero-end}
 use Rattle.lists.proofs.all_zero.Statement.{statement}
 use Rattle.lists.proofs.all_zero.Tie as tie

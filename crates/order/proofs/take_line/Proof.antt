@@ -15,7 +15,8 @@ part-step-end c = c .before .before .before .before .before .before .pre .fits _
 returns-2 : tie.Need-returns-2
 returns-2 c =
     let a = c .before .before .before .before .before .before .before .before .before .before .before .args in
-    line-words (a .line .now) (a .words .now) (c .before .before .before .before .before .before .before .ended .given .1) (c .before .before .before .step .ensures)
+    line-words (a .line .now) (a .words .now) (c .before .before .before .before .before .before .before .ended .given .1)
+        (c .before .before .before .step .ensures)
 
 returns-3 : tie.Need-returns-3
 returns-3 c =

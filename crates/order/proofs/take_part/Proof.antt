@@ -10,7 +10,8 @@ use Rattle.order.proofs.take_part.Statement.{statement}
 use Rattle.order.proofs.take_part.Tie as tie
 
 abbrev Inv-loop : tie.InvT-loop
-Inv-loop words₀ line₀ part s₀ i₀ words line s i = (i ≤ length part) × ((length words ≡ length words₀) × BytesTaken (take i part) (begunIn line₀ (s₀ .feed)) words₀ line (s .feed) words)
+Inv-loop words₀ line₀ part s₀ i₀ words line s i = (i ≤ length part) ×
+    ((length words ≡ length words₀) × BytesTaken (take i part) (begunIn line₀ (s₀ .feed)) words₀ line (s .feed) words)
 
 abbrev μ-loop : tie.MeasureT-loop
 μ-loop words₀ line₀ part s₀ i₀ words line s i = length part - i
@@ -35,7 +36,8 @@ loop-again : tie.Need-loop-again Inv-loop μ-loop
 loop-again c =
     let a = c .before .before .before .before .before .before .before .before .before .before .before .before .before .before .before .args in
     let v = c .before .before .before .before .before .before .before .before .before .before .before .loop in
-    (search needs, (search needs, one-more-taken (a .part .now) (v .i) (search needs) (v .inv .1 .1) (c .before .before .before .before .before .before .take-byte .ensures)))
+    (search needs, (search needs, one-more-taken (a .part .now) (v .i) (search needs) (v .inv .1 .1)
+        (c .before .before .before .before .before .before .take-byte .ensures)))
 
 returns-2 : tie.Need-returns-2 Inv-loop μ-loop
 returns-2 c =

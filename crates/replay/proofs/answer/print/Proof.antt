@@ -11,7 +11,8 @@ write-requires c κs =
     let a = c .before .before .before .before .before .before .before .before .before .before .args in
     let number = c .before .before .before .put-number .ensures in
     let sum = rw (c .before .before .before .before .checksum .ensures) at (number .0) in
-    put-lent (lineText (a .reply) (a .list .now)) (put-more (c .before .before .before .before .before .before .before .put-reply .ensures .0) sum) (omega (arith, number .1))
+    put-lent (lineText (a .reply) (a .list .now)) (put-more (c .before .before .before .before .before .before .before .put-reply .ensures .0) sum)
+        (omega (arith, number .1))
 
 pub print-spec : {M : Type 1} → statement M
 print-spec =
