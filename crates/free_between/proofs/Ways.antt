@@ -14,7 +14,7 @@ use Rattle.meaning.specs.Operations.{deadFront, fromLive, lastOf, freedBy}
 use Rattle.meaning.specs.Layer.Listed.{Listed}
 use Rattle.meaning.specs.Layer.Paths.{PathOf, nextFrom}
 use Rattle.meaning.specs.Layer.Stores.{store}
-use Rattle.meaning.proofs.Cells.{free-length}
+use Rattle.meaning.proofs.StateCells.{free-length}
 use Rattle.meaning.proofs.KeepsSweep.{keptBy, swept-split}
 use Rattle.meaning.proofs.Parent.{Apart, apart-before}
 use Rattle.meaning.proofs.Slot.{sound-apart}

@@ -25,7 +25,7 @@ use Rattle.meaning.specs.Layer.Stores.{store, finishWords, writePath, writeNode
 use Rattle.meaning.specs.declared.Answer.{Answer}
 use Rattle.meaning.specs.Layer.Listed.{Listed}
 use Rattle.meaning.proofs.State.{Sound, sound-valid}
-use Rattle.meaning.proofs.Cells.{free-range}
+use Rattle.meaning.proofs.StateCells.{free-range}
 use Rattle.meaning.proofs.Slot.{first-free-all}
 use Rattle.meaning.proofs.Picture.{picture-free, path-length}
 use Rattle.meaning.proofs.Reading.{mark-live}

@@ -21,9 +21,9 @@ use Rattle.meaning.specs.Calls.{outcome}
 use Rattle.meaning.specs.Book.{Pair, pair, Book, hasKey, putPair, putKey, inserted, keptFrom, booked}
 use Rattle.meaning.specs.declared.Call.the-variants.{SetUp, Insert, Find, Finish, Take, Sweep}
 use Rattle.meaning.specs.declared.Call.{Call}
-use Rattle.meaning.proofs.Order.{Asc}
+use Rattle.meaning.proofs.AscendingRow.{Asc}
 use Rattle.meaning.proofs.State.{Sound}
-use Rattle.meaning.proofs.Cells.{free-length}
+use Rattle.meaning.proofs.StateCells.{free-length}
 use Rattle.meaning.proofs.Picture.{picture-length}
 use Rattle.meaning.proofs.Places.{asc-smaller, asc-larger, onCell, onCell-cases, keys-changed, asc-changed}
 use Rattle.meaning.proofs.KeepsState.{deadFront-dead, live-split}

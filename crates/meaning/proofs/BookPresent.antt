@@ -17,7 +17,7 @@ use Rattle.meaning.specs.Operations.{insertOut, findOut}
 use Rattle.meaning.specs.Calls.{outcome}
 use Rattle.meaning.specs.Promises.{Live, PresentMeansThatKey}
 use Rattle.meaning.proofs.State.{Sound}
-use Rattle.meaning.proofs.Cells.{row-range}
+use Rattle.meaning.proofs.StateCells.{row-range}
 use Rattle.meaning.proofs.Placed.{mark-one}
 use Rattle.meaning.proofs.Picture.{picture-largest, picture-cells, picture-word, Told, told, freeWords-rest}
 use Rattle.meaning.proofs.WalkRead.{all-places, row-key-read, row-mark-read}

@@ -18,7 +18,7 @@ use Rattle.meaning.specs.State.{State}
 use Rattle.meaning.specs.Operations.{deadFront, fromLive, lastAlone}
 use Rattle.meaning.specs.Book.{Pair, pair, hasKey, putPair, putKey, keptFrom}
 use Rattle.meaning.proofs.AgainstSlips.{present-is-that-key}
-use Rattle.meaning.proofs.Order.{Asc, asc-above}
+use Rattle.meaning.proofs.AscendingRow.{Asc, asc-above}
 use Rattle.meaning.proofs.State.{Sound}
 use Rattle.meaning.proofs.Places.{asc-smaller, asc-larger, Keeping, keys-changed, onCell}
 use Rattle.meaning.proofs.KeepsState.{cell-alone, row-split, deadFront-dead, fromLive-live, live-split, last-split}

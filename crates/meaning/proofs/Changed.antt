@@ -15,14 +15,13 @@ use Rattle.meaning.specs.Keys.{coordinates, coordinate, shared}
 use Rattle.meaning.specs.Row.{Node, headNode, firstOf, firstSharing, Place, placeOf, settledLink, between, link}
 use Rattle.meaning.specs.State.{State, keyOf, positionKey, placesOf}
 use Rattle.meaning.specs.Picture.{mark, standingWords, wordsOf, firstWith, pathWord, path, picture}
-use Rattle.meaning.specs.Layer.Stores.{writePath}
 use Rattle.meaning.specs.Words.{linkField}
-use Rattle.meaning.proofs.Picture.{shownWords, path-length, picture-word, picture-path, path-word}
+use Rattle.meaning.proofs.Picture.{shownWords, picture-word, picture-path, path-word}
 use Rattle.meaning.proofs.Places.{Keeping, changedPlace, cells-changed, keys-changed, firstOf-changed, places-changed}
 use Rattle.meaning.proofs.WalkRead.{words-coordinate, words-link}
 use Rattle.meaning.proofs.Placed.{Placed}
 use Rattle.meaning.proofs.KeepsState.{changedState}
-use Rattle.meaning.proofs.Stores.{wordIn, picture-exact, path-sets-same}
+use Rattle.meaning.proofs.Stores.{wordIn}
 
 -- The path
 
@@ -69,10 +68,6 @@ module _ (s t : State) (settings : s .settings ≡ t .settings) (position : s .p
 pub picture-path-word : (s : State) (d : ℕ) → d < s .settings .dimensions → getD (picture s) (headerWords + d) 0 ≡ getD (path s) d 0
 picture-path-word s d h = picture-path s d h ∙ sym (path-word s d h)
 
--- the path that a picture has, written again
-pub path-rewritten : (s : State) → writePath (picture s) (path s) ≡ picture s
-path-rewritten s = path-sets-same (picture-exact s) (path s) (path-length s) (picture-path-word s)
-
 -- The words of a place with other debts
 
 -- link d, if the cell before owes or not and the cell itself owes or not
@@ -88,10 +83,6 @@ wordsBy b D value live beforeOwes owes q =
     q .node .key ∷ value ∷ mark live
     ∷ cond owes (firstOf (q .later) .cell) 0 ∷ cond owes (q .dimension) 0 ∷ cond owes (shared b D (q .node .key) (firstOf (q .later) .key)) 0
     ∷ (coordinates b D (q .node .key) ++ map (linkBy b D beforeOwes owes q) (numbersFrom 0 D))
-
-pub link-by : (b D : ℕ) (q : Place) (d : ℕ) → link b D q d ≡ linkBy b D (q .before .owes) (q .node .owes) q d
-unfolding link
-link-by b D q d = refl
 
 pub standing-by : (b D : ℕ) (q : Place) → standingWords b D q ≡ wordsBy b D (q .node .value) (q .node .live) (q .before .owes) (q .node .owes) q
 unfolding standingWords wordsBy link
@@ -217,13 +208,6 @@ module _ (s : State) (f : Node → Node) (keeping : Keeping f) (position : ℕ) 
   changed-header (suc (suc (suc zero))) h = refl
   changed-header (suc (suc (suc (suc zero)))) h = refl
   changed-header (suc (suc (suc (suc (suc i))))) h = absurd (omega arith)
-
--- the path after a change is that of the position in the row before
-pub path-changed : (s : State) (f : Node → Node) → Keeping f → (position : ℕ) →
-    path (changedState s f position) ≡ path (record { settings = s .settings; row = s .row; free = s .free; position = position })
-path-changed s f keeping position =
-    path-unmoved (changedState s f position) (record { settings = s .settings; row = s .row; free = s .free; position = position })
-    refl refl (cells-changed f keeping (s .row)) (keys-changed f keeping (s .row))
 
 -- while the position stays
 pub changed-path : (s : State) (f : Node → Node) (keeping : Keeping f) (d : ℕ) → d < s .settings .dimensions →

@@ -18,7 +18,7 @@ use Rattle.meaning.specs.Reading.{isList}
 use Rattle.meaning.specs.Words.{wordAt, keyAt, dimensionsAt, baseAt, positionAt}
 use Rattle.meaning.specs.Sentences.{sharedAt, Standing, Chained, ended, chained-on, AList}
 use Rattle.meaning.proofs.Keys.{shared-sym}
-use Rattle.meaning.proofs.Cells.{free-distinct}
+use Rattle.meaning.proofs.StateCells.{free-distinct}
 use Rattle.meaning.proofs.Reading.{Follow, distinct-follow, picture-is-list}
 use Rattle.meaning.proofs.WalkRead.{Held}
 use Rattle.meaning.proofs.SentencesRow.{Least, least, nowhere, SharesAtLeast, first-with}

@@ -11,7 +11,7 @@ use Rattle.meaning.specs.Keys.{shared}
 use Rattle.meaning.specs.Row.{Node, firstOf, firstSharing, Place, settledLink, owed, low, high, between, link}
 use Rattle.meaning.specs.Words.{keyAt, owedAt, lowAt, highAt, linkAt, dimensionsAt, baseAt}
 use Rattle.meaning.specs.Sentences.{NextLarger, LargerAt, Settled, Owing, AList}
-use Rattle.meaning.proofs.Order.{asc-above}
+use Rattle.meaning.proofs.AscendingRow.{asc-above}
 use Rattle.meaning.proofs.WalkRead.{between-is, between-facts, linkDue, linkOwing, link-tested}
 use Rattle.meaning.proofs.SentencesShape.{settled-first, settled-link}
 use Rattle.meaning.proofs.ConverseKeys.{shared-is, larger-key, larger-at, next-larger-of-one, settled-unique}

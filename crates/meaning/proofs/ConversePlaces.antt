@@ -13,7 +13,7 @@ use Rattle.meaning.specs.Keys.{shared}
 use Rattle.meaning.specs.Row.{Node, headNode, Place, placesAfter, places}
 use Rattle.meaning.specs.Words.{keyAt, dimensionsAt, cellsAt, baseAt}
 use Rattle.meaning.specs.Sentences.{sharedAt, Standing, NextSmaller, NextLarger, Dimension, of-head, of-other, AList}
-use Rattle.meaning.proofs.Order.{Asc, asc-above}
+use Rattle.meaning.proofs.AscendingRow.{Asc, asc-above}
 use Rattle.meaning.proofs.ConverseKeys.{cell-positive, shared-is}
 use Rattle.meaning.proofs.ConverseRow.{Shown, standingRow, head-shown, row-shown, row-ascends, row-once}
 

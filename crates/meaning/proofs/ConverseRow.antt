@@ -17,7 +17,7 @@ use Rattle.meaning.specs.State.{keyOf}
 use Rattle.meaning.specs.Picture.{mark}
 use Rattle.meaning.specs.Words.{keyAt, valueAt, markAt, owedAt, cellsAt}
 use Rattle.meaning.specs.Sentences.{Free, Standing, AList}
-use Rattle.meaning.proofs.Order.{Asc}
+use Rattle.meaning.proofs.AscendingRow.{Asc}
 use Rattle.meaning.proofs.Places.{keyOf-has}
 use Rattle.meaning.proofs.Placed.{standing-not-free}
 use Rattle.meaning.proofs.ConverseKeys.{head-stands, free-or-standing}

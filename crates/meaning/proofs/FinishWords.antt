@@ -20,7 +20,7 @@ use Rattle.meaning.specs.Operations.{paid, finished, withRow, linksMoved
 use Rattle.meaning.specs.Writes.{Finished, OwesNothing, OwesSame}
 use Rattle.meaning.specs.Words.{wordAt, owedAt, lowAt, highAt, linkField}
 use Rattle.meaning.specs.Layer.Stores.{finishWords}
-use Rattle.meaning.proofs.Order.{Asc}
+use Rattle.meaning.proofs.AscendingRow.{Asc}
 use Rattle.meaning.proofs.Keys.{shared-le}
 use Rattle.meaning.proofs.State.{Sound, Debt}
 use Rattle.meaning.proofs.Picture.{picture-dimensions}

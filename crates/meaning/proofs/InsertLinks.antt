@@ -15,7 +15,7 @@ use Rattle.lists.proofs.Tests.{both, and-both}
 use Rattle.meaning.specs.Keys.{shared}
 use Rattle.meaning.specs.Row.{Node, headNode, firstOf, firstSharing, Place, placesAfter, places, settledLink, owed, low, high, between, link, placeOf}
 use Rattle.meaning.specs.State.{State}
-use Rattle.meaning.proofs.Order.{Asc, asc-above}
+use Rattle.meaning.proofs.AscendingRow.{Asc, asc-above}
 use Rattle.meaning.proofs.Keys.{shared-less, ultra}
 use Rattle.meaning.proofs.Picture.{place-here, place-past, Told, told}
 use Rattle.meaning.proofs.Places.{asc-left, lastFrom}

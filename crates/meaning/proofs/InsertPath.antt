@@ -12,7 +12,7 @@ use Rattle.meaning.specs.Keys.{shared}
 use Rattle.meaning.specs.Row.{Node, headNode}
 use Rattle.meaning.specs.State.{State, keyOf, positionKey}
 use Rattle.meaning.specs.Picture.{firstWith, pathWord, path}
-use Rattle.meaning.proofs.Order.{Asc}
+use Rattle.meaning.proofs.AscendingRow.{Asc}
 use Rattle.meaning.proofs.Keys.{shared-sym, ultra}
 use Rattle.meaning.proofs.State.{Sound, base-positive}
 use Rattle.meaning.proofs.Places.{asc-left, lastFrom, keyOf-put}

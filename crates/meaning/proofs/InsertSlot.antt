@@ -22,10 +22,10 @@ use Rattle.meaning.specs.Words.{wordAt}
 use Rattle.meaning.specs.Sentences.{Settled}
 use Rattle.meaning.specs.Layer.Stores.{newLinks}
 use Rattle.meaning.specs.Operations.{withRow, Slot, newNode, slotOwes}
-use Rattle.meaning.proofs.Order.{Asc}
+use Rattle.meaning.proofs.AscendingRow.{Asc}
 use Rattle.meaning.proofs.Keys.{shared-less}
 use Rattle.meaning.proofs.State.{Sound, base-positive}
-use Rattle.meaning.proofs.Cells.{free-range}
+use Rattle.meaning.proofs.StateCells.{free-range}
 use Rattle.meaning.proofs.Picture.{first-has, free-found}
 use Rattle.meaning.proofs.Places.{asc-left, lastFrom, Keeping, firstOf-changed}
 use Rattle.meaning.proofs.KeepsState.{cells-positive, cell-stands}

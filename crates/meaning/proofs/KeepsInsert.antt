@@ -20,7 +20,7 @@ use Rattle.meaning.specs.Keys.{shared}
 use Rattle.meaning.specs.Row.{Node, headNode, firstOf, placesAfter, places, nodeAt}
 use Rattle.meaning.specs.State.{State, keyOf, positionKey}
 use Rattle.meaning.specs.Operations.{paid, finished, withRow, parentIn, positionAfter, revivedNode, revived, Slot, newNode, slotFor, slotOwes, added}
-use Rattle.meaning.proofs.Order.{Asc}
+use Rattle.meaning.proofs.AscendingRow.{Asc}
 use Rattle.meaning.proofs.Keys.{shared-less, ultra}
 use Rattle.meaning.proofs.State.{Sound, Debt, cellsIn, base-positive}
 use Rattle.meaning.proofs.Picture.{first-has}

@@ -17,7 +17,7 @@ use Rattle.meaning.specs.Row.{Node, headNode, firstOf, Place, headPlace,
 use Rattle.meaning.specs.State.{State, keyOf, positionKey}
 use Rattle.meaning.specs.Operations.{deadFront, fromLive, lastOf, lastAlone}
 use Rattle.meaning.proofs.State.{Sound, Debt, cellsIn}
-use Rattle.meaning.proofs.Cells.{row-range}
+use Rattle.meaning.proofs.StateCells.{row-range}
 use Rattle.meaning.proofs.Places.{Located, occurs-found, keyOf-same, keyOf-other, keyOf-first, places-nodes, Keeping, changedPlace}
 use Rattle.meaning.proofs.Places.{cells-changed, keyOf-head-changed, asc-changed, firstOf-changed, places-changed}
 

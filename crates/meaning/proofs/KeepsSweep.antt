@@ -12,7 +12,7 @@ use Rattle.lists.proofs.All.{All, all-map, all-append, all-left, all-right, all
 use Rattle.meaning.specs.Row.{Node, headNode}
 use Rattle.meaning.specs.State.{State, keyOf}
 use Rattle.meaning.specs.Operations.{paid, deadFront, fromLive, lastOf, lastAlone, freedBy, swept}
-use Rattle.meaning.proofs.Order.{Asc, asc-above}
+use Rattle.meaning.proofs.AscendingRow.{Asc, asc-above}
 use Rattle.meaning.proofs.State.{Sound, cellsIn}
 use Rattle.meaning.proofs.Places.{keyOf-same, keyOf-other, asc-right, Keeping, cells-changed, keyOf-head-changed, asc-changed}
 use Rattle.meaning.proofs.KeepsState.{cells-positive, unowing-debts, row-split, deadFront-dead, last-split, last-cases}

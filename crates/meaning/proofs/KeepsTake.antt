@@ -9,7 +9,7 @@ use Rattle.lists.proofs.All.{All, all-map, all-append}
 use Rattle.meaning.specs.Row.{Node, headNode}
 use Rattle.meaning.specs.State.{State, keyOf}
 use Rattle.meaning.specs.Operations.{deadFront, fromLive, deadNode, taken}
-use Rattle.meaning.proofs.Order.{Asc}
+use Rattle.meaning.proofs.AscendingRow.{Asc}
 use Rattle.meaning.proofs.State.{Sound}
 use Rattle.meaning.proofs.Places.{Keeping, onCell, onCell-cases, onCell-keeping, asc-larger}
 use Rattle.meaning.proofs.KeepsState.{cell-stands, keyOf-row, changed-sound, deadFront-dead, live-split}

@@ -5,8 +5,8 @@ use mathlib.Core.Bool.{true, false}
 use mathlib.Core.Logic.{_↔_}
 use mathlib.Core.List.{List, [], _∷_}
 use Prim.Native.Nat.{ℕ, zero, suc, _+_, _*_, _-_, _/_, _%_, _^_, _≤_, _<_, min}
-use native.Mathlib.Nat.{add-zero, pow-zero, pow-suc, pow-succ', mod-lt, mod-eq-of-lt, zero-mod, mul-add-mod-self-right, zero-div, div-one}
-use native.Mathlib.Nat.{div-eq-of-lt, div-add-mod', div-mul-le-self, div-div-eq-div-mul, le-div-iff-mul-le, div-lt-iff-lt-mul, mul-add-div-right}
+use native.Mathlib.Nat.{add-zero, pow-zero, pow-suc, mod-lt, mod-eq-of-lt, zero-mod, mul-add-mod-self-right, zero-div}
+use native.Mathlib.Nat.{div-eq-of-lt, div-add-mod', div-mul-le-self, le-div-iff-mul-le, div-lt-iff-lt-mul, mul-add-div-right}
 use native.Mathlib.Decide.{ℕ-discrete, decLt}
 use native.Mathlib.Omega.{arith}
 use lib.ListN.{length, getD, length-append, List·getD-append, List·getD-eq-default}
@@ -68,14 +68,6 @@ shared-sym b (suc D) x y = go (ℕ-discrete x y) (shared-sym b D (x / b) (y / b)
 pub shared-less : (b D x y : ℕ) → 0 < D → (x ≡ y → ⊥) → shared b D x y < D
 shared-less b zero x y pos ne = omega arith
 shared-less b (suc D) x y pos ne = omega (arith, shared-other b D x y ne, shared-le b D (x / b) (y / b))
-
--- only equal keys share all coordinates
-pub shared-all : (b D x y : ℕ) → 0 < D → shared b D x y ≡ D → x ≡ y
-shared-all b D x y pos e = go (ℕ-discrete x y)
-  where
-    go : Dec (x ≡ y) → x ≡ y
-    go (yes q) = q
-    go (no ne) = absurd (omega (arith, e, shared-less b D x y pos ne))
 
 -- the law that carries the theory of the shape: of three keys in order, the outer two share what both neighbours share
 pub ultra : (b D x y z : ℕ) → 0 < b → x ≤ y → y ≤ z → shared b D x z ≡ min (shared b D x y) (shared b D y z)
@@ -144,20 +136,6 @@ pub coordinate-head : (b D d : ℕ) → coordinate b D 0 d ≡ 0
 coordinate-head b zero d = coordinate-behind b 0 0 d (omega arith)
 coordinate-head b (suc D) d =
     coordinate-cases (λ c. c ≡ 0) b D 0 d refl (zero-mod b) (ap (λ key. coordinate b D key d) (zero-div b) ∙ coordinate-head b D d)
-
--- coordinate d as a digit
-pub coordinate-is : (b D key d : ℕ) → 0 < b → d < D → coordinate b D key d ≡ key / b ^ (D - suc d) % b
-coordinate-is b zero key d pos h = omega arith
-coordinate-is b (suc D) key d pos h = go (decLt d D) (coordinate-is b D (key / b) d pos)
-  where
-    go : Dec (d < D) → (d < D → coordinate b D (key / b) d ≡ key / b / b ^ (D - suc d) % b) → coordinate b (suc D) key d ≡ key / b ^ (suc D - suc d) % b
-    go (yes front) i =
-        let e : suc D - suc d ≡ suc (D - suc d) = omega arith in
-        coordinate-front b D key d front ∙ i front ∙ rw (e, pow-succ', div-div-eq-div-mul) refl
-    go (no more) i =
-        let e : d ≡ D = omega (arith, h, more) in
-        let f : suc D - suc D ≡ 0 = omega arith in
-        rw (e, coordinate-last b D key, f, pow-zero b, div-one key) refl
 
 -- Coordinates of two keys
 

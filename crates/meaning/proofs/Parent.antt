@@ -16,7 +16,7 @@ use Rattle.meaning.specs.Row.{Node, headNode, firstSharing, Place, place
 use Rattle.meaning.specs.State.{State, keyOf}
 use Rattle.meaning.specs.Picture.{firstWith}
 use Rattle.meaning.specs.Operations.{leadsTo, dimensionAt, parentIn}
-use Rattle.meaning.proofs.Order.{Asc, asc-above}
+use Rattle.meaning.proofs.AscendingRow.{Asc, asc-above}
 use Rattle.meaning.proofs.Keys.{shared-same, shared-less, ultra}
 use Rattle.meaning.proofs.Places.{asc-left, places-nodes, lastFrom, dimensionFrom}
 
@@ -505,17 +505,6 @@ module _ (s : State) (pre : List Node) (x : Node) (post : List Node) (pos : 0 < 
       let n = apart-at headNode pre x post o in
       rw (place-at b D headNode 0 headNode 0 pre x post (n .0, all-left (λ z. z .cell ≡ x .cell → ⊥) pre post (n .1)))
       (leads-first b D pos deep headNode 0 headNode 0 pre x post a (λ e. n .0 (sym e)) (n .1) (λ h. omega arith))
-
-  -- the same, of the whole row: the first of the head and all standing cells
-  pub parent-in-row :
-      parentIn s (x .cell) (pre ++ x ∷ post)
-      ≡ firstWith (s .settings .base) (s .settings .dimensions) (lastFrom headNode pre .key)
-          (suc (dimensionAfter (s .settings .base) (s .settings .dimensions) headNode pre (x .key))) (headNode ∷ (pre ++ x ∷ post))
-  parent-in-row =
-      let b = s .settings .base in
-      let D = s .settings .dimensions in
-      parent-is ∙ sym (first-front b D (lastFrom headNode pre .key) (suc (dimensionAfter b D headNode pre (x .key))) headNode pre (x ∷ post)
-          (last-shares b D deep headNode pre x post a))
 
   -- a place with a settled link that leads to x is the parent, and the link's number is x's dimension
   pub parent-unique :

@@ -19,7 +19,7 @@ use Rattle.meaning.specs.Row.{Node, headNode, firstSharing, Place, place
 use Rattle.meaning.specs.State.{State, positionKey}
 use Rattle.meaning.specs.Picture.{firstWith, path}
 use Rattle.meaning.specs.Layer.Paths.{pathFor, onward}
-use Rattle.meaning.proofs.Order.{Asc}
+use Rattle.meaning.proofs.AscendingRow.{Asc}
 use Rattle.meaning.proofs.Keys.{shared-same, shared-sym, shared-le, shared-less, ultra, triangle}
 use Rattle.meaning.proofs.Places.{asc-left, lastFrom}
 use Rattle.meaning.proofs.Parent.{dimensionAfter, Apart, ParentPlace, asc-last, last-least, last-greatest, sharing-skips, sharing-hits}

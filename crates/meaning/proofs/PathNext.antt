@@ -17,10 +17,10 @@ use Rattle.meaning.specs.Words.{keyAt, markAt}
 use Rattle.meaning.specs.Walk.{linkRead}
 use Rattle.meaning.specs.Operations.{dimensionAt, lastOf}
 use Rattle.meaning.specs.Layer.Paths.{pathFor, PathOf, dimensionIn, onward, NextCell, nextFrom}
-use Rattle.meaning.proofs.Order.{Asc}
+use Rattle.meaning.proofs.AscendingRow.{Asc}
 use Rattle.meaning.proofs.Keys.{shared-less}
 use Rattle.meaning.proofs.State.{Sound, base-positive}
-use Rattle.meaning.proofs.Cells.{row-range}
+use Rattle.meaning.proofs.StateCells.{row-range}
 use Rattle.meaning.proofs.KeepsState.{cell-alone}
 use Rattle.meaning.proofs.Places.{lastFrom}
 use Rattle.meaning.proofs.Parent.{Apart, all-last, asc-last, apart-left, apart-before, place-at}

@@ -19,7 +19,7 @@ use Rattle.meaning.specs.State.{State, positionKey}
 use Rattle.meaning.specs.Picture.{firstWith, path}
 use Rattle.meaning.specs.Operations.{deadFront, fromLive, deadNode, keysAbove, keysPassed, taken, lastOf}
 use Rattle.meaning.specs.Layer.Paths.{pathFor, PathOf}
-use Rattle.meaning.proofs.Order.{Asc, asc-above}
+use Rattle.meaning.proofs.AscendingRow.{Asc, asc-above}
 use Rattle.meaning.proofs.State.{Sound}
 use Rattle.meaning.proofs.Places.{Located, asc-left, asc-smaller, asc-larger, Keeping, onCell, keyOf-head-changed}
 use Rattle.meaning.proofs.KeepsState.{position-cases, position-head, position-node}

@@ -20,7 +20,7 @@ use Rattle.meaning.specs.declared.Step.{Step}
 use Rattle.meaning.specs.declared.Step.the-variants.{Go, Up}
 use Rattle.meaning.specs.declared.Rest.{Rest}
 use Rattle.meaning.specs.Layer.Resting.{atHead, restAfter, restOver, rest}
-use Rattle.meaning.proofs.Order.{Asc}
+use Rattle.meaning.proofs.AscendingRow.{Asc}
 use Rattle.meaning.proofs.Keys.{shared-same, shared-le}
 use Rattle.meaning.proofs.State.{Sound, base-positive}
 use Rattle.meaning.proofs.Parent.{dimension-least, first-skips, first-hits}

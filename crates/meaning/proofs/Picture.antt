@@ -24,7 +24,7 @@ use Rattle.meaning.specs.Picture.{standingWords, freeWords, wordsOf, pat
 use Rattle.meaning.specs.Words.{wordAt}
 use Rattle.meaning.proofs.Keys.{coordinates-length}
 use Rattle.meaning.proofs.State.{Sound}
-use Rattle.meaning.proofs.Cells.{cells-distinct}
+use Rattle.meaning.proofs.StateCells.{cells-distinct}
 
 -- How long the parts are
 

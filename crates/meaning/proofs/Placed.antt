@@ -23,12 +23,11 @@ use Rattle.meaning.specs.Sentences.{Free, Standing}
 use Rattle.meaning.specs.Writes.{OwesNothing}
 use Rattle.meaning.specs.Reading.{settingsAt}
 use Rattle.meaning.proofs.State.{Sound, cellsIn}
-use Rattle.meaning.proofs.Order.{asc-above}
-use Rattle.meaning.proofs.Cells.{row-range, free-range}
+use Rattle.meaning.proofs.AscendingRow.{asc-above}
+use Rattle.meaning.proofs.StateCells.{row-range, free-range, cells-cover}
 use Rattle.meaning.proofs.Picture.{picture-word, place-here, place-past, Told, told, places-cells, free-found, freeWords-rest, shownWords}
 use Rattle.meaning.proofs.Picture.{picture-path, place-found}
 use Rattle.meaning.proofs.Places.{keyOf-same, keyOf-other, node-found, nodes-passed}
-use Rattle.meaning.proofs.SentencesNumbers.{cells-cover}
 use Rattle.meaning.proofs.WalkRead.{Held, all-places, places-held, standing-word, standing-coordinate, standing-link}
 use Rattle.meaning.proofs.Stores.{picture-exact, field-cases, words-equal}
 

@@ -16,7 +16,7 @@ use Rattle.lists.proofs.All.{All, all-zip}
 use Rattle.meaning.specs.Keys.{shared}
 use Rattle.meaning.specs.Row.{Node, headNode, firstOf, Place, headPlace, placesAfter, places, nodeAt}
 use Rattle.meaning.specs.State.{keyOf}
-use Rattle.meaning.proofs.Order.{Asc, asc-weaken, asc-above}
+use Rattle.meaning.proofs.AscendingRow.{Asc, asc-weaken, asc-above}
 
 -- Members
 
@@ -146,19 +146,6 @@ lastFrom a (x ∷ row) = lastFrom x row
 unfoldable pub dimensionFrom : ℕ → ℕ → Node → ℕ → List Node → ℕ
 dimensionFrom b D a e [] = e
 dimensionFrom b D a e (x ∷ row) = dimensionFrom b D x (shared b D (a .key) (x .key)) row
-
--- a place with more later nodes
-abbrev pub longerPlace : List Node → Place → Place
-longerPlace more n = record { node = n .node; dimension = n .dimension; before = n .before; beforeDimension = n .beforeDimension; later = n .later ++ more }
-
-pub placesAfter-append : (b D : ℕ) (a : Node) (e : ℕ) (front later : List Node) →
-    placesAfter b D a e (front ++ later) ≡ map (longerPlace later) (placesAfter b D a e front) ++ placesAfter b D (lastFrom a front)
-    (dimensionFrom b D a e front) later
-unfolding placesAfter lastFrom dimensionFrom
-placesAfter-append b D a e [] later = refl
-placesAfter-append b D a e (x ∷ front) later =
-    ap {B = List Place} (λ r. record { node = x; dimension = shared b D (a .key) (x .key); before = a; beforeDimension = e; later = front ++ later } ∷ r)
-    (placesAfter-append b D x (shared b D (a .key) (x .key)) front later)
 
 -- A change of nodes that keeps each one's cell and key, and the head.
 pub record Keeping (f : Node → Node) : Type 0 where

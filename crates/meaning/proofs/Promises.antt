@@ -24,7 +24,7 @@ use Rattle.meaning.specs.Promises.{InsertWrites, FinishWrites, SweepWrit
 use Rattle.meaning.specs.Promises.{ListMeansSentences, WalkIsRule, WalkOnce, WalkBounded, WalkEnds, WalkByKeysAlone, OrderIsLexicographic}
 use Rattle.meaning.specs.Promises.{OneOutcome}
 use Rattle.meaning.proofs.Keys.{shared-agreed, lexicographic, coordinates-determine}
-use Rattle.meaning.proofs.Ascending.{asc-rising, rising-equal}
+use Rattle.meaning.proofs.AscendingKeys.{asc-rising, rising-equal}
 use Rattle.meaning.proofs.State.{Sound, base-positive, base-above}
 use Rattle.meaning.proofs.Reading.{list-sound, picture-is-list, read-of-picture}
 use Rattle.meaning.proofs.Outcomes as outcomes

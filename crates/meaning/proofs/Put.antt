@@ -1,4 +1,4 @@
--- Nodes chosen by a test, and a node put in its place in a row: put x among those of a row that are chosen, and x is chosen too.
+-- A node put in its place in a row.
 use mathlib.Core.Path.{_≡_, refl}
 use mathlib.Core.List.{List, [], _∷_}
 use Prim.Native.Nat.{_<_}
@@ -6,8 +6,6 @@ use native.Mathlib.Omega.{arith}
 use borrow.Author.Tests.{le-leb, lt-leb}
 use Rattle.lists.proofs.All.{All}
 use Rattle.meaning.specs.Row.{Node, put}
-
--- Putting a node in its place
 
 pub put-front : (x : Node) (row : List Node) → All (λ y. x .key < y .key) row → put x row ≡ x ∷ row
 unfolding put

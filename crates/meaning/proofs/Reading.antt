@@ -29,10 +29,10 @@ use Rattle.meaning.specs.Row.{Node, headNode, firstOf, Place, headPlace,
 use Rattle.meaning.specs.State.{State, keyOf, positionKey, valid}
 use Rattle.meaning.specs.Picture.{mark, standingWords, nextFree, freeWords, wordsOf, firstWith, path, cellPictures, picture}
 use Rattle.meaning.specs.Reading.{nodeOf, standing, chain, cellBlocks, read, sized, isList}
-use Rattle.meaning.proofs.Order.{Asc, asc-above}
+use Rattle.meaning.proofs.AscendingRow.{Asc, asc-above}
 use Rattle.meaning.proofs.Keys.{shared-same, shared-less}
 use Rattle.meaning.proofs.State.{Sound, valid-sound, sound-valid}
-use Rattle.meaning.proofs.Cells.{row-distinct, free-distinct, row-range, free-range, free-length}
+use Rattle.meaning.proofs.StateCells.{row-distinct, free-distinct, row-range, free-range, free-length}
 use Rattle.meaning.proofs.Put.{put-front, put-past}
 use Rattle.meaning.proofs.Picture.{shownWords, shown-length, path-length, picture-length, picture-path, place-past, Told, told, first-has}
 use Rattle.meaning.proofs.Picture.{free-found, freeWords-rest, places-later}

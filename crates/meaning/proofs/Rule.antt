@@ -14,7 +14,7 @@ use Rattle.lists.proofs.Tests.{both, and-both, tests-same}
 use Rattle.meaning.specs.Keys.{coordinate, shared}
 use Rattle.meaning.specs.Row.{Node}
 use Rattle.meaning.specs.Rule.{counted, leastAbove, plusOne, rule}
-use Rattle.meaning.proofs.Order.{Asc, asc-above}
+use Rattle.meaning.proofs.AscendingRow.{Asc, asc-above}
 use Rattle.meaning.proofs.Keys.{shared-same, shared-sym, shared-less, ultra, triangle, coordinate-same, coordinate-less}
 
 -- the keys of a row

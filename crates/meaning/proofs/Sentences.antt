@@ -22,7 +22,7 @@ use Rattle.meaning.specs.Sentences.{Standing, sharedAt, NextLarger, Dime
 use Rattle.meaning.specs.Sentences.Chained.{ended, chained-on}
 use Rattle.meaning.proofs.Keys.{shared-same, shared-le, shared-sym}
 use Rattle.meaning.proofs.State.{Sound, Debt}
-use Rattle.meaning.proofs.Cells.{free-range, free-distinct}
+use Rattle.meaning.proofs.StateCells.{free-range, free-distinct}
 use Rattle.meaning.proofs.Picture.{picture-length, picture-path, free-found, places-later}
 use Rattle.meaning.proofs.Reading.{Follow, distinct-follow, position-read, list-is-picture, list-sound}
 use Rattle.meaning.proofs.WalkRead.{between-is, link-read, between-facts, linkDue, linkOwing, link-tested, undue-above, read-through}

@@ -10,7 +10,7 @@ use Rattle.lists.proofs.All.{All, all-map, all-zip, members}
 use Rattle.meaning.specs.Keys.{shared}
 use Rattle.meaning.specs.Row.{Node, headNode, firstSharing, Place, headPlace, placesAfter, places}
 use Rattle.meaning.specs.Picture.{firstWith}
-use Rattle.meaning.proofs.Order.{Asc, asc-above}
+use Rattle.meaning.proofs.AscendingRow.{Asc, asc-above}
 
 -- Members
 

@@ -11,14 +11,14 @@ use borrow.Author.Tests.{le-leb, lt-leb}
 use Rattle.lists.specs.Compared.{agreed}
 use Rattle.lists.proofs.All.{All, all-map, all-zip, all-in}
 use Rattle.meaning.specs.Keys.{coordinate, coordinates, shared}
-use Rattle.meaning.specs.Row.{Node, headNode, firstOf, Place, placesAfter, places, settledLink, firstSharing}
+use Rattle.meaning.specs.Row.{Node, headNode, Place, placesAfter, places, settledLink, firstSharing}
 use Rattle.meaning.specs.State.{State, placesOf}
 use Rattle.meaning.specs.Picture.{picture}
 use Rattle.meaning.specs.Words.{keyAt}
 use Rattle.meaning.specs.Sentences.{sharedAt, digitAt, NextSmaller, NextLarger, Dimension, Settled, LargerAt}
 use Rattle.meaning.specs.Sentences.Dimension.{of-head, of-other}
 use Rattle.meaning.specs.Sentences.Settled.{leads, leads-nowhere, below-dimension}
-use Rattle.meaning.proofs.Order.{Asc, asc-above}
+use Rattle.meaning.proofs.AscendingRow.{Asc, asc-above}
 use Rattle.meaning.proofs.Keys.{shared-agreed, coordinate-less, coordinate-larger}
 use Rattle.meaning.proofs.State.{Sound, base-positive, base-above}
 use Rattle.meaning.proofs.Picture.{place-found, places-later}
@@ -172,12 +172,6 @@ module _ {s : State} (v : Sound s) where
   place-next-smaller {x} here h =
       let (q, there, next) = place-before here h in
       subst (NextSmaller (picture s) x) (sym (ap (λ y. y .cell) (next .before))) (next-smaller here there next)
-
-  -- "the standing cell of next larger key"
-  pub place-next-larger : {x : ℕ} {p : Place} → Placed s x p → 0 < length (p .later) → NextLarger (picture s) x (firstOf (p .later) .cell)
-  place-next-larger {x} here h =
-      let (q, there, next) = place-after here h in
-      subst (NextLarger (picture s) x) (sym (ap (λ l. firstOf l .cell) (next .later))) (next-larger here there next)
 
   -- "A standing cell's dimension is the number of leading coordinates it shares with the standing cell of next smaller key; the head's
   -- is 0."

@@ -17,11 +17,11 @@ use Rattle.meaning.specs.Operations.{sweepOut, insertOut, swept, freedBy
 use Rattle.meaning.specs.Calls.{outcome}
 use Rattle.meaning.specs.Promises.{EachCellOnce, SweptCellsFirst, UsesFirst, InsertUsesFirst}
 use Rattle.meaning.specs.Words.{cellsAt}
+use Rattle.meaning.proofs.StateCells.{cells-cover}
 use Rattle.meaning.proofs.State.{Sound, cellsIn}
-use Rattle.meaning.proofs.SentencesNumbers.{cells-cover}
 use Rattle.meaning.proofs.Reading.{read-of-picture}
 use Rattle.meaning.proofs.Places.{node-found}
-use Rattle.meaning.proofs.Ascending.{member-past}
+use Rattle.meaning.proofs.AscendingKeys.{member-past}
 use Rattle.meaning.proofs.Slot.{gap, slot-is}
 use Rattle.meaning.proofs.KeepsSweep.{swept-sound}
 use Rattle.meaning.proofs.KeepsInsert.{added-sound, added-row}

@@ -5,7 +5,7 @@ use mathlib.Core.Path.{_≡_, refl, _∙_, sym, ap, ap₂, subst}
 use mathlib.Core.Bool.{false, cond}
 use mathlib.Core.List.{List, [], _∷_, _++_, map, map-append}
 use mathlib.Core.Option.{Option, none, some}
-use Prim.Native.Nat.{ℕ, suc, _≤_, _<_, min}
+use Prim.Native.Nat.{ℕ, suc, _≤_, _<_}
 use native.Mathlib.Omega.{arith}
 use native.Mathlib.Decide.{ℕ-discrete, decLt, decLe}
 use lib.Dec.{eqb, leb}
@@ -19,10 +19,10 @@ use Rattle.meaning.specs.Row.{Node, headNode, firstOf, firstSharing, Pla
 use Rattle.meaning.specs.State.{State, keyOf}
 use Rattle.meaning.specs.Picture.{firstWith}
 use Rattle.meaning.specs.Operations.{dimensionAt, settledLinkAt, parentIn, Slot, newNode, slotFor}
-use Rattle.meaning.proofs.Order.{Asc, asc-above}
+use Rattle.meaning.proofs.AscendingRow.{Asc, asc-above}
 use Rattle.meaning.proofs.Keys.{shared-less, ultra}
 use Rattle.meaning.proofs.State.{Sound, base-positive}
-use Rattle.meaning.proofs.Cells.{cells-distinct}
+use Rattle.meaning.proofs.StateCells.{cells-distinct}
 use Rattle.meaning.proofs.Places.{keyOf-first, asc-left, lastFrom, Keeping}
 use Rattle.meaning.proofs.Put.{put-front, put-past}
 use Rattle.meaning.proofs.Parent.{dimensionAfter, parentAfter, Without, Apart, ParentPlace, all-last, asc-last, last-least, apart-left}
@@ -69,9 +69,6 @@ put-between x (y ∷ pre) post l g = put-past x y (pre ++ post) (l .0) ∙ ap {B
 pub put-gap : (x : Node) (row : List Node) (g : Gap (x .key) row) → put x row ≡ g .pre ++ x ∷ g .post
 put-gap x row g = ap (put x) (g .splits) ∙ put-between x (g .pre) (g .post) (g .below) (g .above)
 
-pub put-splits : (x : Node) (row : List Node) → Asc 0 row → nodeAt (x .key) row ≡ none → (g : Gap (x .key) row) × (put x row ≡ g .pre ++ x ∷ g .post)
-put-splits x row a e = let g = gap (x .key) 0 row a e in (g, put-gap x row g)
-
 -- the row still ascends, and its cells still differ
 pub asc-put : (low : ℕ) (x : Node) (pre post : List Node) → low < x .key → Asc low (pre ++ post) → All (λ y. y .key < x .key) pre →
     All (λ y. x .key < y .key) post → Asc low (pre ++ x ∷ post)
@@ -85,14 +82,6 @@ apart-put y x (z ∷ pre) post o w = (
       (λ e. w .0 (sym e), all-right (λ t. t .cell ≡ y .cell → ⊥) pre post (o .0 .1))),
   apart-put z x pre post (o .1) (w .1),
 )
-
--- what the key before a new one shares with the next larger node: that node's dimension so far
-pub next-dimension :
-    (b D key : ℕ) (pre : List Node) (x : Node) → 0 < b → 0 < key → All (λ y. y .key < key) pre → key < x .key →
-    dimensionAfter b D headNode pre (x .key) ≡ min (dimensionAfter b D headNode pre key) (shared b D key (x .key))
-next-dimension b D key pre x pos h l g =
-    let low : lastFrom headNode pre .key < key = all-last (λ z. z .key < key) headNode pre h l in
-    ultra b D (lastFrom headNode pre .key) key (x .key) pos (omega arith) (omega arith)
 
 -- The cells of a state
 

@@ -18,7 +18,7 @@ use Rattle.meaning.specs.Keys.{shared}
 use Rattle.meaning.specs.Row.{firstOf, Place, places, Node}
 use Rattle.meaning.specs.State.{State, positionKey, ascending, debtHolds, settingsHold, keysHold, cellsHold, valuesHold, debtsHold}
 use Rattle.meaning.specs.State.{positionHolds, tests, valid}
-use Rattle.meaning.proofs.Order.{Asc, ascending-asc, asc-ascending}
+use Rattle.meaning.proofs.AscendingRow.{Asc, ascending-asc, asc-ascending}
 
 -- the cells of a state that are not the head: standing, then free
 abbrev pub cellsIn : State → List ℕ

@@ -222,13 +222,6 @@ pub moveLinks-below : (D : ℕ) (ws : List ℕ) (n c d k i : ℕ) → i < header
 moveLinks-below D ws n c d k i h =
     moveLinks-kept D ws n c d k i (λ m l u. (index-above D n (linkField D m) i h, index-above D c (linkField D m) i h))
 
--- the words of a cell that is neither of the two
-pub moveLinks-cell : (D : ℕ) (ws : List ℕ) (n c d k : ℕ) → d + k ≤ D → (x j : ℕ) → j < cellWords D → (x ≡ n → ⊥) → (x ≡ c → ⊥) →
-    wordIn D (moveLinks D ws n c d k) x j ≡ wordIn D ws x j
-moveLinks-cell D ws n c d k fit x j h not-n not-c =
-    moveLinks-kept D ws n c d k (wordIndex D x j)
-    (λ m l u. (λ e. not-n (index-apart D x n j (linkField D m) h (omega arith) e .0), λ e. not-c (index-apart D x c j (linkField D m) h (omega arith) e .0)))
-
 -- a field that is none of the links in question
 pub moveLinks-field : (D : ℕ) (ws : List ℕ) (n c d k : ℕ) → d + k ≤ D → (x j : ℕ) → j < cellWords D →
     ((m : ℕ) → d ≤ m → m < d + k → j ≡ linkField D m → ⊥) → wordIn D (moveLinks D ws n c d k) x j ≡ wordIn D ws x j

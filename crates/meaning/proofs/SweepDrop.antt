@@ -24,7 +24,7 @@ use Rattle.meaning.specs.Layer.SweepStores.{dropFront}
 use Rattle.meaning.specs.Words.{linkField}
 use Rattle.meaning.proofs.Keys.{shared-same, shared-le, shared-less}
 use Rattle.meaning.proofs.State.{Sound, base-positive}
-use Rattle.meaning.proofs.Cells.{row-distinct, row-range}
+use Rattle.meaning.proofs.StateCells.{row-distinct, row-range}
 use Rattle.meaning.proofs.Picture.{picture-free, picture-path, place-here, place-past, free-found}
 use Rattle.meaning.proofs.Places.{lastFrom, dimensionFrom, keyOf-same, keyOf-other}
 use Rattle.meaning.proofs.KeepsState.{cell-alone}

@@ -18,7 +18,7 @@ use Rattle.meaning.specs.Operations.{paid, finished, withRow}
 use Rattle.meaning.specs.Layer.Stores.{finishWords}
 use Rattle.meaning.specs.Layer.SweepStores.{finishAll}
 use Rattle.meaning.proofs.State.{Sound}
-use Rattle.meaning.proofs.Cells.{row-range}
+use Rattle.meaning.proofs.StateCells.{row-range}
 use Rattle.meaning.proofs.Picture.{place-none, places-cells}
 use Rattle.meaning.proofs.Places.{onCell, onCell-cases}
 use Rattle.meaning.proofs.KeepsState.{changed-sound}

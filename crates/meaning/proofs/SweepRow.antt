@@ -10,7 +10,7 @@ use lib.Seq.{append-snoc}
 use Rattle.lists.proofs.All.{All, all-map}
 use Rattle.meaning.specs.Keys.{coordinate, shared}
 use Rattle.meaning.specs.Row.{Node, headNode, firstSharing, Place}
-use Rattle.meaning.proofs.Order.{Asc}
+use Rattle.meaning.proofs.AscendingRow.{Asc}
 use Rattle.meaning.proofs.Keys.{ultra, coordinate-head, shared-past, shared-stop}
 use Rattle.meaning.proofs.Places.{asc-left, asc-smaller, asc-larger, lastFrom, asc-right}
 use Rattle.meaning.proofs.Parent.{dimensionAfter, Apart, ParentPlace, asc-last, last-least, apart-left, sharing-skips, sharing-hits}

@@ -1,15 +1,15 @@
 -- What document 01 says of a sweep, as laws of the swept state and its words: nobody owes, the freed cells are at the front of the free
 -- chain, the one of greatest key first, live nodes stay as they are, and the position is the greatest dead cell below every live key.
 use mathlib.Core.Path.{_≡_, refl, sym, ap, _∙_, subst}
-use mathlib.Core.Bool.{Bool, true, false, cond, true≢false}
-use mathlib.Core.List.{List, [], _∷_, _++_, map, reverse, reverseAux, dropLast}
+use mathlib.Core.Bool.{Bool, true, false, true≢false}
+use mathlib.Core.List.{List, [], _∷_, _++_, map, dropLast}
 use mathlib.Core.Logic.{_⊎_, inl, inr}
 use mathlib.Core.Option.{Option, none, some}
 use Prim.Native.Nat.{ℕ, zero, suc, _≤_, _<_}
 use native.Mathlib.Decide.{decLt}
 use native.Mathlib.Omega.{arith}
 use lib.ListN.{getD}
-use Rattle.lists.specs.Lists.{those, occurrences, firstNumber}
+use Rattle.lists.specs.Lists.{occurrences}
 use Rattle.lists.proofs.Occurrences.{occurrences-reverseAux, all-occur}
 use Rattle.lists.proofs.All.{All, all-map, all-append, all-left, all-zip, all-of-map, all-at}
 use Rattle.meaning.specs.Row.{Node, headNode, Place, headPlace, placeOf}
@@ -19,9 +19,8 @@ use Rattle.meaning.specs.Words.{keyAt, valueAt, markAt, linkAt, position
 use Rattle.meaning.specs.Operations.{paid, deadFront, fromLive, lastOf, lastAlone, freedBy, swept}
 use Rattle.meaning.specs.Sentences.{Free, Standing, Settled, Owing}
 use Rattle.meaning.specs.Writes.{OwesNothing, Swept}
-use Rattle.meaning.proofs.Order.{Asc, asc-above}
+use Rattle.meaning.proofs.AscendingRow.{Asc, asc-above}
 use Rattle.meaning.proofs.State.{Sound}
-use Rattle.meaning.proofs.Picture.{picture-free}
 use Rattle.meaning.proofs.Places.{asc-left, asc-right}
 use Rattle.meaning.proofs.KeepsState.{cells-positive, row-split, deadFront-dead, fromLive-live, live-split, last-split, last-cases}
 use Rattle.meaning.proofs.KeepsSweep.{keptBy, swept-split, kept-asc, swept-dead, swept-sound}
@@ -54,34 +53,6 @@ swept-owes-nothing s v x h = at (placeOf x (placesOf (swept s) (swept s .row))) 
 
 -- "frees every cell strictly between head and position in key order, each put at the front of the free chain"
 
--- each key is above all that follow
-abbrev pub Descending : List Node → Type 0
-Descending [] = Unit {0}
-Descending (x ∷ row) = All (λ y. y .key < x .key) row × Descending row
-
-descending-onto : (key : ℕ) (xs ys : List Node) → Asc key xs → All (λ y. y .key ≤ key) ys → Descending ys → Descending (reverseAux xs ys)
-descending-onto key [] ys asc low down = down
-descending-onto key (x ∷ xs) ys asc low down =
-    let above = asc .0 in
-    descending-onto (x .key) xs (x ∷ ys) (asc .1) (omega arith, all-map (λ y h. omega arith) ys low) (all-map (λ y h. omega arith) ys low, down)
-
-pub freed-descending : (s : State) → Sound s → Descending (reverse (freedBy (s .row)))
-freed-descending s v = descending-onto 0 (freedBy (s .row)) [] (asc-left 0 (freedBy (s .row)) (keptBy (s .row))
-    (subst (Asc 0) (swept-split (s .row)) (v .ascends))) tt tt
-
-cells-onto : (xs ys : List Node) (free : List ℕ) → reverseAux (map (λ x. x .cell) xs) (map (λ x. x .cell) ys ++ free)
-    ≡ map (λ x. x .cell) (reverseAux xs ys) ++ free
-cells-onto [] ys free = refl
-cells-onto (x ∷ xs) ys free = cells-onto xs (x ∷ ys) free
-
--- the freed cells are at the front of the chain, the one of greatest key first
-pub swept-chain : (s : State) → swept s .free ≡ map (λ x. x .cell) (reverse (freedBy (s .row))) ++ s .free
-unfolding swept
-swept-chain s = cells-onto (freedBy (s .row)) [] (s .free)
-
-pub swept-first : (s : State) → getD (picture (swept s)) 4 0 ≡ firstNumber (map (λ x. x .cell) (reverse (freedBy (s .row))) ++ s .free)
-swept-first s = picture-free (swept s) ∙ ap firstNumber (swept-chain s)
-
 pub freed-free : (s : State) → Sound s → All (λ x. Free (picture (swept s)) (x .cell)) (freedBy (s .row))
 unfolding swept
 freed-free s v =
@@ -96,30 +67,6 @@ freed-dead : (row : List Node) → All (λ x. x .live ≡ false) (freedBy row)
 unfolding freedBy
 freed-dead row = all-left (λ x. x .live ≡ false) (freedBy row) (lastAlone (deadFront row))
     (subst (All (λ x. x .live ≡ false)) (sym (last-split (deadFront row))) (deadFront-dead row))
-
-those-paid : (row : List Node) → those (λ x. x .live) (map paid row) ≡ map paid (those (λ x. x .live) row)
-unfolding those
-those-paid [] = refl
-those-paid (x ∷ row) = at (x .live) (those-paid row)
-  where
-    at : (t : Bool) → those (λ y. y .live) (map paid row) ≡ map paid (those (λ y. y .live) row) →
-        cond t (paid x ∷ those (λ y. y .live) (map paid row)) (those (λ y. y .live) (map paid row))
-            ≡ map paid (cond t (x ∷ those (λ y. y .live) row) (those (λ y. y .live) row))
-    at true e = ap {B = List Node} (λ r. paid x ∷ r) e
-    at false e = e
-
-those-past : (front later : List Node) → All (λ x. x .live ≡ false) front → those (λ x. x .live) (front ++ later) ≡ those (λ x. x .live) later
-unfolding those
-those-past [] later a = refl
-those-past (x ∷ front) later a = ap (λ t. cond t (x ∷ those (λ y. y .live) (front ++ later)) (those (λ y. y .live) (front ++ later))) (a .0)
-    ∙ those-past front later (a .1)
-
--- only debts change
-pub swept-live : (s : State) → those (λ x. x .live) (swept s .row) ≡ map paid (those (λ x. x .live) (s .row))
-unfolding swept
-swept-live s =
-    those-paid (keptBy (s .row))
-    ∙ ap (map paid) (sym (those-past (freedBy (s .row)) (keptBy (s .row)) (freed-dead (s .row))) ∙ ap (those (λ x. x .live)) (sym (swept-split (s .row))))
 
 -- "moves the position to the greatest dead cell below every live key"
 

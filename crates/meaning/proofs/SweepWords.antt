@@ -15,7 +15,7 @@ use Rattle.meaning.specs.Picture.{picture}
 use Rattle.meaning.specs.Operations.{paid, withRow, deadFront, fromLive, lastOf, lastAlone, freedBy, swept}
 use Rattle.meaning.specs.Layer.Paths.{pathFor, dimensionIn}
 use Rattle.meaning.specs.Layer.SweepStores.{dropFront}
-use Rattle.meaning.proofs.Order.{Asc, asc-above}
+use Rattle.meaning.proofs.AscendingRow.{Asc, asc-above}
 use Rattle.meaning.proofs.State.{Sound}
 use Rattle.meaning.proofs.Places.{Located, cells-changed}
 use Rattle.meaning.proofs.KeepsState.{position-cases, position-node, last-split, lastAlone-is}

@@ -24,10 +24,10 @@ use Rattle.meaning.specs.Words.{keyAt, dimensionsAt, baseAt}
 use Rattle.meaning.specs.Walk.{linkRead, stepAlong, stepAt, onFrom, trailFrom, trail, ends, walk}
 use Rattle.meaning.specs.declared.Step.{Step}
 use Rattle.meaning.specs.declared.Step.the-variants.{Go, Up, End}
-use Rattle.meaning.proofs.Order.{Asc}
+use Rattle.meaning.proofs.AscendingRow.{Asc}
 use Rattle.meaning.proofs.Keys.{shared-same, shared-sym, shared-less, triangle, coordinate-below, coordinate-same, coordinate-less}
 use Rattle.meaning.proofs.State.{Sound, base-positive, base-above}
-use Rattle.meaning.proofs.Cells.{cells-distinct}
+use Rattle.meaning.proofs.StateCells.{cells-distinct}
 use Rattle.meaning.proofs.Picture.{picture-dimensions, picture-base}
 use Rattle.meaning.proofs.Placed.{Own, placed-has, placed-other}
 use Rattle.meaning.proofs.SentencesShape.{places-placed, key-below}

@@ -27,7 +27,7 @@ use Rattle.meaning.specs.Walk.{linkRead}
 use Rattle.meaning.proofs.AgainstSlips.{owed-link-is-read-there}
 use Rattle.meaning.proofs.Keys.{coordinates-length}
 use Rattle.meaning.proofs.State.{Debt, Sound}
-use Rattle.meaning.proofs.Cells.{row-range}
+use Rattle.meaning.proofs.StateCells.{row-range}
 use Rattle.meaning.proofs.Picture.{picture-word, place-found, picture-dimensions}
 use Rattle.meaning.proofs.Places.{places-nodes, row-of-places}
 
@@ -280,11 +280,6 @@ module _ (s : State) (v : Sound s) where
 
   pub key-read : All (λ p. keyAt (picture s) (p .node .cell) ≡ p .node .key) (places (s .settings .base) (s .settings .dimensions) (s .row))
   key-read = all-map (λ p h. h .key) (places (s .settings .base) (s .settings .dimensions) (s .row)) (places-held s v)
-
-  pub coordinate-read : (d : ℕ) → d < s .settings .dimensions →
-      All (λ p. coordinateAt (picture s) (p .node .cell) d ≡ coordinate (s .settings .base) (s .settings .dimensions) (p .node .key) d)
-      (places (s .settings .base) (s .settings .dimensions) (s .row))
-  coordinate-read d l = all-map (λ p h. h .coordinate d l) (places (s .settings .base) (s .settings .dimensions) (s .row)) places-read
 
   -- from a cell's dimension up (below it, a cell to which the one before owes still holds that one's links)
   pub link-read : (d : ℕ) → d < s .settings .dimensions →

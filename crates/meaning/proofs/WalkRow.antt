@@ -18,7 +18,7 @@ use Rattle.meaning.specs.Row.{Node, firstSharing, Place, placesAfter}
 use Rattle.meaning.specs.Walk.{goneTo, ends}
 use Rattle.meaning.specs.declared.Step.{Step}
 use Rattle.meaning.specs.declared.Step.the-variants.{Go, Up, End}
-use Rattle.meaning.proofs.Order.{Asc, asc-above}
+use Rattle.meaning.proofs.AscendingRow.{Asc, asc-above}
 use Rattle.meaning.proofs.Keys.{shared-same, shared-less, ultra, coordinate-below, coordinate-less}
 use Rattle.meaning.proofs.Rule.{meets, met, none-met}
 use Rattle.meaning.proofs.Parent.{sharing-behind}

@@ -25,7 +25,7 @@ use Rattle.meaning.specs.Promises.{FindWritesNothing, TakeWrites, Revive
 use Rattle.meaning.specs.Layer.Stores.{writePath, writeNode}
 use Rattle.meaning.proofs.Stores.{Exact, picture-exact, wordIn, wordAt-in, cell-sets-inside, cell-sets-before, cell-sets-after}
 use Rattle.meaning.proofs.Stores.{cell-sets-other, cell-sets-below, path-sets-header, path-sets-word}
-use Rattle.meaning.proofs.Order.{Asc, asc-above}
+use Rattle.meaning.proofs.AscendingRow.{Asc, asc-above}
 use Rattle.meaning.proofs.State.{Sound, base-positive}
 use Rattle.meaning.proofs.Picture.{path-length, picture-dimensions, picture-cells}
 use Rattle.meaning.proofs.Reading.{read-of-picture}

@@ -1,31 +1,27 @@
 -- What a list gives to whoever goes from cell to cell on its words: they are the picture of a state in order, so every cell that they name
 -- is one of the list's, walks end, and the walk for a standing key builds the path of its cell. It is so too where the words of path
 -- are not yet those of the state.
-use mathlib.Core.Path.{_≡_, refl, sym, ap, _∙_, subst}
+use mathlib.Core.Path.{_≡_, sym, ap, _∙_, subst}
 use mathlib.Core.Bool.{true}
-use mathlib.Core.List.{List, _∷_, map}
+use mathlib.Core.List.{List, _∷_}
 use Prim.Native.Nat.{ℕ, _<_}
 use native.Mathlib.Omega.{arith}
 use lib.ListN.{getD, replicate}
 use Rattle.settings.specs.declared.Settings.{Settings}
-use Rattle.lists.specs.Lists.{occurrences}
 use Rattle.meaning.specs.Row.{headNode, Place}
 use Rattle.meaning.specs.State.{State, keyOf}
 use Rattle.meaning.specs.Picture.{path, picture}
-use Rattle.meaning.specs.Reading.{read}
 use Rattle.meaning.specs.Words.{keyAt, dimensionsAt}
 use Rattle.meaning.specs.Walk.{trail, ends}
 use Rattle.meaning.specs.Layer.Paths.{pathFor, pathOver}
-use Rattle.meaning.specs.Layer.Stores.{writePath}
 use Rattle.meaning.specs.Layer.Listed.{Listed}
-use Rattle.meaning.proofs.State.{Sound, valid-sound, sound-valid, base-positive}
+use Rattle.meaning.proofs.State.{Sound, valid-sound, base-positive}
 use Rattle.meaning.proofs.Picture.{path-length, picture-dimensions}
 use Rattle.meaning.proofs.Walk.{trail-ends}
 use Rattle.meaning.proofs.Stores.{path-sets-header}
-use Rattle.meaning.proofs.Changed.{path-rewritten}
 use Rattle.meaning.proofs.Placed.{Placed, placed-keyOf, placed-below, placed-most, placed-above, place-key, occurs-placed}
 use Rattle.meaning.proofs.CellsWithin.{owed-within, linkRead-within}
-use Rattle.meaning.proofs.Path.{path-is, path-head}
+use Rattle.meaning.proofs.Path.{path-head}
 use Rattle.meaning.proofs.PathWalk.{path-of-cell}
 use Rattle.words.proofs.Listed.{picture-shaped, on-listed}
 use Rattle.paths.specs.declared.Path.{Path}
@@ -38,14 +34,6 @@ picture-walkable t v =
 
 pub listed-walkable : {ws : List ℕ} {s : Settings} → Listed ws s → Walkable ws s
 listed-walkable = on-listed (λ t ws s. Walkable ws s) picture-walkable
-
--- a standing cell of a list, for `path_of`
-pub listed-stands :
-    {ws : List ℕ} {s : Settings} → Listed ws s → (x : ℕ) → 0 < occurrences x (0 ∷ map (λ y. y .cell) (read ws .row)) →
-    StandsIn ws s x (read ws)
-listed-stands h x stands =
-    on-listed (λ t ws s. 0 < occurrences x (0 ∷ map (λ y. y .cell) (t .row)) → StandsIn ws s x t)
-    (λ t v o. record { order = sound-valid t v; settings = refl; words = sym (path-rewritten t); stands = o }) h stands
 
 -- A standing cell, the words of path apart
 
@@ -112,13 +100,3 @@ pub cell-path-other :
     (ws : List ℕ) {s : Settings} {x : ℕ} {r : Path} {k : ℕ} → (x ≡ 0 → ⊥) → k ≡ keyAt ws x → Formed (s .dimensions) r →
     pathOf r ≡ pathOver (s .dimensions) (replicate (s .dimensions) 0) 0 (trail ws k) → CellPath ws s x r
 cell-path-other ws other key f is = record { is = λ t h. is ∙ stands-path h other key; formed = f }
-
--- written as the path of a state's position, it makes the words the picture of the state
-pub path-drawn :
-    {ws : List ℕ} {s : Settings} {x : ℕ} {t : State} {r : Path} → StandsIn ws s x t → x ≡ t .position → CellPath ws s x r →
-    writePath ws (pathOf r) ≡ picture t
-path-drawn {ws} {s} {x} {t} h e p =
-    let own : pathFor (s .base) (s .dimensions) (t .row) (keyOf x (headNode ∷ t .row)) ≡ path t =
-    rw (← h .settings, e) (sym (path-is t))
-    in
-    ap (writePath ws) (p .is t h ∙ own) ∙ sym (h .words)

@@ -20,7 +20,7 @@ use Rattle.meaning.specs.Words.{keyAt}
 use Rattle.meaning.specs.declared.Rest.{Rest}
 use Rattle.meaning.specs.Layer.Resting.{rest}
 use Rattle.meaning.specs.Layer.Listed.{Listed}
-use Rattle.meaning.proofs.Order.{Asc}
+use Rattle.meaning.proofs.AscendingRow.{Asc}
 use Rattle.meaning.proofs.Keys.{shared-sym, shared-less}
 use Rattle.meaning.proofs.State.{Sound, base-positive}
 use Rattle.meaning.proofs.Places.{asc-left, lastFrom, dimensionFrom}

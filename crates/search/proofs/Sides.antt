@@ -16,7 +16,7 @@ use Rattle.meaning.specs.Row.{Node, headNode, firstOf, Place, placesAfter, plac
 use Rattle.meaning.specs.State.{State}
 use Rattle.meaning.specs.Picture.{firstWith}
 use Rattle.meaning.specs.Operations.{lastOf}
-use Rattle.meaning.proofs.Order.{Asc, asc-above}
+use Rattle.meaning.proofs.AscendingRow.{Asc, asc-above}
 use Rattle.meaning.proofs.Keys.{shared-same, shared-less, ultra}
 use Rattle.meaning.proofs.State.{Sound, base-positive}
 use Rattle.meaning.proofs.Places.{asc-left, asc-smaller, asc-larger, places-nodes, lastFrom}

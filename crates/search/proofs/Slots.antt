@@ -16,7 +16,7 @@ use Rattle.lists.proofs.All.{All, all-left, all-right, all-of-map, all-splits}
 use Rattle.meaning.specs.Row.{Node, headNode, Place, places, placeOf, nodeAt}
 use Rattle.meaning.specs.State.{State}
 use Rattle.meaning.specs.Operations.{looked, parentIn, revivedNode, Slot, slotFor}
-use Rattle.meaning.proofs.Order.{Asc}
+use Rattle.meaning.proofs.AscendingRow.{Asc}
 use Rattle.meaning.proofs.Keys.{shared-less}
 use Rattle.meaning.proofs.State.{Sound, base-positive}
 use Rattle.meaning.proofs.Places.{lastFrom, onCell}

@@ -20,9 +20,9 @@ use Rattle.meaning.specs.Refusals.{answer, Meets}
 use Rattle.meaning.specs.Operations.{deadFront, fromLive, keysAbove, keysPassed, lastOf, taken, takeOut}
 use Rattle.meaning.specs.declared.Answer.{Answer}
 use Rattle.meaning.specs.Layer.Listed.{Listed}
-use Rattle.meaning.proofs.Order.{Asc}
+use Rattle.meaning.proofs.AscendingRow.{Asc}
 use Rattle.meaning.proofs.State.{Sound}
-use Rattle.meaning.proofs.Cells.{free-length}
+use Rattle.meaning.proofs.StateCells.{free-length}
 use Rattle.meaning.proofs.Picture.{path-length}
 use Rattle.meaning.proofs.KeepsState.{cell-alone, live-split}
 use Rattle.meaning.proofs.Placed.{mark-one, mark-other, place-key, place-value}

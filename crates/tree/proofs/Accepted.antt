@@ -19,7 +19,7 @@ use Rattle.meaning.specs.State.{State, positionKey}
 use Rattle.meaning.specs.Picture.{firstWith, picture, pathWord}
 use Rattle.meaning.specs.Reading.{settingsAt, isList}
 use Rattle.meaning.specs.Words.{keyAt, markAt, dimensionsAt, largestAt, cellsAt, baseAt, positionAt, firstFreeAt}
-use Rattle.meaning.proofs.Order.{Asc}
+use Rattle.meaning.proofs.AscendingRow.{Asc}
 use Rattle.meaning.proofs.State.{Sound, cellsIn}
 use Rattle.meaning.proofs.Reading.{picture-is-list}
 use Rattle.meaning.proofs.Placed.{held-picture}

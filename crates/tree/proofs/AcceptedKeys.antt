@@ -18,7 +18,7 @@ use Rattle.lists.proofs.Tests.{both}
 use Rattle.meaning.specs.Keys.{coordinate, shared}
 use Rattle.meaning.specs.Row.{Node, firstSharing}
 use Rattle.meaning.specs.Words.{wordIndex, keyAt, coordinateAt, dimensionsAt, cellsAt, baseAt}
-use Rattle.meaning.proofs.Order.{Asc}
+use Rattle.meaning.proofs.AscendingRow.{Asc}
 use Rattle.meaning.proofs.Keys.{shared-same, ultra, coordinate-head, coordinate-other, coordinate-larger, shared-stop}
 use Rattle.meaning.proofs.Parent.{sharing-skips, sharing-hits, sharing-above}
 use Rattle.meaning.proofs.ConverseRow.{nodeIn}

@@ -20,7 +20,7 @@ use Rattle.meaning.specs.Row.{headNode}
 use Rattle.meaning.specs.State.{keyOf}
 use Rattle.meaning.specs.Picture.{firstWith}
 use Rattle.meaning.specs.Words.{keyAt, valueAt, markAt, dimensionsAt, largestAt, baseAt, positionAt}
-use Rattle.meaning.proofs.Order.{asc-above}
+use Rattle.meaning.proofs.AscendingRow.{asc-above}
 use Rattle.meaning.proofs.Keys.{shared-same, ultra}
 use Rattle.meaning.proofs.Places.{keyOf-has}
 use Rattle.meaning.proofs.ConverseRow.{nodeIn}

@@ -21,10 +21,10 @@ use Rattle.meaning.specs.State.{State, positionKey}
 use Rattle.meaning.specs.Picture.{picture}
 use Rattle.meaning.specs.Reading.{read, isList}
 use Rattle.meaning.specs.Words.{wordAt, keyAt, valueAt, markAt, owedAt, lowAt, highAt, coordinateAt, dimensionsAt, cellsAt, baseAt, positionAt}
-use Rattle.meaning.proofs.Order.{Asc, asc-weaken}
+use Rattle.meaning.proofs.AscendingRow.{Asc, asc-weaken}
 use Rattle.meaning.proofs.Keys.{shared-same, coordinate-head}
 use Rattle.meaning.proofs.State.{Sound, base-positive, base-above, base-of}
-use Rattle.meaning.proofs.Cells.{free-distinct, free-range, free-length}
+use Rattle.meaning.proofs.StateCells.{free-distinct, free-range, free-length}
 use Rattle.meaning.proofs.Picture.{picture-length, picture-free, free-found}
 use Rattle.meaning.proofs.Reading.{Follow, distinct-follow, list-is-picture, list-sound}
 use Rattle.meaning.proofs.WalkRead.{places-read}

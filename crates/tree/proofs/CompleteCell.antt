@@ -16,7 +16,7 @@ use Rattle.meaning.specs.Keys.{coordinates, shared}
 use Rattle.meaning.specs.Row.{Node, firstOf, firstSharing, Place, settledLink, between, link}
 use Rattle.meaning.specs.Picture.{mark}
 use Rattle.meaning.specs.Words.{keyAt, valueAt, markAt, owedAt, lowAt, highAt, coordinateAt, linkAt, dimensionsAt, largestAt, cellsAt, baseAt, positionAt}
-use Rattle.meaning.proofs.Order.{Asc}
+use Rattle.meaning.proofs.AscendingRow.{Asc}
 use Rattle.meaning.proofs.Keys.{shared-same, shared-le, shared-less, coordinate-same, coordinate-less, coordinate-inside}
 use Rattle.meaning.proofs.State.{Debt}
 use Rattle.meaning.proofs.WalkRead.{Held, between-is, between-not, linkOwing, link-tested}

@@ -18,10 +18,10 @@ use Rattle.meaning.specs.Row.{Node, headNode, Place, places}
 use Rattle.meaning.specs.State.{State, positionKey, keyOf}
 use Rattle.meaning.specs.Picture.{picture}
 use Rattle.meaning.specs.Words.{wordIndex}
-use Rattle.meaning.proofs.Order.{Asc}
+use Rattle.meaning.proofs.AscendingRow.{Asc}
 use Rattle.meaning.proofs.Keys.{coordinates-length}
 use Rattle.meaning.proofs.State.{Debt, Sound, base-positive, base-above}
-use Rattle.meaning.proofs.Cells.{cells-distinct, row-range}
+use Rattle.meaning.proofs.StateCells.{cells-distinct, row-range}
 use Rattle.meaning.proofs.Picture.{picture-length, picture-path, places-later}
 use Rattle.meaning.proofs.Places.{keyOf-same, keyOf-other}
 use Rattle.meaning.proofs.WalkRead.{Held, all-places, places-held}

@@ -92,9 +92,6 @@ link-is h x d = rw (shaped-dimensions h) refl
 pub position-is : {ws : List ℕ} {s : Settings} → Shaped ws s → getD ws (headerWords + s .dimensions - 1) 0 ≡ positionAt ws
 position-is h = rw (shaped-dimensions h) refl
 
-pub coordinate-within : {s : Settings} {x d : ℕ} → x < s .cells → d < s .dimensions → Within s x (fieldsBeforeCoordinates + d)
-coordinate-within hx hd = record { cell = hx; field = omega arith }
-
 pub link-within : {s : Settings} {x d : ℕ} → x < s .cells → d < s .dimensions → Within s x (linkField (s .dimensions) d)
 link-within hx hd = record { cell = hx; field = omega arith }
 

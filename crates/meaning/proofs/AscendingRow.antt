@@ -1,4 +1,4 @@
--- What holds of all members of a list, and rows in ascending order of keys.
+-- Rows in ascending order of keys.
 use mathlib.Core.Path.{_≡_, refl}
 use mathlib.Core.Bool.{true, _&&_}
 use mathlib.Core.List.{List, [], _∷_, _++_}

@@ -1,19 +1,15 @@
--- Numbers that occur once: occurrences read as facts, distinct numbers, and the cells of a state as such numbers.
+-- The cells of a state: distinct numbers, which with the head are all those below C.
 use mathlib.Core.Path.{_≡_, _∙_}
 use mathlib.Core.List.{[], _∷_, _++_, map}
-use Prim.Native.Nat.{_+_, _-_, _<_}
+use Prim.Native.Nat.{ℕ, _+_, _-_, _<_}
 use native.Mathlib.Omega.{arith}
 use lib.ListN.{length, length-append, length-map}
+use Rattle.lists.specs.Lists.{occurrences}
+use Rattle.lists.proofs.Counting.{distinct-covers}
 use Rattle.lists.proofs.Occurrences.{Distinct, once-distinct, distinct-left, distinct-right}
 use Rattle.lists.proofs.All.{All, all-map, all-left, all-right, all-of-map}
 use Rattle.meaning.specs.State.{State}
 use Rattle.meaning.proofs.State.{Sound, cellsIn}
-
--- Occurrences
-
--- Distinct numbers
-
--- The cells of a state
 
 -- the head's first
 pub cells-distinct : (s : State) → Sound s → Distinct (0 ∷ cellsIn s)
@@ -39,3 +35,10 @@ free-length s v =
     let m = length-map (s .row) (λ x. x .cell) in
     let c = v .count in
     omega arith
+
+-- the head, the cells of the row and those of the chain
+pub cells-cover : (s : State) → Sound s → (x : ℕ) → x < s .settings .cells → 0 < occurrences x (0 ∷ cellsIn s)
+cells-cover s v x h =
+    let least = v .ranges .cells-least in
+    let count = v .count in
+    distinct-covers (s .settings .cells) (0 ∷ cellsIn s) (cells-distinct s v) (omega arith, all-map (λ c r. r .1) (cellsIn s) (v .range)) (omega arith) x h

@@ -8,7 +8,7 @@ use native.Mathlib.Omega.{arith}
 use Rattle.lists.specs.Lists.{occurrences}
 use Rattle.lists.proofs.Occurrences.{occurrences-here, occurrences-past, occurrences-more}
 use Rattle.meaning.specs.Row.{Node}
-use Rattle.meaning.proofs.Order.{Asc}
+use Rattle.meaning.proofs.AscendingRow.{Asc}
 
 -- numbers above a number, each above the one before
 abbrev pub Rising : ℕ → List ℕ → Type 0
