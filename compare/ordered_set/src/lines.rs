@@ -1,5 +1,4 @@
-//! How both programs read a line: "One space between fields; decimal, no leading zeros; at
-//! most 64 bytes before the line feed."
+//! How both programs read a line: The order program 2 and 3.
 
 use std::io::{BufRead, Write};
 use std::ops::RangeInclusive;
@@ -7,8 +6,8 @@ use std::ops::RangeInclusive;
 const MOST_BYTES: usize = 64;
 
 /// Gives the fields of every line of the input to the answering function, None for a line
-/// that is empty, too long or no text, and prints what it answers. "A last line without line
-/// feed counts"; after a last line feed there is no further line.
+/// that is empty, too long or no text, and prints what it answers. A last line without line
+/// feed counts; after a last line feed there is no further line.
 pub fn answer_each(
     input: impl BufRead,
     mut output: impl Write,

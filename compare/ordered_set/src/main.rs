@@ -1,4 +1,4 @@
-//! An ordered-set reading of document 01, to compare the proved list with.
+//! An ordered-set reading of docs/REFERENCE.md, to compare the proved list with.
 
 mod generators;
 mod lines;

@@ -1,5 +1,5 @@
 //! What a list is, without its words: an ordered map of standing keys, the free chain and
-//! the position. Which key leads to which "depends on the keys alone", so no link is kept.
+//! the position. Which key leads to which follows from the keys alone, so no link is kept.
 
 use crate::settings::Settings;
 use std::collections::BTreeMap;
@@ -44,7 +44,7 @@ impl Debt {
 }
 
 impl Model {
-    /// "Set up chains cells 1, 2, up to C-1 in that order, with the path all 0."
+    /// The operations 1.
     pub fn fresh(settings: Settings) -> Model {
         let head = Standing { cell: 0, value: 0, mark: Mark::Dead, owes: false };
         Model {
@@ -64,15 +64,12 @@ impl Model {
         self.standing.range(from..).next().map(|(&x, _)| x)
     }
 
-    /// "the number of leading coordinates it shares with the standing cell of next smaller
-    /// key; the head's is 0"
+    /// How cells hang together 2.
     pub fn dimension(&self, key: u32) -> usize {
         self.next_smaller(key).map_or(0, |x| self.settings.shared(x, key))
     }
 
-    /// "For x of dimension e and d at least e, link d of x leads to the least-key standing
-    /// cell that shares exactly the first d coordinates with x and is larger at d. Every
-    /// other link is 0."
+    /// How cells hang together 3.
     pub fn link(&self, x: u32, d: usize) -> Option<u32> {
         if d < self.dimension(x) {
             return None;
@@ -98,8 +95,7 @@ impl Model {
             .expect("a standing cell other than the head has no parent")
     }
 
-    /// "its owed cell c is the standing cell of next larger key, ... low is n's dimension,
-    /// high is the number of coordinates n and c share"
+    /// Debts 2: owed, low and high.
     pub fn debt(&self, n: u32) -> Option<Debt> {
         if !self.standing[&n].owes {
             return None;
@@ -117,8 +113,7 @@ impl Model {
         live.next().map(|(&key, _)| key)
     }
 
-    /// "Path word d is the least-key standing cell sharing the first d+1 coordinates with the
-    /// position."
+    /// The position 2.
     pub fn path(&self, d: usize) -> u32 {
         let from = self.settings.least_sharing(self.position, d + 1);
         let (_, least) = self.standing.range(from..).next().expect("no position");

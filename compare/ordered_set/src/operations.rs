@@ -18,7 +18,7 @@ pub enum Call {
     Sweep,
 }
 
-/// "Each answers four numbers: refusal, key, value, count."
+/// The operations: the four numbers.
 #[derive(Clone, Copy, Debug, PartialEq)]
 pub struct Answer {
     pub refusal: u32,
@@ -27,8 +27,8 @@ pub struct Answer {
     pub count: u32,
 }
 
-/// The table "Turned away". Number 9 is never given: a cell owed from that is not standing
-/// makes the buffer no list, which is 3, "checked in this order".
+/// Refusals. Number 9 is never given: a cell owed from that is not standing makes the buffer no
+/// list, which is 3, and comes first.
 pub const OUT_OF_RANGE: u32 = 1;
 pub const LENGTH_NOT_EXACT: u32 = 2;
 pub const NOT_A_LIST: u32 = 3;
@@ -113,8 +113,7 @@ fn answer(model: &mut Model, words: &[u32], call: &Call) -> Answer {
     }
 }
 
-/// "The cells gone to, each counted once, are exactly those that looked counts", and "the
-/// figure is at most D(b-1)".
+/// Looked and the walk 3 and 4: walk and rule name the same cells, at most D(b-1).
 fn looked(model: &Model, words: &[u32], key: u32) -> usize {
     let settings = &model.settings;
     let mut gone_to = walk(settings, words, key);
@@ -129,8 +128,7 @@ fn looked(model: &Model, words: &[u32], key: u32) -> usize {
     counted.len()
 }
 
-/// "If the key is at or below the position's, the position becomes the parent of that cell in
-/// the settled shape": of a new cell and of one that was dead alike.
+/// The operations 2: where the position goes.
 fn insert(model: &mut Model, key: u32, value: u32, looked: usize) -> Answer {
     match model.standing.get_mut(&key) {
         Some(at) if at.mark == Mark::Live => {
@@ -151,11 +149,7 @@ fn insert(model: &mut Model, key: u32, value: u32, looked: usize) -> Answer {
     Answer::done(key, 0, looked)
 }
 
-/// "Insert of a key not standing puts a new cell n in the first free cell, as link p of its
-/// parent in the new settled shape. If a cell c had that slot in the settled shape before, c
-/// becomes link q of n, where n and c share exactly q coordinates. If p < q, then n owes:
-/// owed c, low p, high q." "an insert finishes what the parent owes, then what c owes, and
-/// nothing else"
+/// The operations 2: a key that does not stand.
 fn put_new(model: &mut Model, cell: u32, n: u32, value: u32) {
     let before = model.clone();
     let new = Standing { cell, value, mark: Mark::Live, owes: false };
@@ -189,7 +183,7 @@ fn find(model: &Model, key: u32, looked: usize) -> Answer {
     }
 }
 
-/// "number of links moved (high minus low, or 0 if nothing was owed). The key may be dead."
+/// The operations 4.
 fn finish(model: &mut Model, key: u32) -> Answer {
     if !model.standing.contains_key(&key) {
         return Answer::refused_with(KEY_NOT_THERE, key, 0);
@@ -199,8 +193,7 @@ fn finish(model: &mut Model, key: u32) -> Answer {
     Answer::done(key, 0, moved)
 }
 
-/// "passed: how many standing keys lie above the old position and up to the taken one. It
-/// becomes dead and the position. Links are untouched": a debt of the taken cell stays.
+/// The operations 5.
 fn take(model: &mut Model) -> Answer {
     let Some(key) = model.least_live() else {
         return Answer::refused_with(NOTHING_LIVE, 0, standing_above_position(model, u32::MAX));
@@ -218,9 +211,7 @@ fn standing_above_position(model: &Model, up_to: u32) -> usize {
     model.standing.keys().filter(above).count()
 }
 
-/// "It finishes all that is owed, moves the position to the greatest dead cell below every
-/// live key (of all, if none is live; the head, if there is no other), frees every cell
-/// strictly between head and position in key order, each put at the front of the free chain"
+/// The operations 6.
 fn sweep(model: &mut Model) -> Answer {
     model.standing.values_mut().for_each(|at| at.owes = false);
     let below_live = model.least_live().map_or(u32::MAX, |live| live - 1);

@@ -5,7 +5,7 @@ use crate::operations::{perform, Answer, Call, LINE_NOT_READABLE};
 use crate::settings::exact_length;
 use std::io::{BufRead, Write};
 
-/// "The program sets up D = 8, K = 1,048,575, C = 512 (b = 6; 11,277 words)"
+/// The order program 1.
 const SET_UP: Call = Call::SetUp { d: 8, k: 1_048_575, c: 512 };
 
 pub fn order(input: impl BufRead, output: impl Write) -> std::io::Result<()> {
@@ -35,8 +35,7 @@ fn parse(fields: &[&str]) -> Option<Call> {
     })
 }
 
-/// "An entry has a class 0 to 15 (0 most urgent) and a unit 1 to 65,535. Its key is class x
-/// 65,536 + unit."
+/// Entries 1 and 2.
 fn key(class: &str, unit: &str) -> Option<u32> {
     Some(number(class, 0..=15)? * 65_536 + number(unit, 1..=65_535)?)
 }

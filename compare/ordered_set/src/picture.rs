@@ -26,7 +26,7 @@ fn draw_header(model: &Model, words: &mut [u32]) {
     words[3] = settings.base;
 }
 
-/// "Mark: 0 free, 1 live, 2 dead." "A dead cell's value is 0."
+/// The words 1 and 3: mark and value.
 fn draw_cell(model: &Model, key: u32, at: &Standing, words: &mut [u32]) {
     let settings = &model.settings;
     let (mark, value) = match at.mark {
@@ -41,7 +41,7 @@ fn draw_cell(model: &Model, key: u32, at: &Standing, words: &mut [u32]) {
     }
 }
 
-/// "A cell that owes nothing has owed, low and high 0."
+/// Debts 4.
 fn draw_debt(model: &Model, key: u32, at: &Standing, words: &mut [u32]) {
     if let Some(debt) = model.debt(key) {
         words[model.settings.word(at.cell, OWED)] = model.standing[&debt.owed].cell;
@@ -50,9 +50,7 @@ fn draw_debt(model: &Model, key: u32, at: &Standing, words: &mut [u32]) {
     }
 }
 
-/// "Links low to high-1 of n are then 0 and those of c are n's settled ones. Every other link
-/// is settled." So a cell's settled links go to the owed cell where it owes, else to itself;
-/// no two are written to one place, as c's own links begin at high.
+/// Debts 3.
 fn draw_links(model: &Model, key: u32, at: &Standing, words: &mut [u32]) {
     let debt = model.debt(key);
     for d in model.dimension(key)..model.settings.dimensions {
@@ -64,7 +62,7 @@ fn draw_links(model: &Model, key: u32, at: &Standing, words: &mut [u32]) {
     }
 }
 
-/// "A free cell's first word holds the next free cell, its other words are 0."
+/// The words 4.
 fn draw_free_chain(model: &Model, words: &mut [u32]) {
     let mut place = FIRST_FREE;
     for &cell in model.free.iter().rev() {

@@ -6,9 +6,7 @@ use crate::picture::picture;
 use crate::settings::*;
 use std::collections::BTreeMap;
 
-/// "A buffer is *a list* if all that this section and the two before it say of a buffer
-/// between calls holds of it, no two standing cells have the same key, and each standing
-/// cell's coordinate words are its key's coordinates."
+/// A list 1.
 pub fn list(words: &[u32]) -> Option<Model> {
     let settings = read_settings(words)?;
     let standing = read_standing(&settings, words)?;
@@ -29,7 +27,7 @@ fn read_settings(words: &[u32]) -> Option<Settings> {
         .filter(|settings| settings.base == base && settings.length() == words.len())
 }
 
-/// "Keys: 1 to K; key 0 is the head's." "no two standing cells have the same key"
+/// Numbers 2; How cells hang together 1.
 fn read_standing(settings: &Settings, words: &[u32]) -> Option<BTreeMap<u32, Standing>> {
     let mut standing = BTreeMap::new();
     for cell in 0..settings.cells as u32 {
@@ -53,7 +51,7 @@ fn read_standing(settings: &Settings, words: &[u32]) -> Option<BTreeMap<u32, Sta
     Some(standing)
 }
 
-/// "The chain from word 4 meets every free cell once, no other cell, and ends in 0."
+/// The words 4: the free chain.
 fn read_free_chain(settings: &Settings, words: &[u32]) -> Option<Vec<u32>> {
     let mut met = vec![false; settings.cells];
     let mut chain = Vec::new();
@@ -71,14 +69,14 @@ fn read_free_chain(settings: &Settings, words: &[u32]) -> Option<Vec<u32>> {
     Some(chain)
 }
 
-/// "The position is the last cell of the path."
+/// The position 1: the last word of the path.
 fn read_position(settings: &Settings, words: &[u32]) -> Option<u32> {
     let cell = words[settings.path_word(settings.dimensions - 1)];
     let stands = (cell as usize) < settings.cells && words[settings.word(cell, MARK)] != 0;
     stands.then(|| words[settings.word(cell, KEY)])
 }
 
-/// "Cell 0 is the head: key 0, value 0, dead."
+/// The words 2: the head.
 fn head_is_cell_0(model: &Model) -> bool {
     let head = model.standing.get(&0);
     head.is_some_and(|head| head.cell == 0 && head.mark == Mark::Dead)
@@ -89,8 +87,7 @@ fn chain_meets_every_free_cell(model: &Model) -> bool {
     model.free.len() + model.standing.len() == model.settings.cells
 }
 
-/// "a cell n other than the head may owe, and only so: its owed cell c is the standing cell
-/// of next larger key, c owes nothing, ... and low < high"
+/// Debts 2.
 fn debts_are_allowed(model: &Model) -> bool {
     let mut owing = model.standing.iter().filter(|(_, at)| at.owes);
     owing.all(|(&n, _)| {
@@ -99,7 +96,7 @@ fn debts_are_allowed(model: &Model) -> bool {
     })
 }
 
-/// "All standing cells with keys up to the position's are dead."
+/// The position 1: all up to the position are dead.
 fn all_up_to_position_are_dead(model: &Model) -> bool {
     let mut up_to = model.standing.range(..=model.position);
     up_to.all(|(_, at)| at.mark == Mark::Dead)

@@ -15,16 +15,14 @@ pub fn rule(model: &Model, k: u32) -> BTreeSet<u32> {
     counted
 }
 
-/// "standing cells other than the head, of dimension e, that share their first e coordinates
-/// with k and are at most k at coordinate e"
+/// Looked and the walk 4: the cells that count.
 fn is_counted(model: &Model, next_smaller: u32, x: u32, k: u32) -> bool {
     let settings = &model.settings;
     let e = settings.shared(next_smaller, x);
     settings.shared(x, k) >= e && settings.coordinate(x, e) <= settings.coordinate(k, e)
 }
 
-/// "plus one if the least standing key above k shares as many coordinates with k as any
-/// standing cell does (the head included) and is not yet counted": the set counts it once.
+/// Looked and the walk 4: one more.
 fn plus_one(model: &Model, keys: &[u32], k: u32) -> Option<u32> {
     let above = keys.iter().copied().find(|&x| x > k)?;
     let most = keys.iter().map(|&x| model.settings.shared(x, k)).max()?;

@@ -1,10 +1,10 @@
 //! The numbers of a list: its settings, base and coordinates, and where each word lies.
 
-/// "Words 0 to 4: D, K, C, b, first free cell. Then D words of path."
+/// The words 1: header and path.
 pub const FIRST_FREE: usize = 4;
 pub const HEADER: usize = 5;
 
-/// "key, value, mark, owed cell, low, high, D coordinates, D links"
+/// The words 1: the words of a cell.
 pub const KEY: usize = 0;
 pub const VALUE: usize = 1;
 pub const MARK: usize = 2;
@@ -26,12 +26,12 @@ pub struct Settings {
     blocks: [u64; MOST_DIMENSIONS + 1],
 }
 
-/// "Length is exactly 5 + D + C(6+2D)"; the numbers need not be in range.
+/// The words 1: the exact length; the numbers need not be in range.
 pub fn exact_length(dimensions: usize, cells: usize) -> usize {
     HEADER + dimensions + cells * (BEFORE_COORDINATES + 2 * dimensions)
 }
 
-/// "Base b: the least whole number with b to the power D above K."
+/// Numbers 3.
 pub fn base(dimensions: usize, largest_key: u32) -> u32 {
     // 1 to any power is not above K, and 65,536 to the power 2 is.
     let (mut not_above, mut above) = (1, 65_536);
@@ -55,7 +55,7 @@ fn power_is_above(base: u32, dimensions: usize, largest_key: u32) -> bool {
 }
 
 impl Settings {
-    /// "Dimensions D: 2 to 16. Largest key K: 1 to 4,294,967,295. Cells C: 3 to 4,096."
+    /// Numbers 1.
     pub fn new(dimensions: u32, largest_key: u32, cells: u32) -> Option<Settings> {
         let (dimensions, cells) = (dimensions as usize, cells as usize);
         let in_range = (2..=MOST_DIMENSIONS).contains(&dimensions) && (3..=4096).contains(&cells);
@@ -74,7 +74,7 @@ impl Settings {
         exact_length(self.dimensions, self.cells)
     }
 
-    /// "its D digits in base b, most significant first, numbered 0 to D-1"
+    /// Numbers 5.
     pub fn coordinate(&self, key: u32, d: usize) -> u32 {
         (u64::from(key) / self.blocks[d + 1] % u64::from(self.base)) as u32
     }

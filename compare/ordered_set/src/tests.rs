@@ -1,4 +1,4 @@
-//! What document 01 prints, and second statements of what the program does, by the words.
+//! The fourteen steps and the printed example, and second statements of what the program does, by the words.
 
 use crate::generators::edges::FOURTEEN_STEPS;
 use crate::generators::{named, write};
@@ -150,7 +150,7 @@ fn insert_and_finish_by_words() {
     assert!(seen[0] > 1000 && seen[1] > 1000, "too few calls: {seen:?}");
 }
 
-/// "Finishing moves those links from c to n, puts 0 in c and clears the three words."
+/// Debts 5.
 fn finish_by_words(settings: &Settings, words: &mut [u32], n: u32) {
     let [c, low, high] = [OWED, LOW, HIGH].map(|field| words[settings.word(n, field)]);
     for d in low as usize..high as usize {

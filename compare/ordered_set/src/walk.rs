@@ -1,13 +1,11 @@
-//! The walk, on the words: link by link, "after 000's search".
+//! The walk, on the words: link by link.
 
 use crate::settings::*;
 use std::cmp::Ordering;
 
 /// The keys of the cells gone to, in the order of going. For a list alone.
 ///
-/// "If the cell at hand is below k at that coordinate, the walk goes along the cell's link of
-/// that number, and ends if there is none. If it is equal, the coordinate goes up by one, and
-/// the walk ends at D. If it is above, the walk ends."
+/// Looked and the walk 1: one step.
 pub fn walk(settings: &Settings, words: &[u32], k: u32) -> Vec<u32> {
     let mut gone_to = Vec::new();
     let (mut cell, mut d) = (0, 0);
@@ -28,8 +26,7 @@ pub fn walk(settings: &Settings, words: &[u32], k: u32) -> Vec<u32> {
     gone_to
 }
 
-/// "Where the cell owes and the link's number is at least low and below high, the link is
-/// read from the owed cell, which is not met by that reading."
+/// Looked and the walk 2.
 fn link_read(settings: &Settings, words: &[u32], cell: u32, d: usize) -> u32 {
     let owed = words[settings.word(cell, OWED)];
     let low = words[settings.word(cell, LOW)] as usize;

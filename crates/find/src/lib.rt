@@ -1,4 +1,4 @@
-// Find: "key, value, looked; writes nothing."
+// Find: The operations 3.
 ghost use mathlib.Core.Path.{_≡_};
 ghost use Rattle.meaning.specs.Refusals.{keyNotLive, answerOf};
 ghost use Rattle.meaning.specs.Operations.{findOut};

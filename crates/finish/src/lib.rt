@@ -1,4 +1,4 @@
-// Finish: what a cell owes is moved to it. "Finishing moves those links from c to n, puts 0 in c and clears the three words."
+// Finish: what a cell owes is moved to it: Debts 5.
 ghost use mathlib.Core.Path.{_≡_};
 ghost use Prim.Native.Nat.{_-_, _≤_, _<_};
 ghost use Rattle.meaning.specs.Refusals.{owedNotStanding, answerOf, Meets};
@@ -71,7 +71,7 @@ pub fn finish_cell(list: &mut [u32], s: Settings, n: u32)
     clear_debt(list, s, n);
 }
 
-// On a list with settings s: "key, 0, number of links moved".
+// On a list with settings s: The operations 4.
 pub fn finish(list: &mut [u32], s: Settings, key: u32) -> Answer
     requires { ⌜ Listed (now list) s ⌝ }
     ensures { λ r. ⌜ Meets (finishOut (now (list .entry)) key) r (now (list .exit)) ⌝ }

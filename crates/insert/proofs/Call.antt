@@ -28,7 +28,7 @@ use Rattle.meaning.proofs.State.{Sound, sound-valid}
 use Rattle.meaning.proofs.StateCells.{free-range}
 use Rattle.meaning.proofs.Slot.{first-free-all}
 use Rattle.meaning.proofs.Picture.{picture-free, path-length}
-use Rattle.meaning.proofs.Reading.{mark-live}
+use Rattle.meaning.proofs.ReadBack.{mark-live}
 use Rattle.meaning.proofs.Placed.{place-mark}
 use Rattle.meaning.proofs.BookRow.{node-key}
 use Rattle.meaning.proofs.Stores.{Exact, picture-exact, exact-set, exact-sets, exact-finished, header-set-path, store-below, cell-sets-below}

@@ -19,7 +19,7 @@ pub record Sought (ws : List ℕ) (s : Settings) (key : ℕ) (f : Found) : Type 
   pub most : key ≤ s .largest
   pub is : f ≡ foundOf (read ws) key
 
--- Words that are the picture of a state t in order but for the D words of path. "If the key is at or below the position's", which is
+-- Words that are the picture of a state t in order but for the D words of path. If the key is at or below the position's, which is
 -- `top`, t has its position at the parent; else t has the path that stands.
 pub record Ending (ws : List ℕ) (s : Settings) (top key parent : ℕ) (t : State) : Type 0 where
   pub order : valid t ≡ true

@@ -25,8 +25,8 @@ fn position_key(list: &[u32], s: Settings) -> u32
     words::word(list, s, words::position(list, s), words::KEY)
 }
 
-// "If the key is at or below the position's, the position becomes the parent of that cell in the settled shape." The position's key
-// before the call is `top`.
+// The operations 2: if the key is at or below the position's, the position becomes the parent of its cell. The position's key before the
+// call is `top`.
 fn move_position(list: &mut [u32], s: Settings, top: u32, key: u32, parent: u32)
     requires { ⌜ Shaped (now list) s × EndsInSome (now list) s top key parent ⌝ }
     ensures { λ r. ⌜ PathWritten (now (list .entry)) (now (list .exit)) s top key parent ⌝ }
@@ -38,7 +38,7 @@ fn move_position(list: &mut [u32], s: Settings, top: u32, key: u32, parent: u32)
     paths::write_path(list, s, path);
 }
 
-// "A standing dead key gets the new value and mark 1, with no link changed and nothing finished."
+// The operations 2: a dead key is revived.
 fn revive(list: &mut [u32], s: Settings, f: Found, key: u32, value: u32)
     requires { ⌜ Sought (now list) s key f × ((f .standing ≡ true) × (markAt (now list) (f .c) ≡ 1 → ⊥)) ⌝ }
     ensures { λ r. ⌜ now (list .exit) ≡ insertOut (now (list .entry)) key value .left ⌝ }
@@ -115,7 +115,7 @@ fn insert_new(list: &mut [u32], s: Settings, f: Found, key: u32, value: u32) -> 
     meaning::accepted(key, 0, f.looked)
 }
 
-// On a list with settings s: "key asked, 0, looked".
+// On a list with settings s: The operations 2.
 pub fn insert(list: &mut [u32], s: Settings, key: u32, value: u32) -> Answer
     requires { ⌜ Listed (now list) s ⌝ }
     ensures { λ r. ⌜ Meets (insertOut (now (list .entry)) key value) r (now (list .exit)) ⌝ }

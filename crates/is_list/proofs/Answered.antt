@@ -2,23 +2,20 @@
 use mathlib.Core.Path.{_≡_, refl}
 use mathlib.Core.Bool.{Bool, true, false, cond}
 use mathlib.Core.List.{List}
-use mathlib.Core.Option.{none, some}
 use Prim.Native.Nat.{ℕ, _-_}
 use native.Mathlib.Omega.{arith}
 use Rattle.settings.specs.declared.Settings.{Settings}
-use Rattle.meaning.specs.Reading.{settingsAt, isList}
-use Rattle.meaning.specs.Refusals.{notAList}
 use Rattle.meaning.specs.Layer.Listed.{Listed}
-use Rattle.is_list.specs.declared.Reading.the-variants as variants
-use Rattle.is_list.specs.Reading.{readingOf, refusalOf}
+use Rattle.meaning.specs.declared.Reading.the-variants as variants
+use Rattle.meaning.specs.Reading.{settingsAt, isList, readingOf}
 
 -- What the answer says
 
-pub reading-listed : {ws : List ℕ} {s : Settings} → readingOf ws ≡ variants.List s → Listed ws s
+pub reading-listed : {ws : List ℕ} {s : Settings} → readingOf ws ≡ variants.IsList s → Listed ws s
 unfolding readingOf
 reading-listed {ws} {s} e = at (isList ws) refl e
   where
-    at : (t : Bool) → isList ws ≡ t → cond t (variants.List (settingsAt ws)) variants.NotAList ≡ variants.List s → Listed ws s
+    at : (t : Bool) → isList ws ≡ t → cond t (variants.IsList (settingsAt ws)) variants.NotAList ≡ variants.IsList s → Listed ws s
     at true list e = record { list = list; settings = cc }
     at false list e = absurd (let z : _≡_ {A = ℕ} 0 1 = cc in omega arith)
 
@@ -26,15 +23,6 @@ pub reading-none : (ws : List ℕ) → readingOf ws ≡ variants.NotAList → is
 unfolding readingOf
 reading-none ws e = at (isList ws) e
   where
-    at : (t : Bool) → cond t (variants.List (settingsAt ws)) variants.NotAList ≡ variants.NotAList → t ≡ false
+    at : (t : Bool) → cond t (variants.IsList (settingsAt ws)) variants.NotAList ≡ variants.NotAList → t ≡ false
     at true e = absurd (let z : _≡_ {A = ℕ} 0 1 = cc in omega arith)
     at false e = refl
-
--- the check refuses exactly what is not a list, by number 3
-pub reading-refusal : (ws : List ℕ) → refusalOf (readingOf ws) ≡ cond (isList ws) none (some notAList)
-unfolding readingOf
-reading-refusal ws = at (isList ws)
-  where
-    at : (t : Bool) → refusalOf (cond t (variants.List (settingsAt ws)) variants.NotAList) ≡ cond t none (some notAList)
-    at true = refl
-    at false = refl

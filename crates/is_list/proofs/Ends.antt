@@ -20,10 +20,10 @@ use Rattle.tree.specs.declared.Seen.{Seen}
 use Rattle.tree.specs.Tree.{pathRun, headRight, atHead, freeRight, chainRight, headerRight, seenAll, accepts}
 use Rattle.tree.proofs.AcceptedTests.{header-right}
 use Rattle.tree.proofs.Tree.{accepts-is-list}
-use Rattle.is_list.specs.declared.Reading.{Reading}
-use Rattle.is_list.specs.declared.Reading.the-variants as variants
+use Rattle.meaning.specs.declared.Reading.{Reading}
+use Rattle.meaning.specs.declared.Reading.the-variants as variants
 use Rattle.is_list.specs.Children.{headerOf, Children}
-use Rattle.is_list.specs.Reading.{readingOf}
+use Rattle.meaning.specs.Reading.{readingOf}
 use Rattle.cell_tests.proofs.Tests.{refuted}
 
 -- The head
@@ -88,7 +88,7 @@ module _ (ws : List ℕ) where
 
   pub header-list :
       inRange (dimensionsAt ws) (largestAt ws) (cellsAt ws) ≡ true → length ws ≡ lengthOf (dimensionsAt ws) (cellsAt ws) →
-      isBase (dimensionsAt ws) (largestAt ws) (baseAt ws) ≡ true → variants.List (settingsAt ws) ≡ headerOf ws
+      isBase (dimensionsAt ws) (largestAt ws) (baseAt ws) ≡ true → variants.IsList (settingsAt ws) ≡ headerOf ws
   header-list range size base = rw (header-is ws, range, eq-eqb (length ws) (lengthOf (dimensionsAt ws) (cellsAt ws)) size, base) refl
 
 -- words whose header is that of a list with the settings s
@@ -98,10 +98,10 @@ pub record Headed (ws : List ℕ) (s : Settings) : Type 0 where
   pub base : 0 < s .base
   pub cells : 0 < s .cells
 
-pub headed : {ws : List ℕ} {s : Settings} {r : Reading} → r ≡ headerOf ws → r ≡ variants.List s → Headed ws s
+pub headed : {ws : List ℕ} {s : Settings} {r : Reading} → r ≡ headerOf ws → r ≡ variants.IsList s → Headed ws s
 headed {ws} {s} p q = at (headerRight ws) refl (sym p ∙ q)
   where
-    at : (t : Bool) → headerRight ws ≡ t → cond t (variants.List (settingsAt ws)) variants.NotAList ≡ variants.List s → Headed ws s
+    at : (t : Bool) → headerRight ws ≡ t → cond t (variants.IsList (settingsAt ws)) variants.NotAList ≡ variants.IsList s → Headed ws s
     at true e f =
         let h = header-right ws e in
         let k : settingsAt ws ≡ s = cc in
@@ -168,7 +168,7 @@ pub refuse : (ws : List ℕ) → (Accepts ws → ⊥) → variants.NotAList ≡ 
 unfolding readingOf
 refuse ws never = rw (← accepts-is-list ws, refuted (accepts ws) (λ t. never (accepted ws t))) refl
 
-pub accept : {ws : List ℕ} {s : Settings} → Shaped ws s → Accepts ws → variants.List s ≡ readingOf ws
+pub accept : {ws : List ℕ} {s : Settings} → Shaped ws s → Accepts ws → variants.IsList s ≡ readingOf ws
 unfolding readingOf
 accept {ws} h a = rw (← accepts-is-list ws, accepts-all ws a, h .header) refl
 

@@ -10,12 +10,12 @@ use Rattle.meaning.specs.Words.{owedAt}
 use Rattle.meaning.specs.Walk.{linkRead}
 use Rattle.tree.specs.declared.Seen.{Seen}
 use Rattle.tree.specs.Tree.{entered, children, headerRight}
-use Rattle.is_list.specs.declared.Reading.{Reading}
-use Rattle.is_list.specs.declared.Reading.the-variants as variants
+use Rattle.meaning.specs.declared.Reading.{Reading}
+use Rattle.meaning.specs.declared.Reading.the-variants as variants
 
 -- the settings that the header holds, where it is that of a list
 abbrev pub headerOf : List ℕ → Reading
-headerOf ws = cond (headerRight ws) (variants.List (settingsAt ws)) variants.NotAList
+headerOf ws = cond (headerRight ws) (variants.IsList (settingsAt ws)) variants.NotAList
 
 -- what has been seen lies within the list: the cell read last is one of its cells, and of its path words at most all agree
 pub record SeenWithin (s : Settings) (seen : Seen) : Type 0 where

@@ -1,19 +1,14 @@
 // The check for refusal 3: whether lent words are a list. It reads the list cell by cell in ascending order of keys, each child's own
 // children in turn, as crate tree has it on the words; that account accepts exactly the lists.
 ghost use mathlib.Core.Path.{_≡_};
-ghost use Rattle.is_list.specs.Reading.{readingOf};
+ghost use Rattle.meaning.specs.Reading.{readingOf};
 ghost use Rattle.is_list.specs.Children.{headerOf};
+use meaning::Reading;
 use settings::Settings;
 
 mod path; // path.rt: the words of path beside the way down
 mod standing; // standing.rt: the standing cells in order, from the head on
 mod free; // free.rt: the chain of free cells
-
-// What the check answers: the settings of a list, or the case that document 01 gives number 3.
-pub enum Reading {
-    List(Settings),
-    NotAList,
-}
 
 // The settings that the header holds, where D, K and C are in range, the length is exact and b is the least number whose power D is
 // above K.
@@ -38,14 +33,14 @@ fn header(list: &[u32]) -> Reading
     if !settings::is_base(s.base, s.dimensions, s.largest) {
         return Reading::NotAList;
     }
-    Reading::List(s)
+    Reading::IsList(s)
 }
 
 // Whether the lent words are a list, and its settings.
 pub fn is_list(list: &[u32]) -> Reading
     ensures { λ r. ⌜ r ≡ readingOf (now (list .entry)) ⌝ }
 {
-    let Reading::List(s) = header(list) else {
+    let Reading::IsList(s) = header(list) else {
         return Reading::NotAList;
     };
     if !cell_tests::head::head_right(list, s) {
@@ -65,5 +60,5 @@ pub fn is_list(list: &[u32]) -> Reading
     if !free::chain_right(list, s, seen.left, list[words::FIRST_FREE]) {
         return Reading::NotAList;
     }
-    Reading::List(s)
+    Reading::IsList(s)
 }

@@ -7,10 +7,10 @@ use Rattle.meaning.specs.declared.Answer.{Answer}
 use Rattle.meaning.specs.Operations.{findOut}
 use Rattle.meaning.proofs.Outcomes.{find-writes-nothing}
 
--- "3: the buffer is not a list"
+-- words that are no list
 pub refused-meets : {o : Outcome (List ℕ)} {ws : List ℕ} {r : Answer} → o ≡ refused notAList ws → r ≡ answer 3 0 0 0 → Meets o r ws
 refused-meets e q = record { answered = q ∙ sym (ap (λ (p : Outcome (List ℕ)). p .answered) e); left = sym (ap (λ (p : Outcome (List ℕ)). p .left) e) }
 
--- "Find .. writes nothing."
+-- a find writes nothing
 pub find-meets : (ws : List ℕ) (key : ℕ) {r : Answer} → r ≡ findOut ws key .answered → Meets (findOut ws key) r ws
 find-meets ws key e = record { answered = e; left = sym (find-writes-nothing ws key) }

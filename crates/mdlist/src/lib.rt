@@ -1,12 +1,12 @@
 // The waiting list as a Rust host calls it: six operations by number and slice. Each is a thin exported function: it checks that the
 // lent words are a list, refuses by number 3 if they are not, and calls the inner function of the crate of its name. No one has a
-// `requires`, and each contract is the whole outcome that document 01 gives the call: the four numbers and every word.
+// `requires`, and each contract is the whole outcome of the call (docs/REFERENCE.md): the four numbers and every word.
 ghost use Rattle.meaning.specs.Refusals.{Meets};
 ghost use Rattle.meaning.specs.Operations.{setUpOut, insertOut, findOut, finishOut, takeOut, sweepOut};
 ghost use Rattle.meaning.specs.Calls.{outcome};
-use is_list::Reading;
 use meaning::Answer;
 use meaning::Call;
+use meaning::Reading;
 
 // Makes the lent words a fresh list with D dimensions, largest key K and C cells.
 #[no_mangle]
@@ -21,7 +21,7 @@ pub extern "C" fn mdlist_set_up(d: u32, k: u32, c: u32, list: &mut [u32]) -> Ans
 pub extern "C" fn mdlist_insert(list: &mut [u32], key: u32, value: u32) -> Answer
     ensures { λ r. ⌜ Meets (insertOut (now (list .entry)) key value) r (now (list .exit)) ⌝ }
 {
-    let Reading::List(s) = is_list::is_list(list) else {
+    let Reading::IsList(s) = is_list::is_list(list) else {
         return meaning::refused(meaning::NOT_A_LIST);
     };
     insert::insert(list, s, key, value)
@@ -32,7 +32,7 @@ pub extern "C" fn mdlist_insert(list: &mut [u32], key: u32, value: u32) -> Answe
 pub extern "C" fn mdlist_find(list: &[u32], key: u32) -> Answer
     ensures { λ r. ⌜ Meets (findOut (now (list .entry)) key) r (now (list .entry)) ⌝ }
 {
-    let Reading::List(s) = is_list::is_list(list) else {
+    let Reading::IsList(s) = is_list::is_list(list) else {
         return meaning::refused(meaning::NOT_A_LIST);
     };
     find::find(list, s, key)
@@ -43,7 +43,7 @@ pub extern "C" fn mdlist_find(list: &[u32], key: u32) -> Answer
 pub extern "C" fn mdlist_finish(list: &mut [u32], key: u32) -> Answer
     ensures { λ r. ⌜ Meets (finishOut (now (list .entry)) key) r (now (list .exit)) ⌝ }
 {
-    let Reading::List(s) = is_list::is_list(list) else {
+    let Reading::IsList(s) = is_list::is_list(list) else {
         return meaning::refused(meaning::NOT_A_LIST);
     };
     finish::finish(list, s, key)
@@ -54,7 +54,7 @@ pub extern "C" fn mdlist_finish(list: &mut [u32], key: u32) -> Answer
 pub extern "C" fn mdlist_take(list: &mut [u32]) -> Answer
     ensures { λ r. ⌜ Meets (takeOut (now (list .entry))) r (now (list .exit)) ⌝ }
 {
-    let Reading::List(s) = is_list::is_list(list) else {
+    let Reading::IsList(s) = is_list::is_list(list) else {
         return meaning::refused(meaning::NOT_A_LIST);
     };
     take::take(list, s)
@@ -65,7 +65,7 @@ pub extern "C" fn mdlist_take(list: &mut [u32]) -> Answer
 pub extern "C" fn mdlist_sweep(list: &mut [u32]) -> Answer
     ensures { λ r. ⌜ Meets (sweepOut (now (list .entry))) r (now (list .exit)) ⌝ }
 {
-    let Reading::List(s) = is_list::is_list(list) else {
+    let Reading::IsList(s) = is_list::is_list(list) else {
         return meaning::refused(meaning::NOT_A_LIST);
     };
     sweep::sweep(list, s)

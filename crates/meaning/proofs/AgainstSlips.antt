@@ -1,5 +1,5 @@
--- Document 01's "Slips that look right", each shut out by a law of its own. The theorems of specs/Promises.antt shut them out too; these
--- say it at the definition itself, so that a definition that slips is refused here first.
+-- Slips that look right, each shut out by a law of its own. The theorems of specs/Promises.antt shut them out too; these say it at the
+-- definition itself, so that a definition that slips is refused here first.
 use mathlib.Core.Path.{_≡_, refl, ap}
 use mathlib.Core.Bool.{true, false, cond, not}
 use mathlib.Core.List.{List, [], _∷_, _++_, map}
@@ -17,7 +17,7 @@ use Rattle.meaning.specs.Words.{owedAt, lowAt, highAt, linkAt}
 use Rattle.meaning.specs.Walk.{linkRead}
 use Rattle.meaning.specs.Operations.{looked, paid, parentIn, positionAfter, revived, insertAt, deadFront, fromLive, lastAlone, swept}
 
--- "Taking a key for present when only some leading coordinates agree": the node found for a key has that same key.
+-- Not by some leading coordinates: the node found for a key has that same key.
 pub present-is-that-key : (key : ℕ) (x : Node) (row : List Node) → nodeAt key row ≡ some x → x .key ≡ key
 unfolding nodeAt
 present-is-that-key key x [] e = absurd (let z : _≡_ {A = ℕ} 0 1 = cc in omega arith)
@@ -27,24 +27,24 @@ present-is-that-key key x (y ∷ row) e = go (ℕ-discrete (y .key) key) (presen
     go (yes q) onward = let t : some y ≡ some x = rw (eq-eqb (y .key) key q) at e in (let u : y ≡ x = cc in rw (← u) q)
     go (no ne) onward = onward (rw (ne-eqb (y .key) key ne) at e)
 
--- "Following an owing cell's empty link, which hides a whole branch": a link that a cell owes is read from the owed cell.
+-- Not the empty link of a cell that owes, which hides a whole branch: a link that a cell owes is read from the owed cell.
 pub owed-link-is-read-there : (ws : List ℕ) (x d : ℕ) → (owedAt ws x ≡ 0 → ⊥) → lowAt ws x ≤ d → d < highAt ws x → linkRead ws x d ≡ linkAt ws (owedAt ws x) d
 unfolding linkRead
 owed-link-is-read-there ws x d owes l h = rw (ne-eqb (owedAt ws x) 0 owes, le-leb (lowAt ws x) d l, lt-ltb d (highAt ws x) h) refl
 
--- "Moving the path back to the new cell and not its parent: the node is never taken": the position becomes the parent.
+-- Not to the new cell, which would never be taken: the position becomes the parent.
 pub position-becomes-the-parent : (s : State) (key c : ℕ) (row : List Node) → key ≤ positionKey s → positionAfter s key c row ≡ parentIn s c row
 unfolding positionAfter
 position-becomes-the-parent s key c row h = rw (le-leb key (positionKey s) h) refl
 
--- "Refusing 5 for a dead key": a dead key is revived.
+-- Not refused by 5: a dead key is revived.
 pub dead-key-is-revived : (ws : List ℕ) (s : State) (key value : ℕ) (x : Node) → x .live ≡ false →
     insertAt ws s key value (some x) ≡ accepted key 0 (looked s key) (picture (revived s x value))
 unfolding insertAt
 dead-key-is-revived ws s key value x e =
     ap (λ t. cond t (refused (keyLive key (looked s key)) ws) (accepted key 0 (looked s key) (picture (revived s x value)))) e
 
--- "Freeing an owing cell in a sweep and reading its empty links as its own: a branch is lost": what stands after a sweep owes nothing.
+-- No branch is lost: what stands after a sweep owes nothing.
 paid-owes-nothing : (row : List Node) → every (λ x. not (x .owes)) (map paid row) ≡ true
 unfolding every
 paid-owes-nothing [] = refl

@@ -24,7 +24,7 @@ use Rattle.meaning.specs.declared.Call.the-variants.{SetUp}
 use Rattle.meaning.specs.declared.Call.{Call}
 use Rattle.meaning.proofs.State.{Sound}
 use Rattle.meaning.proofs.Picture.{picture-largest, picture-cells}
-use Rattle.meaning.proofs.Reading.{read-of-picture, picture-is-list}
+use Rattle.meaning.proofs.ReadBack.{read-of-picture, picture-is-list}
 use Rattle.meaning.proofs.KeepsSetUp.{fresh-sound}
 use Rattle.meaning.proofs.KeepsTake.{taken-sound}
 use Rattle.meaning.proofs.Outcomes.{on-lists, set-up-outcome-out-of-range, set-up-outcome-wrong-length, set-up-outcome, take-outcome-none}

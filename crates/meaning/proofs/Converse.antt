@@ -19,7 +19,7 @@ use Rattle.meaning.specs.Words.{wordAt, keyAt, dimensionsAt, baseAt, pos
 use Rattle.meaning.specs.Sentences.{sharedAt, Standing, Chained, ended, chained-on, AList}
 use Rattle.meaning.proofs.Keys.{shared-sym}
 use Rattle.meaning.proofs.StateCells.{free-distinct}
-use Rattle.meaning.proofs.Reading.{Follow, distinct-follow, picture-is-list}
+use Rattle.meaning.proofs.ReadBack.{Follow, distinct-follow, picture-is-list}
 use Rattle.meaning.proofs.WalkRead.{Held}
 use Rattle.meaning.proofs.SentencesRow.{Least, least, nowhere, SharesAtLeast, first-with}
 use Rattle.meaning.proofs.Placed.{FreeHeld, held-picture}
@@ -119,10 +119,10 @@ module _ (ws : List ℕ) (a : AList ws) where
       held-picture ws (standingRow ws) (a .free-chain .chain) (positionAt ws) (state-sound ws a) (a .long) (chained-first (a .free-chain .chained)) path-shown
       (all-map place-held (places (baseAt ws) (dimensionsAt ws) (standingRow ws)) (row-placed ws a)) free-held
 
--- "A buffer is *a list* if all that this section and the two before it say of a buffer between calls holds of it."
+-- A list 1, from the conditions on the words
 pub sentences-list : (ws : List ℕ) → AList ws → isList ws ≡ true
 sentences-list ws a = subst (λ words. isList words ≡ true) (sentences-picture ws a) (picture-is-list (stateOf ws a) (state-sound ws a))
 
--- The sentences of document 01 hold of a buffer exactly if it is a list by specs/Reading.antt.
+-- The conditions on the words hold of a buffer exactly if it is a list by specs/Reading.antt.
 pub list-exactly-if : (ws : List ℕ) → (isList ws ≡ true) ↔ AList ws
 list-exactly-if ws = (list-sentences ws, sentences-list ws)

@@ -1,4 +1,4 @@
--- What the sentences say of standing cells, by their keys; and that each relation of document 01 has one answer: no two standing cells
+-- What the sentences say of standing cells, by their keys; and that each of their relations has one answer: no two standing cells
 -- have the same key, so the next smaller, the next larger and the least key are each of one cell.
 use mathlib.Core.Path.{_≡_, refl, sym, _∙_, ap, subst}
 use mathlib.Core.Logic.{_⊎_, inl, inr}

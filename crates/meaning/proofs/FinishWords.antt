@@ -63,7 +63,7 @@ module _ (b D value : ℕ) (live : Bool) (q : Place) where
   owes-apart a owes c (suc (suc zero)) h = refl
   owes-apart a owes c (suc (suc (suc j))) h = absurd (omega arith)
 
-  -- "A cell that owes nothing has owed, low and high 0."
+  -- Debts 4
   unowing-debt : (a : Bool) (k : ℕ) → k < 3 → getD (wordsBy b D value live a false q) (3 + k) 0 ≡ 0
   unfolding wordsBy
   unowing-debt a zero h = refl
@@ -247,7 +247,7 @@ module _ {s : State} (v : Sound s) {n : ℕ} {p : Place} (here : Placed s n p) w
         ∙ ap (λ t. cond t 0 (settledLink b D p d))
         (ap (λ m. between (p .dimension) m d) high-shared ∙ between-out (p .dimension) (q .dimension) d out)
 
-    -- "Links low to high-1 of n are then 0 and those of c are n's settled ones."
+    -- Debts 3
     next-inside : (d : ℕ) → d < D → p .dimension ≤ d → d < q .dimension → wordIn D (picture s) (q .node .cell) (linkField D d) ≡ settledLink b D p d
     next-inside d h l u =
         next-before (linkField D d) (omega arith)
@@ -394,7 +394,7 @@ module _ (s : State) (v : Sound s) (n : ℕ) (stands : 0 < occurrences n (0 ∷ 
       let (p, here) = occurs-placed s n stands in
       debt-cases v here (λ nothing unowing. absurd (omega (arith, o, nothing .0))) (λ owes q there next debt. owing v here owes there next debt)
 
-  -- "Finishing moves those links from c to n, puts 0 in c and clears the three words."
+  -- Debts 5
   pub finish-words : picture (withRow s (finished n (s .row))) ≡ finishWords (s .settings .dimensions) (picture s) n
   unfolding finished
   finish-words =
@@ -403,14 +403,14 @@ module _ (s : State) (v : Sound s) (n : ℕ) (stands : 0 < occurrences n (0 ∷ 
       (λ nothing unowing. paid-nothing v here unowing ∙ sym (finishWords-none (s .settings .dimensions) (picture s) n (nothing .0)))
       (λ owes q there next debt. paid-something v here owes there next debt)
 
-  -- "number of links moved (high minus low, or 0 if nothing was owed)"
+  -- The operations 4: the links moved
   pub finish-moved : linksMoved s (placeOf n (placesOf s (s .row))) ≡ highAt (picture s) n - lowAt (picture s) n
   unfolding linksMoved
   finish-moved =
       let (p, here) = occurs-placed s n stands in
       ap (linksMoved s) (here .found) ∙ ap₂ (λ a l. a - l) (sym (place-high v here)) (sym (place-low v here))
 
-  -- the words after finishing a cell that owes, in document 01's words
+  -- the words after finishing a cell that owes, by Debts 5
   pub finish-finished : 0 < owedAt (picture s) n → Finished (picture s) (picture (withRow s (finished n (s .row)))) n
   finish-finished o =
       subst (λ us. Finished (picture s) us n) (sym finish-words)

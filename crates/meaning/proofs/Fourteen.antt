@@ -1,4 +1,4 @@
--- Document 01's fourteen steps, proved of the definitions by computing them.
+-- The fourteen steps, proved of the definitions by computing them.
 use mathlib.Core.Path.{_≡_, refl}
 use mathlib.Core.List.{map}
 use Rattle.meaning.specs.Fourteen.{table, expected, ran, freshWords}

@@ -104,7 +104,7 @@ module _ (s : State) (v : Sound s) (key value : ℕ) (positive : 0 < key) (g : G
       (all-left (λ z. z .cell ≡ t .n → ⊥) (headNode ∷ g .pre) (g .post)
       (subst (λ r. Without (t .n) (headNode ∷ r)) (g .splits) (slot-new s v key positive g f t i))) }
 
-  -- "c becomes link q of n", and no other link leads anywhere
+  -- c becomes link q of n, and no other link leads anywhere
   pub put-link :
       (d : ℕ) → d < s .settings .dimensions →
       link (s .settings .base) (s .settings .dimensions) (newPlace (s .settings .base) (s .settings .dimensions) (g .pre)

@@ -158,7 +158,7 @@ module _ (s : State) (v : Sound s) (key value : ℕ) (positive : 0 < key) (g : G
       let position = added s key value t .position in
       ap {B = State} (λ r. record { settings = s .settings; row = r; free = drop 1 (s .free); position = position }) (added-row s v key value positive g f t i)
 
-  -- "If the key is at or below the position's, the position becomes the parent of that cell in the settled shape"
+  -- The operations 2: where the position goes
   pub added-position-lowered : key ≤ positionKey s → added s key value t .position ≡ t .parent
   added-position-lowered h = added-position s v key value positive g f t i ∙ ap (λ r. cond r (t .parent) (s .position)) (le-leb key (positionKey s) h)
 

@@ -238,7 +238,7 @@ agreed-is (suc s) (x ∷ xs) (y ∷ ys) e h same other =
     rw (eq-eqb x y (same 0 (omega arith)))
     (ap suc (agreed-is s xs ys (omega arith) (omega arith) (λ i k. same (suc i) (omega arith)) (λ k. other (omega arith))))
 
--- "the number of leading coordinates" that two keys share
+-- Numbers 6: the number of leading coordinates that two keys share
 pub shared-agreed : (b D x y : ℕ) → 0 < b → x < b ^ D → y < b ^ D → shared b D x y ≡ agreed (coordinates b D x) (coordinates b D y)
 shared-agreed b D x y pos hx hy =
     agreed-is (shared b D x y) (coordinates b D x) (coordinates b D y)
@@ -282,7 +282,7 @@ precedes-once (x ∷ xs) (y ∷ ys) p q =
     let e : x ≡ y = omega arith in
     precedes-once xs ys (h .1 e) (k .1 (sym e))
 
--- "Key order is their lexicographic order."
+-- Numbers 5: key order is the order of the coordinates
 pub lexicographic : (b D x y : ℕ) → 0 < b → x < b ^ D → y < b ^ D → x < y ↔ (precedes (coordinates b D x) (coordinates b D y) ≡ true)
 lexicographic b D x y pos hx hy = (λ h. precede x y hx hy h, λ p. go p (decLt x y) (decLt y x))
   where

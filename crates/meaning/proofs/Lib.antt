@@ -10,7 +10,7 @@ pub mod Parent
 pub mod State
 pub mod StateCells
 pub mod Picture
-pub mod Reading
+pub mod ReadBack
 pub mod Computing
 -- What stands where: each word of a cell, and the links read through what is owed.
 pub mod Placed

@@ -14,24 +14,28 @@ use lib.Dec.{eqb, leb}
 use lib.ListN.{length, getD, List·getD-eq-default}
 use borrow.Author.Tests.{eq-eqb, ne-eqb, le-leb, lt-leb}
 use Rattle.settings.specs.Numbers.{inRange, lengthOf, headerWords, cellWords}
+use Rattle.settings.specs.Checked.{checkedOf, settingsOf}
+use Rattle.settings.specs.declared.Checked.the-variants.{Accepted, OutOfRange}
 use Rattle.lists.proofs.All.{All, all-zip}
 use Rattle.lists.proofs.Tests.{cond-has}
 use Rattle.meaning.specs.Row.{Node, firstOf, Place, places, owed, placeOf, nodeAt}
 use Rattle.meaning.specs.State.{State, positionKey, placesOf}
 use Rattle.meaning.specs.Picture.{mark, standingWords, wordsOf, picture, nextFree}
-use Rattle.meaning.specs.Reading.{read, isList}
+use Rattle.meaning.specs.Reading.{read, isList, readingOf}
 use Rattle.meaning.specs.Refusals.{Outcome, accepted, Refusal, outOfRange, wrongLength, notAList, badKey, keyLive, noFreeCell, nothingLive}
 use Rattle.meaning.specs.Refusals.{keyNotLive, keyNotStanding, owedNotStanding, refused}
 use Rattle.meaning.specs.Words.{markAt, owedAt}
-use Rattle.meaning.specs.Operations.{onList, onKey, owesFromFree, looked, fresh, setUpOut, finished, withRow, linksMoved, finishAt, finishOut}
+use Rattle.meaning.specs.Operations.{onList, onKey, owesFromFree, looked, fresh, setUpOut, finished, withRow, linksMoved, finishAt, finishOut, onReading, setUpBy}
 use Rattle.meaning.specs.Operations.{findAt, findOut, revived, slotFor, added, insertNew, insertAt, insertOut, fromLive, keysAbove, keysPassed}
 use Rattle.meaning.specs.Operations.{taken, takeFrom, takeOut, freedBy, swept, someOwesFromFree, sweepOn, sweepOut}
 use Rattle.meaning.specs.Calls.{outcome}
 use Rattle.meaning.specs.Promises.{RefusedAltersNothing}
 use Rattle.meaning.specs.declared.Call.the-variants.{SetUp, Insert, Find, Finish, Take, Sweep}
+use Rattle.meaning.specs.declared.Reading.{Reading}
+use Rattle.meaning.specs.declared.Reading.the-variants.{IsList, NotAList}
 use Rattle.meaning.proofs.State.{Sound}
 use Rattle.meaning.proofs.Picture.{picture-length, picture-dimensions, picture-word, Told, told, first-has, freeWords-rest, places-later}
-use Rattle.meaning.proofs.Reading.{mark-stands, read-of-picture, picture-is-list, list-is-picture, list-sound}
+use Rattle.meaning.proofs.ReadBack.{mark-stands, read-of-picture, picture-is-list, list-is-picture, list-sound}
 use Rattle.meaning.proofs.WalkRead.{row-mark-read}
 
 -- What holds of each state in order and its picture holds of each list and the state that it holds.
@@ -68,7 +72,7 @@ places-owed s v =
         (debt o .later)))
     (places b D (s .row)) (v .debts) (places-later (λ x. markAt (picture s) (x .cell) ≡ mark (x .live)) b D (s .row) (row-mark-read s v))
 
--- "a cell owed from is not standing": of no cell of the picture of a state in order
+-- Refusal 9 comes of no cell of the picture of a state in order
 pub owed-stands : (s : State) → Sound s → (x : ℕ) → x < s .settings .cells → owesFromFree (picture s) x ≡ false
 unfolding wordsOf standingWords
 owed-stands s v x h =
@@ -111,12 +115,12 @@ row-owed-never-free s v (x ∷ row) = rw (owed-never-free s v (x .cell), row-owe
 -- Every operation but set up
 
 pub not-on-list : (ws : List ℕ) (act : State → Outcome (List ℕ)) → isList ws ≡ false → onList ws act ≡ refused notAList ws
-unfolding onList
-not-on-list ws act e = rw (e, onList) refl
+unfolding onList readingOf onReading
+not-on-list ws act e = rw e refl
 
 pub on-picture : (s : State) → Sound s → (act : State → Outcome (List ℕ)) → onList (picture s) act ≡ act s
-unfolding onList
-on-picture s v act = rw (picture-is-list s v, onList) (ap act (read-of-picture s v))
+unfolding onList readingOf onReading
+on-picture s v act = rw (picture-is-list s v) (ap act (read-of-picture s v))
 
 on-good-key : (ws : List ℕ) (s : State) (key : ℕ) (done : Outcome (List ℕ)) → 1 ≤ key → key ≤ s .settings .largest → onKey ws s key done ≡ done
 unfolding onKey
@@ -141,16 +145,16 @@ on-picture-bad-key s v key act f = on-picture s v (λ t. onKey (picture s) t key
 -- Set up
 
 pub set-up-outcome-out-of-range : (D K C : ℕ) (ws : List ℕ) → inRange D K C ≡ false → setUpOut D K C ws ≡ refused outOfRange ws
-unfolding setUpOut
-set-up-outcome-out-of-range D K C ws e = rw (e, setUpOut) refl
+unfolding setUpOut checkedOf setUpBy
+set-up-outcome-out-of-range D K C ws e = rw e refl
 
 pub set-up-outcome-wrong-length : (D K C : ℕ) (ws : List ℕ) → inRange D K C ≡ true → (length ws ≡ lengthOf D C → ⊥) → setUpOut D K C ws ≡ refused wrongLength ws
-unfolding setUpOut
-set-up-outcome-wrong-length D K C ws e ne = rw (e, setUpOut, ne-eqb (length ws) (lengthOf D C) ne, setUpOut) refl
+unfolding setUpOut checkedOf setUpBy
+set-up-outcome-wrong-length D K C ws e ne = rw (e, ne-eqb (length ws) (lengthOf D C) ne, setUpBy) refl
 
 pub set-up-outcome : (D K C : ℕ) (ws : List ℕ) → inRange D K C ≡ true → length ws ≡ lengthOf D C → setUpOut D K C ws ≡ accepted 0 0 0 (picture (fresh D K C))
-unfolding setUpOut
-set-up-outcome D K C ws e l = rw (e, setUpOut, eq-eqb (length ws) (lengthOf D C) l, setUpOut) refl
+unfolding setUpOut checkedOf setUpBy
+set-up-outcome D K C ws e l = rw (e, eq-eqb (length ws) (lengthOf D C) l, setUpBy) refl
 
 -- Insert
 
@@ -291,12 +295,12 @@ sweep-outcome s v = on-picture s v (sweepOn (picture s)) ∙ rw (row-owed-never-
 
 onList-has : (P : Outcome (List ℕ) → Type 0) (ws : List ℕ) (act : State → Outcome (List ℕ)) → P (refused notAList ws) → ((s : State) → P (act s)) →
     P (onList ws act)
-unfolding onList
-onList-has P ws act p q = at (isList ws)
+unfolding onList onReading
+onList-has P ws act p q = at (readingOf ws)
   where
-    at : (t : Bool) → P (elim t [ true ↦ act (read ws) | false ↦ refused notAList ws ])
-    at true = q (read ws)
-    at false = p
+    at : (t : Reading) → P (onReading ws act t)
+    at (IsList s) = q (read ws)
+    at NotAList = p
 
 onKey-has : (P : Outcome (List ℕ) → Type 0) (ws : List ℕ) (s : State) (key : ℕ) (done : Outcome (List ℕ)) → P (refused badKey ws) → P done →
     P (onKey ws s key done)
@@ -306,16 +310,16 @@ onKey-has P ws s key done p q = cond-has P (leb 1 key && leb key (s .settings .l
 -- P holds of every refusal of the words, and of what each operation accepts
 module _ (P : Outcome (List ℕ) → Type 0) (ws : List ℕ) (turned : (r : Refusal) → P (refused r ws)) where
   set-up-has : (D K C : ℕ) → P (accepted 0 0 0 (picture (fresh D K C))) → P (setUpOut D K C ws)
-  unfolding setUpOut
-  set-up-has D K C done = at (inRange D K C) (eqb (length ws) (lengthOf D C))
+  unfolding setUpOut checkedOf setUpBy
+  set-up-has D K C done = at (inRange D K C)
     where
-      at : (t u : Bool) → P (elim t [
-        | true ↦ elim u [ true ↦ accepted 0 0 0 (picture (fresh D K C)) | false ↦ refused wrongLength ws ]
-        | false ↦ refused outOfRange ws
-      ])
-      at true true = done
-      at true false = turned wrongLength
-      at false u = turned outOfRange
+      by : (u : Bool) → P (elim u [ true ↦ accepted 0 0 0 (picture (fresh D K C)) | false ↦ refused wrongLength ws ])
+      by true = done
+      by false = turned wrongLength
+
+      at : (t : Bool) → P (setUpBy ws (cond t (Accepted (settingsOf D K C)) OutOfRange))
+      at true = by (eqb (length ws) (lengthOf D C))
+      at false = turned outOfRange
 
   keyed-has : (key : ℕ) (act : State → Outcome (List ℕ)) → ((s : State) → P (act s)) → P (onList ws (λ s. onKey ws s key (act s)))
   keyed-has key act done = onList-has P ws (λ s. onKey ws s key (act s)) (turned notAList) (λ s. onKey-has P ws s key (act s) (turned badKey) (done s))
@@ -375,7 +379,7 @@ refused-alters-nothing (Finish key) ws = finish-has (Kept ws) ws (λ r ne. refl)
 refused-alters-nothing Take ws = take-has (Kept ws) ws (λ r ne. refl) (λ key value count s ne. absurd (ne refl))
 refused-alters-nothing Sweep ws = sweep-has (Kept ws) ws (λ r ne. refl) (λ count s ne. absurd (ne refl))
 
--- "writes nothing"
+-- a find writes nothing
 pub find-writes-nothing : (ws : List ℕ) (key : ℕ) → findOut ws key .left ≡ ws
 find-writes-nothing ws key = find-has (λ o. o .left ≡ ws) ws (λ r. refl) key (λ value count. refl)
 

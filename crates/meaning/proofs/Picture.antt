@@ -108,7 +108,7 @@ picture-word s c j hc hj =
     ∙ block-word (shownWords s) w (shown-length s) numbers c j 0 inside hj
     ∙ ap (λ n. getD (shownWords s n) j 0) (numbers-at 0 (s .settings .cells) c 0 hc ∙ zero-add c)
 
--- "A free cell's first word holds the next free cell, its other words are 0."
+-- The words 4: a free cell's words after the first
 pub freeWords-rest : (D next j : ℕ) → 0 < j → j < cellWords D → getD (freeWords D next) j 0 ≡ 0
 unfolding freeWords
 freeWords-rest D next zero h l = absurd (omega arith)

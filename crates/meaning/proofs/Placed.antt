@@ -195,7 +195,7 @@ module _ {s : State} (v : Sound s) {x : ℕ} {p : Place} (here : Placed s x p) w
   unfolding standingWords
   place-high = place-word 5 (omega arith)
 
-  -- "A cell that owes nothing has owed, low and high 0."
+  -- Debts 4
   pub place-unowing : p .node .owes ≡ false → OwesNothing (picture s) x
   place-unowing e = (
     place-owed ∙ ap (λ t. cond t (firstOf (p .later) .cell) 0) e,
@@ -270,7 +270,7 @@ cell-unfound {s} v x free = at (placeOf x (placesOf s (s .row))) refl
     at (some p) e = absurd (standing-not-free (place-standing v (record { found = e })) free)
 
 module _ {s : State} (v : Sound s) where
-  -- "The chain from word 4 meets every free cell once"
+  -- The words 4: every free cell once
   pub cell-free : (x : ℕ) → Free (picture s) x → occurrences x (s .free) ≡ 1
   unfolding picture
   cell-free x free =
@@ -284,7 +284,7 @@ module _ {s : State} (v : Sound s) where
       let once = occurs-has (λ c. occurrences c (cellsIn s) ≡ 1) x (s .free) met each in
       omega (arith, once, met, occurrences-append x row (s .free), occurrences-more x 0 row)
 
-  -- "no other cell"
+  -- .. and no other cell
   pub free-cell : (x : ℕ) → 0 < occurrences x (s .free) → Free (picture s) x
   free-cell x h =
       free-cell-free s x (occurs-has (λ c. (0 < c) × (c < s .settings .cells)) x (s .free) h (free-range s v) .1)

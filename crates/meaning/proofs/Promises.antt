@@ -26,7 +26,7 @@ use Rattle.meaning.specs.Promises.{OneOutcome}
 use Rattle.meaning.proofs.Keys.{shared-agreed, lexicographic, coordinates-determine}
 use Rattle.meaning.proofs.AscendingKeys.{asc-rising, rising-equal}
 use Rattle.meaning.proofs.State.{Sound, base-positive, base-above}
-use Rattle.meaning.proofs.Reading.{list-sound, picture-is-list, read-of-picture}
+use Rattle.meaning.proofs.ReadBack.{list-sound, picture-is-list, read-of-picture}
 use Rattle.meaning.proofs.Outcomes as outcomes
 use Rattle.meaning.proofs.Outcomes.{on-lists, insert-outcome-bad-key, insert-outcome-live, insert-outcome-dead, insert-outcome-full}
 use Rattle.meaning.proofs.Outcomes.{insert-outcome-new, find-outcome-bad-key, find-outcome-absent, find-outcome-dead, find-outcome-live}

@@ -165,7 +165,7 @@ module _ (b D k : ℕ) (pos : 0 < b) (some : 0 < D) (kfits : k < b ^ D) where
       rw (le-leb (shared b D (x .key) k) (shared b D (x .key) k) (omega arith), later-share-less (x .key) row h asc)
           (and-true (leb (shared b D a k) (shared b D (x .key) k)))
 
-  -- "not yet counted", from a key a on: a key up to k is not one above k
+  -- not counted yet, from a key a on: a key up to k is not one above k
   fresh-before : (y a : ℕ) (x : Node) (row : List Node) → x .key ≤ k → k < y →
       every (λ z. not (eqb z y)) (counted b D k a (keys (x ∷ row))) ≡ every (λ z. not (eqb z y)) (counted b D k (x .key) (keys row))
   unfolding every counted

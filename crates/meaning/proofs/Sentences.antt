@@ -1,5 +1,6 @@
--- Every sentence of document 01 holds of a list. A list is the picture of a state in order; its standing cells have their places, its other
--- cells are free, and what a sentence says of cells by their words is so of the places by the order of the row.
+-- Every rule from Numbers to A list holds of a list, as a condition on its words. A list is the picture of a state in order; its standing
+-- cells have their places, its other cells are free, and what a rule says of cells by their words is so of the places by the laws of the
+-- row.
 use mathlib.Core.Path.{_≡_, refl, sym, ap, _∙_, subst, subst₂}
 use mathlib.Core.Bool.{Bool, true, false, cond, false≢true}
 use mathlib.Core.List.{List, [], _∷_, List·Memᴰ}
@@ -24,7 +25,7 @@ use Rattle.meaning.proofs.Keys.{shared-same, shared-le, shared-sym}
 use Rattle.meaning.proofs.State.{Sound, Debt}
 use Rattle.meaning.proofs.StateCells.{free-range, free-distinct}
 use Rattle.meaning.proofs.Picture.{picture-length, picture-path, free-found, places-later}
-use Rattle.meaning.proofs.Reading.{Follow, distinct-follow, position-read, list-is-picture, list-sound}
+use Rattle.meaning.proofs.ReadBack.{Follow, distinct-follow, position-read, list-is-picture, list-sound}
 use Rattle.meaning.proofs.WalkRead.{between-is, link-read, between-facts, linkDue, linkOwing, link-tested, undue-above, read-through}
 use Rattle.meaning.proofs.KeepsState.{cells-positive}
 use Rattle.meaning.proofs.SentencesRow.{Compared, Least, SharesAtLeast, first-with}
@@ -150,11 +151,11 @@ module _ {s : State} (v : Sound s) where
       inside : (d : ℕ) → d < highAt (picture s) n → d < D
       inside d k = omega (arith, k, owes .high, owes .next .dimension, shared-le b D (p .node .key) (q .node .key))
 
-  -- "So in a list a cell n other than the head may owe, and only so"
+  -- Debts 2 and 3
   pub debt-sentence : {n : ℕ} {p : Place} → Placed s n p → 0 < owedAt (picture s) n → MayOwe (picture s) n
   debt-sentence here h = let o = owed-owes here h in may-owe here o (place-owes here o .1)
 
-  -- "Every other link is settled."
+  -- Debts 3: every other link
   pub link-sentence : {x : ℕ} {p : Place} → Placed s x p → (d : ℕ) → d < s .settings .dimensions → (Owing (picture s) x d → ⊥) →
       ((n : ℕ) → Owing (picture s) n d → owedAt (picture s) n ≡ x → ⊥) → Settled (picture s) x d (linkAt (picture s) x d)
   link-sentence {x} {p} here d h own due-to =
@@ -236,7 +237,7 @@ module _ {s : State} (v : Sound s) where
       absurd (all-in (λ z. SharesAtLeast (s .settings .base) (s .settings .dimensions) (p .node .key) n z → ⊥) (node-member here) a
       (omega (arith, shared-same (s .settings .base) (s .settings .dimensions) (p .node .key))))
 
-  -- "The position is the last cell of the path."
+  -- The position 1
   pub position-is : positionAt (picture s) ≡ s .position
   unfolding picture
   position-is = position-read s v
@@ -246,7 +247,7 @@ module _ {s : State} (v : Sound s) where
       let (p, here) = position-placed v in
       ap (λ c. keyAt (picture s) c) position-is ∙ place-key v here ∙ sym (placed-keyOf here)
 
-  -- "Path word d is the least-key standing cell sharing the first d+1 coordinates with the position."
+  -- The position 2
   pub path-sentence : (d : ℕ) → d < s .settings .dimensions → OnPath (picture s) d
   path-sentence d h =
       let b = s .settings .base in
@@ -260,7 +261,7 @@ module _ {s : State} (v : Sound s) where
   pub position-standing : Standing (picture s) (positionAt (picture s))
   position-standing = subst (Standing (picture s)) (sym position-is) (place-standing v (position-placed v .1))
 
-  -- "All standing cells with keys up to the position's are dead."
+  -- The position 1: all up to it are dead
   pub passed-dead : {x : ℕ} {p : Place} → Placed s x p → keyAt (picture s) x ≤ keyAt (picture s) (positionAt (picture s)) → markAt (picture s) x ≡ 2
   passed-dead {x} {p} here h =
       let dead = placed-node here (λ y. y .key ≤ positionKey s → y .live ≡ false) (λ k. refl) (v .dead) in
@@ -275,7 +276,7 @@ module _ {s : State} (v : Sound s) where
       let onto = free-cell-first s c (r .0 .1) (u .0) ∙ f .0 in
       chained-on (r .0 .0) (subst (λ n. Chained (picture s) n cs) (sym onto) (chained-from cs (f .1) (r .1) (u .1)))
 
-  -- "The chain from word 4 meets every free cell once, no other cell, and ends in 0."
+  -- The words 4: the chain
   pub chain-sentence : FreeChain (picture s)
   unfolding picture
   chain-sentence =
@@ -288,13 +289,13 @@ module _ {s : State} (v : Sound s) where
 
   -- The other sentences
 
-  -- "Keys: 1 to K"
+  -- Numbers 2
   pub key-sentence : {x : ℕ} {p : Place} → Placed s x p → 0 < x → (0 < keyAt (picture s) x) × (keyAt (picture s) x ≤ s .settings .largest)
   key-sentence {x} here h =
       let above = place-next-smaller v here h .smaller in
       (omega arith, omega (arith, placed-most v here, place-key v here))
 
-  -- "Mark: 0 free, 1 live, 2 dead."
+  -- The words 1: the marks
   mark-sentence : (x : ℕ) → x < s .settings .cells → markAt (picture s) x ≤ 2
   mark-sentence x h = at (placeOf x (placesOf s (s .row))) refl
     where
@@ -306,7 +307,7 @@ module _ {s : State} (v : Sound s) where
       at none e = let m = free-cell-free s x h e .mark in omega arith
       at (some p) e = omega (arith, place-mark v (record { found = e }), of (p .node .live))
 
-  -- "A dead cell's value is 0."
+  -- The words 3: a dead cell's value
   dead-sentence : (x : ℕ) → x < s .settings .cells → markAt (picture s) x ≡ 2 → valueAt (picture s) x ≡ 0
   unfolding picture
   dead-sentence x h e =
@@ -318,7 +319,7 @@ module _ {s : State} (v : Sound s) where
       dead true m = absurd (omega arith)
       dead false m = refl
 
-  -- "no two standing cells have the same key"
+  -- How cells hang together 1
   pub distinct-sentence : {x y : ℕ} {p q : Place} → Placed s x p → Placed s y q → keyAt (picture s) x ≡ keyAt (picture s) y → x ≡ y
   distinct-sentence {x} {y} {p} {q} here there e = at (placed-compared v here there)
     where

@@ -1,4 +1,4 @@
--- Document 01's own wording of the settled shape, of the words of a picture: the standing cells of next smaller and next larger key, the
+-- How cells hang together 2 and 3, as conditions on the words of a picture: the standing cells of next smaller and next larger key, the
 -- dimension, and the settled links are those of the places. Keys ascend along the row, so what is later in it is larger, and larger at
 -- the first coordinate not shared; what is first in it is least.
 use mathlib.Core.Path.{_≡_, refl, sym, ap, ap₂, _∙_, subst, subst₂}
@@ -167,14 +167,13 @@ module _ {s : State} (v : Sound s) where
       at (last e) = absurd (omega (arith, h, ap length e))
       at (followed q there next) = (q, there, next)
 
-  -- "the standing cell of next smaller key"
+  -- the standing cell of next smaller key
   pub place-next-smaller : {x : ℕ} {p : Place} → Placed s x p → 0 < x → NextSmaller (picture s) x (p .before .cell)
   place-next-smaller {x} here h =
       let (q, there, next) = place-before here h in
       subst (NextSmaller (picture s) x) (sym (ap (λ y. y .cell) (next .before))) (next-smaller here there next)
 
-  -- "A standing cell's dimension is the number of leading coordinates it shares with the standing cell of next smaller key; the head's
-  -- is 0."
+  -- How cells hang together 2: the dimension
   pub place-dimension : {x : ℕ} {p : Place} → Placed s x p → Dimension (picture s) x (p .dimension)
   place-dimension {x} {p} here = at (placed-led here)
     where
@@ -247,8 +246,7 @@ module _ {s : State} (v : Sound s) where
             (subst (λ e. coordinate b D (p .node .key) e < coordinate b D (stands .place .node .key) e) shares less);
       }
 
-  -- "For x of dimension e and d at least e, link d of x leads to the least-key standing cell that shares exactly the first d coordinates
-  -- with x and is larger at d. Every other link is 0."
+  -- How cells hang together 3: the settled links
   pub place-settled : {x : ℕ} {p : Place} → Placed s x p → (d : ℕ) →
       Settled (picture s) x d (settledLink (s .settings .base) (s .settings .dimensions) p d)
   place-settled {x} {p} here d =

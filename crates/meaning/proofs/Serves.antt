@@ -19,7 +19,7 @@ use Rattle.meaning.specs.Promises.{EachCellOnce, SweptCellsFirst, UsesFi
 use Rattle.meaning.specs.Words.{cellsAt}
 use Rattle.meaning.proofs.StateCells.{cells-cover}
 use Rattle.meaning.proofs.State.{Sound, cellsIn}
-use Rattle.meaning.proofs.Reading.{read-of-picture}
+use Rattle.meaning.proofs.ReadBack.{read-of-picture}
 use Rattle.meaning.proofs.Places.{node-found}
 use Rattle.meaning.proofs.AscendingKeys.{member-past}
 use Rattle.meaning.proofs.Slot.{gap, slot-is}

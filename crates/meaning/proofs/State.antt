@@ -24,7 +24,7 @@ use Rattle.meaning.proofs.AscendingRow.{Asc, ascending-asc, asc-ascendi
 abbrev pub cellsIn : State → List ℕ
 cellsIn s = map (λ x. x .cell) (s .row) ++ s .free
 
--- a debt that document 01 allows
+-- a debt that Debts 2 allows
 pub record Debt (b D : ℕ) (n : Place) : Type 0 where
   pub later : 0 < length (n .later)
   pub unowing : firstOf (n .later) .owes ≡ false

@@ -20,7 +20,7 @@ use Rattle.meaning.specs.Words.{wordIndex, wordAt, owedAt, lowAt, highAt
 use Rattle.meaning.specs.Layer.Stores.{store, moveLinks, clearDebt, finishWords, writePath}
 use Rattle.meaning.proofs.Picture.{picture-length}
 
--- "Length is exactly 5 + D + C(6+2D)."
+-- The words 1: words of the exact length
 pub record Exact (D C : ℕ) (ws : List ℕ) : Type 0 where
   pub size : length ws ≡ lengthOf D C
 
@@ -250,7 +250,7 @@ link-other D ws n c d x i h k ne =
 lower-kept : (D : ℕ) (ws : List ℕ) (n c d k x : ℕ) → suc d + k ≤ D → wordIn D (moveLinks D ws n c (suc d) k) x (linkField D d) ≡ wordIn D ws x (linkField D d)
 lower-kept D ws n c d k x fit = moveLinks-field D ws n c (suc d) k fit x (linkField D d) (omega arith) (λ m l u e. omega arith)
 
--- "moves those links from c to n"
+-- the links that move are the new cell's
 pub moveLinks-given : {D C : ℕ} {ws : List ℕ} → Exact D C ws → (n c d k : ℕ) → n < C → (n ≡ c → ⊥) → d + k ≤ D → (i : ℕ) → d ≤ i → i < d + k →
     wordIn D (moveLinks D ws n c d k) n (linkField D i) ≡ wordIn D ws c (linkField D i)
 unfolding moveLinks
@@ -272,7 +272,7 @@ moveLinks-given {D} {C} {ws} exact n c d (suc k) here apart fit i h l =
         ∙ store-same exact n (linkField D d) value here (omega arith))
     at (no ne) more = more (lt-of-le-ne h ne) (omega arith) ∙ link-other D ws n c d c i (omega arith) (omega arith) ne
 
--- "puts 0 in c"
+-- .. and 0 stands in their place
 pub moveLinks-cleared : {D C : ℕ} {ws : List ℕ} → Exact D C ws → (n c d k : ℕ) → c < C → d + k ≤ D → (i : ℕ) → d ≤ i → i < d + k →
     wordIn D (moveLinks D ws n c d k) c (linkField D i) ≡ 0
 unfolding moveLinks
@@ -349,7 +349,7 @@ module _ {D C : ℕ} {ws : List ℕ} (exact : Exact D C ws) (n : ℕ) (debt : Ow
   finished-as : (i v : ℕ) → getD (clearDebt D moved n) i 0 ≡ v → getD (finishWords D ws n) i 0 ≡ v
   finished-as i v e = ap (λ us. getD us i 0) (finishWords-some D ws n (debt .owes)) ∙ e
 
-  -- ".. and clears the three words"
+  -- .. and the three words are 0
   pub finishWords-debt : (k : ℕ) → k < 3 → wordIn D (finishWords D ws n) n (3 + k) ≡ 0
   finishWords-debt k h =
       finished-as (wordIndex D n (3 + k)) 0

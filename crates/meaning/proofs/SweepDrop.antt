@@ -407,6 +407,6 @@ module _ (s : State) (front : List Node) (x : Node) (later : List Node) (v : Sou
       at (no ne) (no other) (yes freed) = freed-dropped y j h k freed
       at (no ne) (no other) (no kept) = other-dropped y j h k ne other (occurrences-none y (map (λ z. z .cell) front) (omega arith))
 
-  -- "moves the position .., frees every cell strictly between head and position .., and leaves the settled shape of the rest"
+  -- The operations 6: the picture of the state with the front dropped
   pub dropped-words : picture (dropped s front x later) ≡ written s front x later
   dropped-words = words-equal (picture-exact (dropped s front x later)) (exact-dropped exact pathBefore dropping) header-dropped path-dropped cell-dropped

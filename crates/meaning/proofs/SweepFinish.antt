@@ -1,4 +1,4 @@
--- "It finishes all that is owed": cell after cell, what each owes is finished, and at the end no node owes. A free cell owes nothing; and
+-- All that is owed is finished: cell after cell, what each owes is finished, and at the end no node owes. A free cell owes nothing; and
 -- of a standing one, what is written is the picture of the state with that debt paid, which is a state in order again.
 use mathlib.Core.Path.{_≡_, refl, sym, ap, ap₂, _∙_, subst}
 use mathlib.Core.Bool.{false}
@@ -103,7 +103,7 @@ unfolding finishedFrom
 finished-all x zero row a = sym (paid-unowing row (all-map (λ y h. let below = h .1 in h .0 (omega arith)) row a))
 finished-all x (suc n) row a = finished-all (suc x) n (finished x row) (finished-next x n row a) ∙ paid-finished x row
 
--- what all cells but the head owe is finished: "It finishes all that is owed"
+-- what all cells but the head owe is finished: The operations 6
 pub finish-all : (s : State) → Sound s → finishAll (s .settings .dimensions) (picture s) 1 (s .settings .cells - 1) ≡ picture (withRow s (map paid (s .row)))
 finish-all s v =
     let least = v .ranges .cells-least in

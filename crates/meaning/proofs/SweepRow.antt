@@ -35,8 +35,7 @@ module _ (b D : ℕ) (pos : 0 < b) (front : List Node) (x : Node) (later : List 
   pub head-link-above : (d : ℕ) → shared b D 0 (x .key) < d → firstSharing b D 0 d (x ∷ later) ≡ 0
   head-link-above d h = sharing-above b D pos 0 d x later (omega arith) (asc-right 0 front (x ∷ later) asc .1) h
 
-  -- "A standing cell's dimension is the number of leading coordinates it shares with the standing cell of next smaller key": x's becomes
-  -- what it shares with the head, which is not more than before
+  -- x's dimension becomes what it shares with the head
   pub dimension-falls : shared b D 0 (x .key) ≤ dimensionAfter b D headNode front (x .key)
   dimension-falls =
       let least = last-least headNode front (asc-left 0 front (x ∷ later) asc) in

@@ -1,5 +1,5 @@
--- What document 01 says of a sweep, as laws of the swept state and its words: nobody owes, the freed cells are at the front of the free
--- chain, the one of greatest key first, live nodes stay as they are, and the position is the greatest dead cell below every live key.
+-- The operations 6, as laws of the swept state and its words: nobody owes, what is freed and what is kept, and the position is the greatest
+-- dead cell below every live key.
 use mathlib.Core.Path.{_≡_, refl, sym, ap, _∙_, subst}
 use mathlib.Core.Bool.{Bool, true, false, true≢false}
 use mathlib.Core.List.{List, [], _∷_, _++_, map, dropLast}
@@ -30,13 +30,13 @@ use Rattle.meaning.proofs.SentencesShape.{HasPlace, row-placed}
 use Rattle.meaning.proofs.Sentences.{position-is, picture-sentences}
 use Rattle.meaning.proofs.SweepFinish.{paid-owes-nothing}
 
--- "finishes all that is owed"
+-- all that is owed is finished
 
 pub swept-unowing : (s : State) → All (λ x. x .owes ≡ false) (swept s .row)
 unfolding swept
 swept-unowing s = paid-owes-nothing (keptBy (s .row))
 
--- "A cell that owes nothing has owed, low and high 0.": every cell
+-- Debts 4, of every cell
 pub swept-owes-nothing : (s : State) → Sound s → (x : ℕ) → x < s .settings .cells → OwesNothing (picture (swept s)) x
 unfolding swept
 swept-owes-nothing s v x h = at (placeOf x (placesOf (swept s) (swept s .row))) refl
@@ -51,7 +51,7 @@ swept-owes-nothing s v x h = at (placeOf x (placesOf (swept s) (swept s .row))) 
         let here : Placed (swept s) x p = record { found = e } in
         place-unowing (swept-sound s v) here (placed-node here (λ y. y .owes ≡ false) refl (swept-unowing s))
 
--- "frees every cell strictly between head and position in key order, each put at the front of the free chain"
+-- The operations 6: what is freed
 
 pub freed-free : (s : State) → Sound s → All (λ x. Free (picture (swept s)) (x .cell)) (freedBy (s .row))
 unfolding swept
@@ -68,7 +68,7 @@ unfolding freedBy
 freed-dead row = all-left (λ x. x .live ≡ false) (freedBy row) (lastAlone (deadFront row))
     (subst (All (λ x. x .live ≡ false)) (sym (last-split (deadFront row))) (deadFront-dead row))
 
--- "moves the position to the greatest dead cell below every live key"
+-- The operations 6: where the position goes
 
 -- the last of some nodes with ascending keys is above what is below the first, ..
 last-above : (low : ℕ) (x : Node) (row : List Node) → Asc low (x ∷ row) → low < lastOf (x ∷ row) .key

@@ -131,7 +131,7 @@ pub freeCell-first : {D C : ℕ} {ws : List ℕ} → Exact D C ws → (x : ℕ) 
 unfolding freeCell
 freeCell-first {D} {C} {ws} exact x = header-set-same (exact-sets exact (wordIndex D x 0) (freeWords D (firstFreeAt ws))) 4 x (omega arith)
 
--- "A free cell's first word holds the next free cell, its other words are 0."
+-- The words 4: the words of a cell that became free
 pub freeCell-own : {D C : ℕ} {ws : List ℕ} → Exact D C ws → (x : ℕ) → x < C → (j : ℕ) → j < cellWords D →
     wordIn D (freeCell D ws x) x j ≡ getD (freeWords D (firstFreeAt ws)) j 0
 unfolding freeCell
@@ -166,7 +166,7 @@ unfolding freeAll
 freeAll-cell D ws [] y j h a = refl
 freeAll-cell D ws (x ∷ xs) y j h a = freeAll-cell D (freeCell D ws x) xs y j h (a .1) ∙ freeCell-cell D ws x y j h (a .0)
 
--- "each put at the front of the free chain": the last is the first free cell
+-- the last cell that becomes free is the first free cell
 pub freeAll-first : {D C : ℕ} {ws : List ℕ} → Exact D C ws → (xs free : List ℕ) → firstFreeAt ws ≡ firstNumber free →
     getD (freeAll D ws xs) 4 0 ≡ firstNumber (reverseAux xs free)
 unfolding freeAll

@@ -111,7 +111,7 @@ module _ {s : State} (v : Sound s) {c : ℕ} {p : Place} (here : Placed s c p) (
       at x j h k (yes e) = subst (λ y. wordIn D (picture after) y j ≡ wordIn D (writeNode D (picture s) c value (mark live)) y j) (sym e) (own-written j k)
       at x j h k (no ne) = other-kept x j h k ne ∙ sym (cell-sets-other D (picture s) c 1 (value ∷ mark live ∷ []) (omega arith) x j k ne)
 
--- "It becomes dead and the position. Links are untouched."
+-- The operations 5: what a take writes
 pub taken-words : (s : State) (x : Node) (later : List Node) → Sound s → fromLive (s .row) ≡ x ∷ later →
     picture (taken s x) ≡ writePath (writeNode (s .settings .dimensions) (picture s) (x .cell) 0 2) (path (taken s x))
 unfolding taken
@@ -119,7 +119,7 @@ taken-words s x later v e =
     let (p, here) = occurs-placed s (x .cell) (cell-stands s (deadFront (s .row)) x later (live-split (s .row) x later e)) in
     node-written v here deadNode (dead-keeping (x .cell)) (λ y. refl) 0 false (λ y. refl) (λ y. refl) (x .cell)
 
--- "A standing dead key gets the new value and mark 1, with no link changed and nothing finished."
+-- The operations 2: what a revival writes
 pub revived-words : (s : State) (x : Node) (value : ℕ) → Sound s → nodeAt (x .key) (s .row) ≡ some x →
     picture (revived s x value) ≡ writePath (writeNode (s .settings .dimensions) (picture s) (x .cell) value 1) (path (revived s x value))
 unfolding revived

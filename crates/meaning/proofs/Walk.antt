@@ -198,7 +198,7 @@ module _ (s : State) (v : Sound s) (k : ℕ) (least : 1 ≤ k) (most : k ≤ s .
   unfolding walk
   walk-is-met = row-trail-meets row-trail (v .ascends)
 
-  -- "The cells gone to, each counted once, are exactly those that looked counts."
+  -- Looked and the walk 4: the cells gone to are those that the rule counts
   pub walk-is-rule : map (keyAt (picture s)) (walk (picture s) k) ≡ rule (s .settings .base) (s .settings .dimensions) (map (λ x. x .key) (s .row)) k
   walk-is-rule =
       let b = s .settings .base in
@@ -216,12 +216,12 @@ module _ (s : State) (v : Sound s) (k : ℕ) (least : 1 ≤ k) (most : k ≤ s .
       let h = v .ranges .dimensions-least in
       omega (arith, row-trail-bounded (base-positive s v) (omega arith) (λ q here. key-below v here) row-trail)
 
-  -- "The figure is tied to a walk, and the figure is at most D(b-1)."
+  -- Looked and the walk 3: the count and its bound
   pub walk-looked : length (walk (picture s) k) ≡ looked s k
   unfolding looked
   walk-looked = sym (length-map (walk (picture s) k) (keyAt (picture s))) ∙ ap length walk-is-rule
 
-  -- "The cells gone to, each counted once"
+  -- Looked and the walk 3: no cell is gone to twice
   pub walk-once : Distinct (walk (picture s) k)
   walk-once =
       rw walk-is-met

@@ -237,7 +237,7 @@ link-read-owing ws b D p c later is held next o pos d h l =
         ∙ ap (λ r. firstSharing b D (p .node .key) d r) (sym is)
         ∙ sym (settled-above b D p d h)
 
--- "Where the cell owes and the link's number is at least low and below high, the link is read from the owed cell": it is the settled one.
+-- Looked and the walk 2: a link read through what is owed is the settled one.
 link-read-at : (ws : List ℕ) (b D : ℕ) (p : Place) → Held ws b D p → All (Held ws b D) (placesAfter b D (p .node) (p .dimension) (p .later)) →
     (p .node .owes ≡ true → Debt b D p) → All (λ x. 0 < x .cell) (p .later) → (d : ℕ) → p .dimension ≤ d → d < D →
     linkRead ws (p .node .cell) d ≡ settledLink b D p d

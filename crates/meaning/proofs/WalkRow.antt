@@ -200,7 +200,7 @@ module _ {b D k : ℕ} {R : Place → Type 0} where
   row-trail-meets (wants h up e stop) asc = rw (stop .gone) refl
   row-trail-meets {p} (reaches h e) asc = rw (none-met b D k (p .node .key) (p .later) h asc) refl
 
-  -- "the figure is at most D(b-1)": each move raises the coordinate at hand
+  -- at most D(b-1): each move raises the coordinate at hand
   module _ (pos : 0 < b) (some : 0 < D) (fits : (q : Place) → R q → q .node .key < b ^ D) where
     pub row-trail-bounded : {p : Place} {d : ℕ} {steps : List Step} → RowTrail b D k R p d steps →
         length (goneTo steps) + (d * (b - 1) + coordinate b D (p .node .key) d) ≤ D * (b - 1)

@@ -28,7 +28,7 @@ use Rattle.meaning.proofs.Stores.{cell-sets-other, cell-sets-below, pat
 use Rattle.meaning.proofs.AscendingRow.{Asc, asc-above}
 use Rattle.meaning.proofs.State.{Sound, base-positive}
 use Rattle.meaning.proofs.Picture.{path-length, picture-dimensions, picture-cells}
-use Rattle.meaning.proofs.Reading.{read-of-picture}
+use Rattle.meaning.proofs.ReadBack.{read-of-picture}
 use Rattle.meaning.proofs.Changed.{picture-path-word}
 use Rattle.meaning.proofs.Places.{asc-right, Located, onCell}
 use Rattle.meaning.proofs.Parent.{dimensionAfter, parentAfter, Apart, parent-is}

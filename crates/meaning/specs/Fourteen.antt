@@ -1,9 +1,9 @@
--- Document 01's "Fourteen steps to prove": one table of calls, answers and remarks. proofs/Fourteen.antt proves it.
+-- Fourteen steps: one table of calls, answers and remarks, with which the customer and we compare notes. proofs/Fourteen.antt proves it.
 use mathlib.Core.Bool.{Bool, true, _&&_}
 use mathlib.Core.List.{List, [], _∷_}
 use mathlib.Core.Option.{Option, none, some}
 use Prim.Native.Nat.{ℕ, suc}
-use lib.Dec.{eqb}
+use lib.Dec.{eqb, ltb}
 use lib.ListN.{replicate}
 use Rattle.settings.specs.Numbers.{lengthOf}
 use Rattle.lists.specs.Lists.{same}
@@ -22,6 +22,7 @@ pub data Remark : Type 0 where
   none-made : Remark
   -- the first key owes link d, and no other, of the second key's cell
   owes-link : (key d of : ℕ) → Remark
+  -- the key's cell, which is not the head, has owed, low and high 0
   owes-nothing : (key : ℕ) → Remark
   -- the position is the cell with this key (0: the head)
   position-is : (key : ℕ) → Remark
@@ -41,7 +42,9 @@ holds none-made ws = true
 holds (owes-link key d of) ws =
     let n = cellWith ws key in
     eqb (owedAt ws n) (cellWith ws of) && eqb (lowAt ws n) d && eqb (highAt ws n) (suc d)
-holds (owes-nothing key) ws = eqb (owedAt ws (cellWith ws key)) 0
+holds (owes-nothing key) ws =
+    let n = cellWith ws key in
+    ltb 0 n && eqb (owedAt ws n) 0 && eqb (lowAt ws n) 0 && eqb (highAt ws n) 0
 holds (position-is key) ws = eqb (positionKey (read ws)) key
 holds (free-chain cells) ws = same (read ws .free) cells
 holds (uses-cell key cell) ws = eqb (cellWith ws key) cell
@@ -54,7 +57,7 @@ pub record Line : Type 0 where
 abbrev pub line : Call → Answer → Remark → Line
 line call answered remark = record { call = call; answered = answered; remark = remark }
 
--- "D = 2, K = 15, C = 8, so b = 4. Steps in order from fresh, answers as four numbers"
+-- D = 2, K = 15, C = 8, so b = 4; the steps in order from fresh
 unfoldable pub table : List Line
 table =
     line (Insert 6 60) (answer 0 6 0 0) none-made

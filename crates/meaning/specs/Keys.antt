@@ -1,11 +1,11 @@
--- The coordinates of a key, and how many leading ones two keys share: document 01, "Numbers".
+-- The coordinates of a key, and how many leading ones two keys share: Numbers 5 and 6.
 use mathlib.Core.Bool.{cond}
 use mathlib.Core.List.{List, [], _∷_, _++_}
 use Prim.Native.Nat.{ℕ, zero, suc, _/_, _%_}
 use lib.Dec.{eqb}
 use lib.ListN.{getD}
 
--- "Coordinates of a key: its D digits in base b, most significant first, numbered 0 to D-1."
+-- Numbers 5: the D digits of a key in base b, the most significant first.
 unfoldable pub coordinates : ℕ → ℕ → ℕ → List ℕ
 coordinates b zero key = []
 coordinates b (suc D) key = coordinates b D (key / b) ++ (key % b ∷ [])

@@ -1,5 +1,5 @@
--- The meaning of document 01, in its words and its order.
--- What to believe: who believes these files, and those of crate settings, believes all that is proved.
+-- The meaning: docs/REFERENCE.md, rule by rule, in its words and its order.
+-- What to believe: who believes these files, and those of the crates settings and lists, believes all that is proved.
 pub mod Keys
 pub mod Row
 pub mod State
@@ -11,8 +11,8 @@ pub mod Words
 pub mod Rule
 pub mod Walk
 pub mod Calls
--- What cross-checks it: document 01's sentences one by one, what a call writes, what an ordered map would do, the fourteen steps, and what
--- is promised.
+-- What cross-checks it: the conditions on the words one by one, what a call writes, what an ordered map would do, the fourteen steps, and
+-- what is promised.
 pub mod Sentences
 pub mod Writes
 pub mod Book

@@ -1,60 +1,73 @@
--- The six operations: for every list of words and all numbers, the four numbers answered and every word afterwards. Document 01,
--- "The six operations" and "Turned away".
+-- The six operations: for every list of words and all numbers, the four numbers answered and every word afterwards. The operations,
+-- Refusals.
 use mathlib.Core.Bool.{Bool, true, false, cond, _&&_, _||_, not}
 use mathlib.Core.List.{List, [], _∷_, _++_, map, reverseAux, dropLast}
 use mathlib.Core.Option.{Option, none, some}
 use Prim.Native.Nat.{ℕ, _-_}
 use lib.Dec.{eqb, leb, ltb}
 use lib.ListN.{length, drop}
-use Rattle.settings.specs.Numbers.{inRange, lengthOf}
-use Rattle.settings.specs.Checked.{settingsOf}
+use Rattle.settings.specs.Numbers.{lengthOf}
+use Rattle.settings.specs.Checked.{settingsOf, checkedOf}
+use Rattle.settings.specs.declared.Checked.{Checked}
+use Rattle.settings.specs.declared.Checked.the-variants.{Accepted, OutOfRange}
 use Rattle.lists.specs.Lists.{those, numbersFrom, firstNumber}
 use Rattle.meaning.specs.Keys.{shared}
 use Rattle.meaning.specs.Row.{Node, headNode, Place, settledLink, low, high, placeOf, nodeAt, put}
 use Rattle.meaning.specs.State.{State, keyOf, positionKey, placesOf}
 use Rattle.meaning.specs.Picture.{picture}
-use Rattle.meaning.specs.Reading.{read, isList}
+use Rattle.meaning.specs.Reading.{read, readingOf}
 use Rattle.meaning.specs.Refusals.{Outcome, accepted, outOfRange, wrongLength, notAList, badKey, keyLive, noFreeCell, nothingLive, keyNotLive}
 use Rattle.meaning.specs.Refusals.{keyNotStanding, owedNotStanding, refused}
 use Rattle.meaning.specs.Rule.{rule}
 use Rattle.meaning.specs.Words.{markAt, owedAt, freeMark}
+use Rattle.meaning.specs.declared.Reading.{Reading}
+use Rattle.meaning.specs.declared.Reading.the-variants.{IsList, NotAList}
 
--- "3: the buffer is not a list (all but set up)"
+-- Refusal 3: the buffer is not a list. It goes by what the words are read as.
+unfoldable pub onReading : List ℕ → (State → Outcome (List ℕ)) → Reading → Outcome (List ℕ)
+onReading ws act (IsList s) = act (read ws)
+onReading ws act NotAList = refused notAList ws
+
 unfoldable pub onList : List ℕ → (State → Outcome (List ℕ)) → Outcome (List ℕ)
-onList ws act = elim (isList ws) [ true ↦ act (read ws) | false ↦ refused notAList ws ]
+onList ws act = onReading ws act (readingOf ws)
 
--- "4: key 0 or above K"
+-- Refusal 4: key 0 or above K.
 unfoldable pub onKey : List ℕ → State → ℕ → Outcome (List ℕ) → Outcome (List ℕ)
 onKey ws s key done = cond (leb 1 key && leb key (s .settings .largest)) done (refused badKey ws)
 
--- "9: a cell owed from is not standing": the cell that the owed word of cell x names has mark 0
+-- Refusal 9: the cell that the owed word of cell x names has mark 0.
 unfoldable pub owesFromFree : List ℕ → ℕ → Bool
 owesFromFree ws x = not (eqb (owedAt ws x) 0) && eqb (markAt ws (owedAt ws x)) freeMark
 
--- "Looked, for a key k, over the keys standing before the call"
+-- Looked 5: looked is over the keys that stand before the call; by the rule, Looked 4.
 unfoldable pub looked : State → ℕ → ℕ
 looked s k = length (rule (s .settings .base) (s .settings .dimensions) (map (λ x. x .key) (s .row)) k)
 
 -- Set up.
 
--- "Set up chains cells 1, 2, up to C-1 in that order, with the path all 0."
+-- The operations 1: no cell stands but the head, cells 1 to C-1 are free in that order, the path is all 0.
 unfoldable pub fresh : ℕ → ℕ → ℕ → State
 fresh D K C = record { settings = settingsOf D K C; row = []; free = numbersFrom 1 (C - 1); position = 0 }
 
-unfoldable pub setUpOut : ℕ → ℕ → ℕ → List ℕ → Outcome (List ℕ)
-setUpOut D K C ws =
-    elim (inRange D K C) [
-      | true ↦ elim (eqb (length ws) (lengthOf D C)) [ true ↦ accepted 0 0 0 (picture (fresh D K C)) | false ↦ refused wrongLength ws ]
-      | false ↦ refused outOfRange ws
+-- by what the checked constructor of the settings answers
+unfoldable pub setUpBy : List ℕ → Checked → Outcome (List ℕ)
+setUpBy ws (Accepted s) =
+    elim (eqb (length ws) (lengthOf (s .dimensions) (s .cells))) [
+      | true ↦ accepted 0 0 0 (picture (fresh (s .dimensions) (s .largest) (s .cells)))
+      | false ↦ refused wrongLength ws
     ]
+setUpBy ws OutOfRange = refused outOfRange ws
+
+unfoldable pub setUpOut : ℕ → ℕ → ℕ → List ℕ → Outcome (List ℕ)
+setUpOut D K C ws = setUpBy ws (checkedOf D K C)
 
 -- Finishing.
 
--- the node with its debt finished: "paid" in what follows
+-- the node with its debt finished, or paid
 abbrev pub paid : Node → Node
 paid x = record { cell = x .cell; key = x .key; value = x .value; live = x .live; owes = false }
 
--- "Finishing moves those links from c to n, puts 0 in c and clears the three words": what cell c owes is finished
+-- Debts 5: what cell c owes is finished.
 unfoldable pub finished : ℕ → List Node → List Node
 finished c row = map (λ x. cond (eqb (x .cell) c) (paid x) x) row
 
@@ -62,7 +75,7 @@ finished c row = map (λ x. cond (eqb (x .cell) c) (paid x) x) row
 abbrev pub withRow : State → List Node → State
 withRow s row = record { settings = s .settings; row = row; free = s .free; position = s .position }
 
--- "number of links moved (high minus low, or 0 if nothing was owed)"
+-- The operations 4: the number of links moved, high minus low, or 0 if nothing was owed
 unfoldable pub linksMoved : State → Option Place → ℕ
 linksMoved s none = 0
 linksMoved s (some x) = high (s .settings .base) (s .settings .dimensions) x - low x
@@ -73,7 +86,7 @@ finishAt ws s key (some x) =
     cond (owesFromFree ws (x .cell)) (refused owedNotStanding ws)
     (accepted key 0 (linksMoved s (placeOf (x .cell) (placesOf s (s .row)))) (picture (withRow s (finished (x .cell) (s .row)))))
 
--- "Finish: key, 0, number of links moved. The key may be dead."
+-- The operations 4: finish answers the key and the links moved; the key may be dead.
 unfoldable pub finishOut : List ℕ → ℕ → Outcome (List ℕ)
 finishOut ws key = onList ws (λ s. onKey ws s key (finishAt ws s key (nodeAt key (s .row))))
 
@@ -83,7 +96,7 @@ unfoldable pub findAt : List ℕ → State → ℕ → Option Node → Outcome (
 findAt ws s key none = refused (keyNotLive key (looked s key)) ws
 findAt ws s key (some x) = cond (x .live) (accepted key (x .value) (looked s key) ws) (refused (keyNotLive key (looked s key)) ws)
 
--- "Find: key, value, looked; writes nothing."
+-- The operations 3: find answers the key's value and looked, and writes nothing.
 unfoldable pub findOut : List ℕ → ℕ → Outcome (List ℕ)
 findOut ws key = onList ws (λ s. onKey ws s key (findAt ws s key (nodeAt key (s .row))))
 
@@ -104,14 +117,14 @@ unfoldable pub settledLinkAt : ℕ → ℕ → ℕ → Option Place → ℕ
 settledLinkAt b D d none = 0
 settledLinkAt b D d (some x) = settledLink b D x d
 
--- "the parent of that cell in the settled shape" of some standing cells
+-- How cells hang together 4: the parent of cell c in the settled shape of some standing cells
 unfoldable pub parentIn : State → ℕ → List Node → ℕ
 parentIn s c row =
     let standing = placesOf s row in
     leadsTo (s .settings .base) (s .settings .dimensions) (dimensionAt (placeOf c standing)) c standing
 
--- "If the key is at or below the position's, the position becomes the parent of that cell in the settled shape": cell c with this
--- key, in the row after the call
+-- The operations 2: if the key is at or below the position's, the position becomes the parent of its cell in the settled shape. Cell c has
+-- this key, in the row after the call.
 unfoldable pub positionAfter : State → ℕ → ℕ → List Node → ℕ
 positionAfter s key c row = cond (leb key (positionKey s)) (parentIn s c row) (s .position)
 
@@ -119,15 +132,14 @@ positionAfter s key c row = cond (leb key (positionKey s)) (parentIn s c row) (s
 abbrev pub revivedNode : ℕ → Node → Node
 revivedNode value x = record { cell = x .cell; key = x .key; value = value; live = true; owes = x .owes }
 
--- "A standing dead key gets the new value and mark 1, with no link changed and nothing finished."
+-- The operations 2: a dead key is revived: it gets the value and mark 1, no link changes and nothing is finished.
 unfoldable pub revived : State → Node → ℕ → State
 revived s x value =
     let row = map (λ y. cond (eqb (y .cell) (x .cell)) (revivedNode value y) y) (s .row) in
     record { settings = s .settings; row = row; free = s .free; position = positionAfter s (x .key) (x .cell) row }
 
--- A key that does not stand gets "a new cell n in the first free cell, as link p of its parent in the new settled shape. If a cell c
--- had that slot in the settled shape before, c becomes link q of n, where n and c share exactly q coordinates."
--- Where there is no c, q says nothing.
+-- The operations 2: a key that does not stand gets the first free cell n, as link p of its parent in the new settled shape. If a cell c had
+-- that slot in the settled shape before, c becomes link q of n, where n and c share q coordinates. Where there is no c, q says nothing.
 pub record Slot : Type 0 where
   pub n : ℕ
   pub parent : ℕ
@@ -149,11 +161,11 @@ slotFor s key =
     let c = settledLinkAt b D p (placeOf parent (placesOf s (s .row))) in
     record { n = n; parent = parent; p = p; c = c; q = shared b D key (keyOf c (s .row)) }
 
--- "If p < q, then n owes": where there is a c
+-- .. and n owes if p is below q, where there is a c.
 abbrev pub slotOwes : Slot → Bool
 slotOwes t = not (eqb (t .c) 0) && ltb (t .p) (t .q)
 
--- "Before it writes its links, an insert finishes what the parent owes, then what c owes, and nothing else."
+-- The operations 2: what the parent owes is finished, then what c owes, and nothing else.
 unfoldable pub added : State → ℕ → ℕ → Slot → State
 added s key value t =
     let row = put (newNode (t .n) key value (slotOwes t)) (finished (t .c) (finished (t .parent) (s .row))) in
@@ -171,7 +183,7 @@ insertAt ws s key value none = insertNew ws s key value
 insertAt ws s key value (some x) =
     cond (x .live) (refused (keyLive key (looked s key)) ws) (accepted key 0 (looked s key) (picture (revived s x value)))
 
--- "Insert: key asked, 0, looked."
+-- The operations 2: insert answers the key and looked.
 unfoldable pub insertOut : List ℕ → ℕ → ℕ → Outcome (List ℕ)
 insertOut ws key value = onList ws (λ s. onKey ws s key (insertAt ws s key value (nodeAt key (s .row))))
 
@@ -190,15 +202,15 @@ fromLive (x ∷ row) = cond (x .live) (x ∷ row) (fromLive row)
 abbrev pub deadNode : Node → Node
 deadNode x = record { cell = x .cell; key = x .key; value = 0; live = false; owes = x .owes }
 
--- "standing keys above the position"
+-- Refusal 7: the standing keys above the position
 unfoldable pub keysAbove : ℕ → List Node → ℕ
 keysAbove position row = length (those (λ x. ltb position (x .key)) row)
 
--- "how many standing keys lie above the old position and up to the taken one"
+-- The operations 5: passed, the standing keys above the old position and up to the taken one
 unfoldable pub keysPassed : ℕ → ℕ → List Node → ℕ
 keysPassed position key row = length (those (λ x. ltb position (x .key) && leb (x .key) key) row)
 
--- "It becomes dead and the position. Links are untouched."
+-- The operations 5: the taken cell becomes dead with value 0, and the position. No link changes.
 unfoldable pub taken : State → Node → State
 taken s x =
     record { settings = s .settings; row = map (λ y. cond (eqb (y .cell) (x .cell)) (deadNode y) y) (s .row); free = s .free; position = x .cell }
@@ -207,7 +219,7 @@ unfoldable pub takeFrom : List ℕ → State → List Node → Outcome (List ℕ
 takeFrom ws s [] = refused (nothingLive (keysAbove (positionKey s) (s .row))) ws
 takeFrom ws s (x ∷ later) = accepted (x .key) (x .value) (keysPassed (positionKey s) (x .key) (s .row)) (picture (taken s x))
 
--- "Take: the least live key, its value, and passed"
+-- The operations 5: take hands out the least live key.
 unfoldable pub takeOut : List ℕ → Outcome (List ℕ)
 takeOut ws = onList ws (λ s. takeFrom ws s (fromLive (s .row)))
 
@@ -225,12 +237,11 @@ lastAlone [] = []
 lastAlone (x ∷ []) = x ∷ []
 lastAlone (x ∷ y ∷ row) = lastAlone (y ∷ row)
 
--- "moves the position to the greatest dead cell below every live key (of all, if none is live; the head, if there is no other), frees
--- every cell strictly between head and position in key order, each put at the front of the free chain"
+-- The operations 6: the position moves to the last dead node below every live key, and what lies between the head and it is freed.
 unfoldable pub freedBy : List Node → List Node
 freedBy row = dropLast (deadFront row)
 
--- "finishes all that is owed .. and leaves the settled shape of the rest"
+-- .. all that is owed is finished, and what still stands has its settled shape.
 unfoldable pub swept : State → State
 swept s =
     record {
@@ -240,7 +251,7 @@ swept s =
       position = lastOf (deadFront (s .row)) .cell;
     }
 
--- "9: insert, finish, sweep", of a sweep: every cell's debt
+-- Refusals 2: for a sweep, every cell's debt.
 unfoldable pub someOwesFromFree : List ℕ → List Node → Bool
 someOwesFromFree ws [] = false
 someOwesFromFree ws (x ∷ row) = owesFromFree ws (x .cell) || someOwesFromFree ws row
@@ -249,6 +260,6 @@ unfoldable pub sweepOn : List ℕ → State → Outcome (List ℕ)
 sweepOn ws s =
     cond (someOwesFromFree ws (s .row)) (refused owedNotStanding ws) (accepted 0 0 (length (freedBy (s .row))) (picture (swept s)))
 
--- "Sweep: 0, 0, freed."
+-- The operations 6: sweep answers the number of cells freed.
 unfoldable pub sweepOut : List ℕ → Outcome (List ℕ)
 sweepOut ws = onList ws (sweepOn ws)

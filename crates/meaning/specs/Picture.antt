@@ -1,4 +1,4 @@
--- Every word of the buffer of a state: document 01, "The words" and "How cells hang together".
+-- Every word of the buffer of a state: The words, How cells hang together, Debts, The position.
 use mathlib.Core.Bool.{Bool, cond}
 use mathlib.Core.List.{List, [], _∷_, _++_, map, flatMap}
 use mathlib.Core.Option.{Option, none, some}
@@ -12,11 +12,11 @@ use Rattle.meaning.specs.Row.{Node, headNode, Place, places, placeOf, ow
 use Rattle.meaning.specs.State.{State, positionKey}
 use Rattle.meaning.specs.Words.{liveMark, deadMark}
 
--- "Mark: 0 free, 1 live, 2 dead."
+-- The words 1: mark 1 is live, 2 dead.
 abbrev pub mark : Bool → ℕ
 mark live = cond live liveMark deadMark
 
--- "key, value, mark, owed cell, low, high, D coordinates, D links"
+-- The words 1: a standing cell's words.
 unfoldable pub standingWords : ℕ → ℕ → Place → List ℕ
 standingWords b D x =
     x .node .key ∷ x .node .value ∷ mark (x .node .live) ∷ owed x ∷ low x ∷ high b D x
@@ -27,7 +27,7 @@ unfoldable pub nextFree : ℕ → List ℕ → ℕ
 nextFree c [] = 0
 nextFree c (x ∷ free) = cond (eqb x c) (firstNumber free) (nextFree c free)
 
--- "A free cell's first word holds the next free cell, its other words are 0."
+-- The words 4: a free cell's first word holds the next free cell, its other words are 0.
 unfoldable pub freeWords : ℕ → ℕ → List ℕ
 freeWords D next = next ∷ replicate (cellWords D - 1) 0
 
@@ -41,15 +41,15 @@ unfoldable pub firstWith : ℕ → ℕ → ℕ → ℕ → List Node → ℕ
 firstWith b D key n [] = 0
 firstWith b D key n (x ∷ later) = cond (ltb (shared b D (x .key) key) n) (firstWith b D key n later) (x .cell)
 
--- "Path word d is the least-key standing cell sharing the first d+1 coordinates with the position."
+-- The position 2: path word d is the first standing cell that shares at least d+1 coordinates with the position.
 abbrev pub pathWord : State → ℕ → ℕ
 pathWord s d = firstWith (s .settings .base) (s .settings .dimensions) (positionKey s) (suc d) (headNode ∷ s .row)
 
--- "Then D words of path."
+-- the D words of path
 unfoldable pub path : State → List ℕ
 path s = map (pathWord s) (numbersFrom 0 (s .settings .dimensions))
 
--- "Then C cells of 6+2D words"
+-- the words of the C cells, one after the other
 unfoldable pub cellPictures : State → List ℕ
 cellPictures s =
     let b = s .settings .base in
@@ -57,7 +57,7 @@ cellPictures s =
     let standing = places b D (s .row) in
     flatMap (λ c. wordsOf b D (s .free) c (placeOf c standing)) (numbersFrom 0 (s .settings .cells))
 
--- "Words 0 to 4: D, K, C, b, first free cell. Then D words of path. Then C cells"
+-- The words 1: header, path, cells.
 unfoldable pub picture : State → List ℕ
 picture s =
     s .settings .dimensions ∷ s .settings .largest ∷ s .settings .cells ∷ s .settings .base ∷ firstNumber (s .free)

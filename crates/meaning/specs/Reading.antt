@@ -1,4 +1,4 @@
--- The state that a buffer's words hold, and when a buffer is a list: document 01, the end of "How cells hang together".
+-- The state that a buffer's words hold, and when a buffer is a list: A list 1.
 use mathlib.Core.Path.{_≡_}
 use mathlib.Core.Bool.{Bool, true, false, cond, _&&_, not}
 use mathlib.Core.List.{List, [], _∷_}
@@ -13,8 +13,10 @@ use Rattle.meaning.specs.State.{State, valid}
 use Rattle.meaning.specs.Picture.{picture}
 use Rattle.meaning.specs.Words.{dimensionsAt, largestAt, cellsAt, baseAt, firstFreeAt, positionAt, keyField, valueField, markField, owedField}
 use Rattle.meaning.specs.Words.{freeMark, liveMark}
+use Rattle.meaning.specs.declared.Reading.{Reading}
+use Rattle.meaning.specs.declared.Reading.the-variants.{IsList, NotAList}
 
--- "key, value, mark, owed cell": a standing cell is live or dead, and owes if its owed word is not 0
+-- The words 1: a standing cell by its words; it owes if its owed word is not 0
 abbrev pub nodeOf : ℕ → List ℕ → Node
 nodeOf c ws =
     record {
@@ -25,25 +27,25 @@ nodeOf c ws =
       owes = not (eqb (getD ws owedField 0) 0);
     }
 
--- "A cell is standing if live or dead": the standing ones of some cells, numbered from c on, ascending by key
+-- The words 3: the standing ones of some cells, numbered from c on, ascending by key
 unfoldable pub standing : ℕ → List (List ℕ) → List Node
 standing c [] = []
 standing c (ws ∷ cells) =
     cond (eqb (getD ws markField 0) freeMark) (standing (suc c) cells) (put (nodeOf c ws) (standing (suc c) cells))
 
--- the chain of free cells from c on: "0 means none"; as many cells as `fuel` at most
+-- The words 4: the chain of free cells from c on; it ends in 0, and has as many cells as `fuel` at most
 unfoldable pub chain : ℕ → List (List ℕ) → ℕ → List ℕ
 chain zero cells c = []
 chain (suc fuel) cells c = elim (eqb c 0) [ true ↦ [] | false ↦ c ∷ chain fuel cells (getD (getD cells c []) 0 0) ]
 
--- "Words 0 to 4: D, K, C, b, first free cell."
+-- The words 1: the settings are the first four words.
 abbrev pub settingsAt : List ℕ → Settings
 settingsAt ws = record { dimensions = dimensionsAt ws; largest = largestAt ws; cells = cellsAt ws; base = baseAt ws }
 
 abbrev pub cellBlocks : List ℕ → List (List ℕ)
 cellBlocks ws = blocks (cellWords (dimensionsAt ws)) (cellsAt ws) (drop (headerWords + dimensionsAt ws) ws)
 
--- The state that the words hold. "The position is the last cell of the path."
+-- The state that the words hold: the standing cells but the head, the free chain, and the position, which is the last path word.
 unfoldable pub read : List ℕ → State
 read ws =
     let cells = cellBlocks ws in
@@ -54,11 +56,14 @@ read ws =
       position = positionAt ws;
     }
 
--- D, K and C are in range, and "length is exactly 5 + D + C(6+2D)"
+-- Numbers 1 and The words 1: D, K and C are in range, and the length is exact.
 unfoldable pub sized : List ℕ → Bool
 sized ws = inRange (dimensionsAt ws) (largestAt ws) (cellsAt ws) && eqb (length ws) (lengthOf (dimensionsAt ws) (cellsAt ws))
 
--- "A buffer is *a list* if all that this section and the two before it say of a buffer between calls holds of it": the state that
--- it holds is in order, and each word is as the picture of that state has it.
+-- A list 1: the state that the words hold is in order, and each word is as the picture of that state has it.
 unfoldable pub isList : List ℕ → Bool
 isList ws = elim (sized ws) [ true ↦ valid (read ws) && same (picture (read ws)) ws | false ↦ false ]
+
+-- what the words are read as: a list with its settings, or no list
+unfoldable pub readingOf : List ℕ → Reading
+readingOf ws = cond (isList ws) (IsList (settingsAt ws)) NotAList

@@ -1,9 +1,9 @@
--- What a call answers and leaves, and the table of refusals: document 01, "The six operations" and "Turned away".
+-- What a call answers and leaves, and the table of refusals: The operations, Refusals.
 use mathlib.Core.Path.{_≡_}
 use Prim.Native.Nat.{ℕ}
 use Rattle.meaning.specs.declared.Answer.{Answer}
 
--- "Each answers four numbers: refusal, key, value, count."
+-- The operations: every call answers four numbers.
 abbrev pub answer : ℕ → ℕ → ℕ → ℕ → Answer
 answer refusal key value count = record { refusal = refusal; key = key; value = value; count = count }
 
@@ -59,6 +59,6 @@ answerOf (keyNotStanding key) = answer 8 key 0 0
 answerOf owedNotStanding = answer 9 0 0 0
 answerOf lineNotReadable = answer 10 0 0 0
 
--- "No refusal is given otherwise and none changes a word."
+-- Refusals: a refused call alters nothing of what was lent.
 abbrev pub refused : {Lent : Type 0} → Refusal → Lent → Outcome Lent
 refused r lent = record { answered = answerOf r; left = lent }

@@ -1,4 +1,4 @@
--- The standing cells in the order of their keys, their dimensions and their settled links: document 01, "How cells hang together".
+-- The standing cells in the order of their keys, their dimensions, their settled links and their debts: How cells hang together, Debts.
 use mathlib.Core.Bool.{Bool, false, cond, _&&_}
 use mathlib.Core.List.{List, [], _∷_}
 use mathlib.Core.Option.{Option, none, some}
@@ -6,8 +6,7 @@ use Prim.Native.Nat.{ℕ}
 use lib.Dec.{eqb, leb, ltb}
 use Rattle.meaning.specs.Keys.{shared}
 
--- A standing cell: its number, key and value, whether it is live (or dead), whether it owes. (Document 01's nodes, class and unit, are those
--- of crate lines.)
+-- A node is a standing cell as the row has it: its number, key and value, whether it is live (or dead), whether it owes.
 pub record Node : Type 0 where
   pub cell : ℕ
   pub key : ℕ
@@ -15,7 +14,7 @@ pub record Node : Type 0 where
   pub live : Bool
   pub owes : Bool
 
--- "Cell 0 is the head: key 0, value 0, dead." The head never owes.
+-- The words 2: the head.
 abbrev pub headNode : Node
 headNode = record { cell = 0; key = 0; value = 0; live = false; owes = false }
 
@@ -38,28 +37,27 @@ pub record Place : Type 0 where
   pub beforeDimension : ℕ
   pub later : List Node
 
--- "A standing cell's dimension is the number of leading coordinates it shares with the standing cell of next smaller key"
+-- How cells hang together 2: the dimension is what a cell shares with the one before it.
 unfoldable pub placesAfter : ℕ → ℕ → Node → ℕ → List Node → List Place
 placesAfter b D a e [] = []
 placesAfter b D a e (x ∷ later) =
     record { node = x; dimension = shared b D (a .key) (x .key); before = a; beforeDimension = e; later = later }
     ∷ placesAfter b D x (shared b D (a .key) (x .key)) later
 
--- ".. the head's is 0."
+-- .. and the head's is 0.
 abbrev pub headPlace : List Node → Place
 headPlace row = record { node = headNode; dimension = 0; before = headNode; beforeDimension = 0; later = row }
 
 unfoldable pub places : ℕ → ℕ → List Node → List Place
 places b D row = headPlace row ∷ placesAfter b D headNode 0 row
 
--- "For x of dimension e and d at least e, link d of x leads to the least-key standing cell that shares exactly the first d
--- coordinates with x and is larger at d. Every other link is 0. That is the settled shape"
+-- How cells hang together 3: in the settled shape, link d of a cell whose dimension is at most d leads to the first later cell that shares
+-- exactly d coordinates with it. Every other link is 0.
 abbrev pub settledLink : ℕ → ℕ → Place → ℕ → ℕ
 settledLink b D x d = cond (leb (x .dimension) d) (firstSharing b D (x .node .key) d (x .later)) 0
 
--- A debt is what a cell owes, as its words owed, low and high say it: "its owed cell c is the standing cell of next larger key, .. low is
--- n's dimension, high is the number of coordinates n and c
--- share"; "A cell that owes nothing has owed, low and high 0."
+-- Debts 2 and 4: a cell that owes, owes from the cell after it; low is its dimension and high what the two share. A cell that owes nothing
+-- has 0 in all three.
 abbrev pub owed : Place → ℕ
 owed n = cond (n .node .owes) (firstOf (n .later) .cell) 0
 
@@ -73,8 +71,8 @@ high b D n = cond (n .node .owes) (shared b D (n .node .key) (firstOf (n .later)
 abbrev pub between : ℕ → ℕ → ℕ → Bool
 between least above d = leb least d && ltb d above
 
--- Link d of a standing cell as it stands. "Links low to high-1 of n are then 0 and those of c are n's settled ones. Every other
--- link is settled."
+-- Debts 3: link d of a standing cell as it stands. Links low to high-1 of a cell that owes are 0 and stand in the cell after it; every
+-- other link is settled.
 unfoldable pub link : ℕ → ℕ → Place → ℕ → ℕ
 link b D x d =
     cond (x .before .owes && between (x .beforeDimension) (x .dimension) d)

@@ -1,4 +1,4 @@
--- The rule for looked, over the standing keys and with no link and no search: document 01, "Looked".
+-- The rule for looked, over the standing keys and with no link and no search: Looked and the walk 4.
 use mathlib.Core.Bool.{cond, _&&_, not}
 use mathlib.Core.List.{List, [], _∷_, _++_}
 use Prim.Native.Nat.{ℕ}
@@ -6,8 +6,8 @@ use lib.Dec.{eqb, leb, ltb}
 use Rattle.lists.specs.Lists.{every}
 use Rattle.meaning.specs.Keys.{coordinate, shared}
 
--- "the number of standing cells other than the head, of dimension e, that share their first e coordinates with k and are at most k
--- at coordinate e": their keys. The keys ascend, and `before` is the one before them (the head's, 0, before the first).
+-- The keys of the cells other than the head whose dimension e is at most what they share with k, and whose coordinate e is at most k's. The
+-- keys ascend, and `before` is the one before them (the head's, 0, before the first).
 unfoldable pub counted : ℕ → ℕ → ℕ → ℕ → List ℕ → List ℕ
 counted b D k before [] = []
 counted b D k before (x ∷ keys) =
@@ -19,8 +19,7 @@ unfoldable pub leastAbove : ℕ → List ℕ → List ℕ
 leastAbove k [] = []
 leastAbove k (x ∷ keys) = cond (ltb k x) (x ∷ []) (leastAbove k keys)
 
--- "plus one if the least standing key above k shares as many coordinates with k as any standing cell does (the head included) and is
--- not yet counted"
+-- One more: the least standing key above k, if it is not counted yet and no standing cell, the head included, shares more with k.
 unfoldable pub plusOne : ℕ → ℕ → ℕ → List ℕ → List ℕ → List ℕ
 plusOne b D k keys [] = []
 plusOne b D k keys (y ∷ others) =

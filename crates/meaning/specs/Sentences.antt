@@ -1,5 +1,5 @@
--- Document 01's own sentences, each as a condition on the words of a buffer. The theorems tie the other definitions to them: a buffer
--- is a list, by specs/Reading.antt, if and only if every one of these holds.
+-- The rules of docs/REFERENCE.md from Numbers to A list, each as a condition on the words of a buffer. The theorems tie the other
+-- definitions to them: a buffer is a list, by specs/Reading.antt, if and only if every one of these holds.
 use mathlib.Core.Path.{_≡_}
 use mathlib.Core.Bool.{_&&_, _||_}
 use mathlib.Core.List.{List, [], _∷_}
@@ -22,12 +22,12 @@ abbrev pub sharedAt : List ℕ → ℕ → ℕ → ℕ
 sharedAt ws x y =
     agreed (coordinates (baseAt ws) (dimensionsAt ws) (keyAt ws x)) (coordinates (baseAt ws) (dimensionsAt ws) (keyAt ws y))
 
--- "Mark: 0 free, 1 live, 2 dead."
+-- The words 1: mark 0 is free.
 pub record Free (ws : List ℕ) (x : ℕ) : Type 0 where
   pub cell : x < cellsAt ws
   pub mark : markAt ws x ≡ freeMark
 
--- "A cell is standing if live or dead."
+-- The words 3: a cell is standing if it is live or dead.
 pub record Standing (ws : List ℕ) (x : ℕ) : Type 0 where
   pub cell : x < cellsAt ws
   pub mark : (markAt ws x ≡ liveMark) ⊎ (markAt ws x ≡ deadMark)
@@ -44,8 +44,7 @@ pub record NextLarger (ws : List ℕ) (x c : ℕ) : Type 0 where
   pub larger : keyAt ws x < keyAt ws c
   pub next : (y : ℕ) → Standing ws y → keyAt ws x < keyAt ws y → keyAt ws c ≤ keyAt ws y
 
--- "A standing cell's dimension is the number of leading coordinates it shares with the standing cell of next smaller key; the head's
--- is 0."
+-- How cells hang together 2: the dimension is what a standing cell shares with the one before it; the head's is 0.
 pub data Dimension (ws : List ℕ) : ℕ → ℕ → Type 0 where
   of-head : Dimension ws 0 0
   of-other : {x a : ℕ} → NextSmaller ws x a → Dimension ws x (sharedAt ws a x)
@@ -56,19 +55,18 @@ pub record LargerAt (ws : List ℕ) (x d y : ℕ) : Type 0 where
   pub shares : sharedAt ws x y ≡ d
   pub larger : digitAt ws x d < digitAt ws y d
 
--- "For x of dimension e and d at least e, link d of x leads to the least-key standing cell that shares exactly the first d coordinates
--- with x and is larger at d. Every other link is 0. That is the settled shape": y is what link d of x is in it.
+-- How cells hang together 3: y is what link d of x is in the settled shape.
 pub data Settled (ws : List ℕ) (x d : ℕ) : ℕ → Type 0 where
   leads : {e y : ℕ} → Dimension ws x e → e ≤ d → LargerAt ws x d y → ((z : ℕ) → LargerAt ws x d z → keyAt ws y ≤ keyAt ws z) → Settled ws x d y
   leads-nowhere : {e : ℕ} → Dimension ws x e → e ≤ d → ((z : ℕ) → LargerAt ws x d z → ⊥) → Settled ws x d 0
   below-dimension : {e : ℕ} → Dimension ws x e → d < e → Settled ws x d 0
 
--- "the chain from word 4": cells cs one after the other from c on, each named by the first word of the one before; "and ends in 0"
+-- The words 4: cells cs one after the other from c on, each named by the first word of the one before, and then 0
 pub data Chained (ws : List ℕ) : ℕ → List ℕ → Type 0 where
   ended : Chained ws 0 []
   chained-on : {c : ℕ} {cs : List ℕ} → 0 < c → Chained ws (wordAt ws c 0) cs → Chained ws c (c ∷ cs)
 
--- "The chain from word 4 meets every free cell once, no other cell, and ends in 0."
+-- The words 4: the chain from word 4 meets every free cell once and no other cell.
 pub record FreeChain (ws : List ℕ) : Type 0 where
   pub chain : List ℕ
   pub chained : Chained ws (firstFreeAt ws) chain
@@ -82,9 +80,7 @@ pub record Owing (ws : List ℕ) (n d : ℕ) : Type 0 where
   pub low : lowAt ws n ≤ d
   pub high : d < highAt ws n
 
--- "So in a list a cell n other than the head may owe, and only so: its owed cell c is the standing cell of next larger key, c owes
--- nothing, low is n's dimension, high is the number of coordinates n and c share, and low < high. Links low to high-1 of n are then 0
--- and those of c are n's settled ones."
+-- Debts 2 and 3: n may owe only so.
 pub record MayOwe (ws : List ℕ) (n : ℕ) : Type 0 where
   pub not-head : 0 < n
   pub owed : NextLarger ws n (owedAt ws n)
@@ -100,46 +96,46 @@ pub record Sharing (ws : List ℕ) (x n y : ℕ) : Type 0 where
   pub standing : Standing ws y
   pub shares : n ≤ sharedAt ws x y
 
--- "Path word d is the least-key standing cell sharing the first d+1 coordinates with the position."
+-- The position 2: path word d is the least-key standing cell that shares at least d+1 coordinates with the position.
 pub record OnPath (ws : List ℕ) (d : ℕ) : Type 0 where
   pub sharing : Sharing ws (positionAt ws) (suc d) (pathAt ws d)
   pub least : (y : ℕ) → Sharing ws (positionAt ws) (suc d) y → keyAt ws (pathAt ws d) ≤ keyAt ws y
 
--- All that "Numbers", "The words" and "How cells hang together" say of a buffer between calls, a field a sentence.
+-- A list 1: all that the rules say of a buffer between calls, a field a rule.
 pub record AList (ws : List ℕ) : Type 0 where
-  -- "Dimensions D: 2 to 16. Largest key K: 1 to 4,294,967,295. Cells C: 3 to 4,096, the head included."
+  -- Numbers 1: D, K and C are in range.
   pub dimensions : (leastDimensions ≤ dimensionsAt ws) × (dimensionsAt ws ≤ mostDimensions)
   pub largest : (leastLargest ≤ largestAt ws) × (largestAt ws ≤ mostLargest)
   pub count : (leastCells ≤ cellsAt ws) × (cellsAt ws ≤ mostCells)
-  -- "Keys: 1 to K; key 0 is the head's."
+  -- Numbers 2: keys are from 1 to K.
   pub keys : (x : ℕ) → Standing ws x → 0 < x → (0 < keyAt ws x) × (keyAt ws x ≤ largestAt ws)
-  -- "Base b: the least whole number with b to the power D above K."
+  -- Numbers 3: b is the base.
   pub base : IsBase (dimensionsAt ws) (largestAt ws) (baseAt ws)
-  -- "Length is exactly 5 + D + C(6+2D)."
+  -- The words 1: the length is exact.
   pub long : length ws ≡ lengthOf (dimensionsAt ws) (cellsAt ws)
-  -- "Mark: 0 free, 1 live, 2 dead."
+  -- The words 1: a mark is 0, 1 or 2.
   pub marks : (x : ℕ) → x < cellsAt ws → markAt ws x ≤ deadMark
-  -- "Cell 0 is the head: key 0, value 0, dead."
+  -- The words 2: the head.
   pub head : (keyAt ws 0 ≡ 0) × ((valueAt ws 0 ≡ 0) × (markAt ws 0 ≡ deadMark))
-  -- "A dead cell's value is 0."
+  -- The words 3: a dead cell's value is 0.
   pub dead-value : (x : ℕ) → x < cellsAt ws → markAt ws x ≡ deadMark → valueAt ws x ≡ 0
-  -- "A free cell's first word holds the next free cell, its other words are 0."
+  -- The words 4: a free cell's words after the first are 0.
   pub free-words : (x j : ℕ) → Free ws x → 0 < j → j < cellWords (dimensionsAt ws) → wordAt ws x j ≡ 0
-  -- "The chain from word 4 meets every free cell once, no other cell, and ends in 0."
+  -- The words 4: the free chain.
   pub free-chain : FreeChain ws
-  -- "A cell that owes nothing has owed, low and high 0."
+  -- Debts 4: a cell that owes nothing has owed, low and high 0.
   pub owes-nothing : (x : ℕ) → Standing ws x → owedAt ws x ≡ 0 → (lowAt ws x ≡ 0) × (highAt ws x ≡ 0)
-  -- "no two standing cells have the same key"
+  -- How cells hang together 1: no two standing cells have the same key,
   pub distinct : (x y : ℕ) → Standing ws x → Standing ws y → keyAt ws x ≡ keyAt ws y → x ≡ y
-  -- "each standing cell's coordinate words are its key's coordinates"
+  -- .. and each has its key's coordinates.
   pub coordinate-words : (x d : ℕ) → Standing ws x → d < dimensionsAt ws → coordinateAt ws x d ≡ digitAt ws x d
-  -- "in a list a cell n other than the head may owe, and only so"
+  -- Debts 2 and 3: only so may a cell owe.
   pub debts : (n : ℕ) → Standing ws n → 0 < owedAt ws n → MayOwe ws n
-  -- "Every other link is settled."
+  -- Debts 3: every other link is settled.
   pub links : (x d : ℕ) → Standing ws x → d < dimensionsAt ws → (Owing ws x d → ⊥) → ((n : ℕ) → Owing ws n d → owedAt ws n ≡ x → ⊥) →
       Settled ws x d (linkAt ws x d)
-  -- "The position is the last cell of the path. Path word d is the least-key standing cell sharing .."
+  -- The position 1 and 2: the position stands, and each path word is as the keys require.
   pub position : Standing ws (positionAt ws)
   pub path : (d : ℕ) → d < dimensionsAt ws → OnPath ws d
-  -- "All standing cells with keys up to the position's are dead."
+  -- The position 1: all up to the position are dead.
   pub passed-dead : (x : ℕ) → Standing ws x → keyAt ws x ≤ keyAt ws (positionAt ws) → markAt ws x ≡ deadMark

@@ -31,24 +31,22 @@ keyOf c (x ∷ row) = cond (eqb (x .cell) c) (x .key) (keyOf c row)
 abbrev pub positionKey : State → ℕ
 positionKey s = keyOf (s .position) (headNode ∷ s .row)
 
--- keys above a key, each above the one before: "no two standing cells have the same key"
+-- keys above a key, each above the one before: How cells hang together 1
 unfoldable pub ascending : ℕ → List Node → Bool
 ascending key [] = true
 ascending key (x ∷ row) = ltb key (x .key) && ascending (x .key) row
 
--- "Dimensions D: 2 to 16. Largest key K: 1 to 4,294,967,295. Cells C: 3 to 4,096 .. Base b: the least whole number with b to the
--- power D above K."
+-- Numbers 1 and 3: D, K and C are in range, and b is the base.
 abbrev pub settingsHold : State → Bool
 settingsHold s =
     inRange (s .settings .dimensions) (s .settings .largest) (s .settings .cells)
     && eqb (s .settings .base) (baseOf (s .settings .dimensions) (s .settings .largest))
 
--- "Keys: 1 to K; key 0 is the head's."
+-- Numbers 2: each key is from 1 to K.
 abbrev pub keysHold : State → Bool
 keysHold s = ascending 0 (s .row) && every (λ x. leb (x .key) (s .settings .largest)) (s .row)
 
--- Each cell but the head is standing or met once by the free chain: "The chain from word 4 meets every free cell once, no other
--- cell, and ends in 0."
+-- The words 4: each cell but the head is standing or met once by the free chain.
 abbrev pub cellsHold : State → Bool
 cellsHold s =
     let cells : List ℕ = map (λ x. x .cell) (s .row) ++ s .free in
@@ -56,11 +54,11 @@ cellsHold s =
     && every (λ c. ltb 0 c && ltb c (s .settings .cells)) cells
     && every (λ c. eqb (occurrences c cells) 1) cells
 
--- "A dead cell's value is 0."
+-- The words 3: a dead cell's value is 0.
 abbrev pub valuesHold : State → Bool
 valuesHold s = every (λ x. x .live || eqb (x .value) 0) (s .row)
 
--- "its owed cell c is the standing cell of next larger key, c owes nothing, .. and low < high."
+-- Debts 2: a cell that owes has a cell after it, which owes nothing, and low is below high.
 unfoldable pub debtHolds : ℕ → ℕ → Place → Bool
 debtHolds b D n =
     not (n .node .owes)
@@ -71,7 +69,7 @@ debtHolds b D n =
 abbrev pub debtsHold : State → Bool
 debtsHold s = every (debtHolds (s .settings .base) (s .settings .dimensions)) (placesOf s (s .row))
 
--- The position is the head or another standing cell. "All standing cells with keys up to the position's are dead."
+-- The position 1: it is the head or another standing cell, and all up to it are dead.
 abbrev pub positionHolds : State → Bool
 positionHolds s =
     ltb 0 (occurrences (s .position) (0 ∷ map (λ x. x .cell) (s .row)))

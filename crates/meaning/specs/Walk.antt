@@ -1,4 +1,4 @@
--- The walk on the words, link by link: document 01, "The walk".
+-- The walk on the words, link by link: Looked and the walk 1 and 2.
 use mathlib.Core.Bool.{Bool, true, false, cond, _&&_, not}
 use mathlib.Core.List.{List, [], _∷_}
 use Prim.Native.Nat.{ℕ, zero, suc, _*_}
@@ -9,17 +9,17 @@ use Rattle.meaning.specs.Words.{owedAt, lowAt, highAt, coordinateAt, lin
 use Rattle.meaning.specs.declared.Step.{Step}
 use Rattle.meaning.specs.declared.Step.the-variants.{Go, Up, End}
 
--- "Where the cell owes and the link's number is at least low and below high, the link is read from the owed cell"
+-- where the cell owes and the number is from its low to its high-1, the link is read from the owed cell
 unfoldable pub linkRead : List ℕ → ℕ → ℕ → ℕ
 linkRead ws x d = linkAt ws (cond (not (eqb (owedAt ws x) 0) && between (lowAt ws x) (highAt ws x) d) (owedAt ws x) x) d
 
--- where a link leads: "and ends if there is none"
+-- where a link leads; the walk ends if that is nowhere
 abbrev pub stepAlong : ℕ → Step
 stepAlong y = cond (eqb y 0) End (Go y)
 
--- One step for k from cell x and coordinate d. "If the cell at hand is below k at that coordinate, the walk goes along the cell's
--- link of that number, and ends if there is none. If it is equal, the coordinate goes up by one, and the walk ends at D. If it is
--- above, the walk ends."
+-- One step for k from cell x and coordinate d. If the cell at hand is below k at that coordinate, the walk goes along its link of that
+-- number, or ends if that leads nowhere. If it is equal, the coordinate goes up by one, and the walk ends at D. If it is above, the walk
+-- ends.
 unfoldable pub stepAt : List ℕ → ℕ → ℕ → ℕ → Step
 stepAt ws k x d =
     let own = coordinateAt ws x d in
@@ -37,8 +37,8 @@ unfoldable pub trailFrom : ℕ → List ℕ → ℕ → ℕ → ℕ → List Ste
 trailFrom zero ws k x d = []
 trailFrom (suc fuel) ws k x d = stepAt ws k x d ∷ onFrom (trailFrom fuel ws k) x d (stepAt ws k x d)
 
--- "The walk for k starts at the head with coordinate 0." Each step but the last raises the coordinate, or at the same coordinate the
--- cell's digit there, so D times b steps are enough on a list.
+-- The walk for k starts at the head with coordinate 0. Each step but the last raises the coordinate, or at the same coordinate the cell's
+-- digit there, so D times b steps are enough on a list.
 unfoldable pub trail : List ℕ → ℕ → List Step
 trail ws k = trailFrom (dimensionsAt ws * baseAt ws) ws k 0 0
 

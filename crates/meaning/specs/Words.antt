@@ -1,10 +1,10 @@
--- A list's words where they stand: the header, the path, and the words of each cell. Document 01, "The words".
+-- A list's words where they stand: the header, the path, and the words of each cell. The words 1.
 use mathlib.Core.List.{List}
 use Prim.Native.Nat.{ℕ, _+_, _*_, _-_}
 use lib.ListN.{getD}
 use Rattle.settings.specs.Numbers.{headerWords, fieldsBeforeCoordinates, cellWords}
 
--- "Words 0 to 4: D, K, C, b, first free cell."
+-- words 0 to 4: D, K, C, b, the first free cell
 abbrev pub dimensionsAt : List ℕ → ℕ
 dimensionsAt ws = getD ws 0 0
 
@@ -20,11 +20,11 @@ baseAt ws = getD ws 3 0
 abbrev pub firstFreeAt : List ℕ → ℕ
 firstFreeAt ws = getD ws 4 0
 
--- "Then D words of path."
+-- path word d
 abbrev pub pathAt : List ℕ → ℕ → ℕ
 pathAt ws d = getD ws (headerWords + d) 0
 
--- "The position is the last cell of the path."
+-- The position 1: the last word of the path.
 abbrev pub positionAt : List ℕ → ℕ
 positionAt ws = getD ws (headerWords + dimensionsAt ws - 1) 0
 
@@ -36,7 +36,7 @@ wordIndex D x j = headerWords + D + x * cellWords D + j
 abbrev pub wordAt : List ℕ → ℕ → ℕ → ℕ
 wordAt ws x j = getD ws (wordIndex (dimensionsAt ws) x j) 0
 
--- "key, value, mark, owed cell, low, high, D coordinates, D links"
+-- the words of a cell, by their numbers
 abbrev pub keyField : ℕ
 keyField = 0
 
@@ -85,7 +85,7 @@ coordinateAt ws x d = wordAt ws x (coordinateField d)
 abbrev pub linkAt : List ℕ → ℕ → ℕ → ℕ
 linkAt ws x d = wordAt ws x (linkField (dimensionsAt ws) d)
 
--- "Mark: 0 free, 1 live, 2 dead."
+-- the marks
 abbrev pub freeMark : ℕ
 freeMark = 0
 

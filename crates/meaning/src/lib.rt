@@ -1,9 +1,10 @@
-// The types that the definitions of document 01 and the code share: what a call answers, one step of the walk, and where it
-// comes to rest.
+// The types that the definitions and the code share: a call and what it answers, what a buffer is read as, one step of the walk, and where
+// it comes to rest.
 ghost use mathlib.Core.Path.{_≡_};
 ghost use Rattle.meaning.specs.Refusals.{answer};
+use settings::Settings;
 
-// "Each answers four numbers: refusal, key, value, count."
+// The operations: every call answers four numbers.
 #[repr(C)]
 pub struct Answer {
     pub refusal: u32,
@@ -12,7 +13,7 @@ pub struct Answer {
     pub count: u32,
 }
 
-// The numbers of the refusals: "Turned away". A definition of the same name says each one's answers (specs/Refusals.antt).
+// Refusals: their numbers. A definition of the same name says each one's answers (specs/Refusals.antt).
 pub const OUT_OF_RANGE: u32 = 1;
 
 pub const WRONG_LENGTH: u32 = 2;
@@ -47,6 +48,12 @@ pub enum Call {
     Finish(u32),
     Take,
     Sweep,
+}
+
+// What a buffer is read as: a list with its settings, or none, which is refused by number 3.
+pub enum Reading {
+    IsList(Settings),
+    NotAList,
 }
 
 // One step of the walk, from a cell and a coordinate: along the cell's link to a cell, up by one coordinate, or the walk's end.

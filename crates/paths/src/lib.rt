@@ -1,5 +1,6 @@
-// Paths: "path word d is the least-key standing cell sharing the first d+1 coordinates" with a cell. The path of the position as the
-// words have it, the path of any standing cell, and the next standing cell in key order from a path (the deletion stack of the MDList paper).
+// Paths: word d of a cell's path is the first standing cell that shares at least d+1 coordinates with it (The position 2). The path of the
+// position as the words have it, the path of any standing cell, and the next standing cell in key order from a path (the deletion stack
+// of the MDList paper).
 ghost use mathlib.Core.Path.{_≡_};
 ghost use mathlib.Core.Bool.{true};
 ghost use Prim.Native.Nat.{_≤_, _<_};

@@ -2,11 +2,10 @@
 use mathlib.Core.Path.{_≡_, refl, sym, _∙_}
 use mathlib.Core.Bool.{Bool, true, false, cond}
 use mathlib.Core.List.{List}
-use mathlib.Core.Option.{none, some}
 use Prim.Native.Nat.{ℕ, _≤_}
 use native.Mathlib.Omega.{arith}
 use lib.ListN.{length}
-use borrow.Author.Tests.{eq-eqb, ne-eqb}
+use borrow.Author.Tests.{ne-eqb}
 use Rattle.settings.specs.Numbers.{inRange, lengthOf, mostDimensions, mostCells}
 use Rattle.settings.specs.Checked.{settingsOf, checkedOf}
 use Rattle.settings.specs.declared.Settings.{Settings}
@@ -14,20 +13,11 @@ use Rattle.settings.specs.declared.Checked.{Checked}
 use Rattle.settings.specs.declared.Checked.the-variants.{Accepted, OutOfRange}
 use Rattle.settings.proofs.Numbers.{ranges}
 use Rattle.meaning.specs.declared.Answer.{Answer}
-use Rattle.meaning.specs.Refusals.{answer, outOfRange, Meets}
-use Rattle.meaning.specs.Operations.{setUpOut}
+use Rattle.meaning.specs.Refusals.{answer, Meets}
+use Rattle.meaning.specs.Operations.{setUpOut, setUpBy}
+use Rattle.meaning.proofs.Outcomes.{set-up-outcome}
 use Rattle.set_up.specs.Fresh.{freshList}
-use Rattle.set_up.specs.Refusal.{refusalOf}
 use Rattle.set_up.proofs.Fresh.{fresh-picture}
-
--- the checked constructor refuses exactly the numbers out of range, by number 1
-pub checked-refusal : (D K C : ℕ) → refusalOf (checkedOf D K C) ≡ cond (inRange D K C) none (some outOfRange)
-unfolding checkedOf
-checked-refusal D K C = at (inRange D K C)
-  where
-    at : (t : Bool) → refusalOf (cond t (Accepted (settingsOf D K C)) OutOfRange) ≡ cond t none (some outOfRange)
-    at true = refl
-    at false = refl
 
 module _ (D K C : ℕ) (checked : Checked) (is : checked ≡ checkedOf D K C) where
   not-in-range : checked ≡ OutOfRange → inRange D K C ≡ false
@@ -55,16 +45,15 @@ module _ (D K C : ℕ) (checked : Checked) (is : checked ≡ checkedOf D K C) wh
 
   module _ (ws : List ℕ) (r : Answer) where
     pub out-of-range-meets : checked ≡ OutOfRange → r ≡ answer 1 0 0 0 → Meets (setUpOut D K C ws) r ws
-    unfolding setUpOut
-    out-of-range-meets e a = rw (not-in-range e, setUpOut) (record { answered = a; left = refl })
+    unfolding setUpOut setUpBy
+    out-of-range-meets e a = rw (← is, e) (record { answered = a; left = refl })
 
     pub wrong-length-meets :
         {s : Settings} → checked ≡ Accepted s → (length ws ≡ lengthOf (s .dimensions) (s .cells) → ⊥) → r ≡ answer 2 0 0 0 →
         Meets (setUpOut D K C ws) r ws
-    unfolding setUpOut
-    wrong-length-meets e differ a =
-        let i = in-range e in
-        rw (i .0, ne-eqb (length ws) (lengthOf D C) (rw (i .1) at differ), setUpOut) (record { answered = a; left = refl })
+    unfolding setUpOut setUpBy
+    wrong-length-meets {s} e differ a =
+        rw (← is, e, ne-eqb (length ws) (lengthOf (s .dimensions) (s .cells)) differ, setUpBy) (record { answered = a; left = refl })
 
     pub fresh-meets :
         {s : Settings} (left : List ℕ) → checked ≡ Accepted s → length ws ≡ lengthOf (s .dimensions) (s .cells) → r ≡ answer 0 0 0 0 →
@@ -73,5 +62,5 @@ module _ (D K C : ℕ) (checked : Checked) (is : checked ≡ checkedOf D K C) wh
     fresh-meets left e long a written =
         let i = in-range e in
         let b = ranges D K C (i .0) in
-        rw (i .0, eq-eqb (length ws) (lengthOf D C) (rw (i .1) at long), setUpOut)
+        rw (set-up-outcome D K C ws (i .0) (rw (i .1) at long))
         (record { answered = a; left = written ∙ rw (i .1) (sym (fresh-picture D K C (omega arith))) })

@@ -1,4 +1,4 @@
--- The words of a fresh list: document 01, "Set up chains cells 1, 2, up to C-1 in that order, with the path all 0."
+-- The words of a fresh list: The operations 1.
 use mathlib.Core.Bool.{cond}
 use mathlib.Core.List.{List, [], _∷_, _++_, flatMap}
 use Prim.Native.Nat.{ℕ, _+_, _-_}
@@ -32,7 +32,7 @@ freshCell D C x = cellOf (cellWords D) (freshFirst C x) (freshMark x)
 unfoldable pub freshCells : ℕ → ℕ → ℕ → List ℕ
 freshCells D C n = flatMap (freshCell D C) (numbersFrom 0 n)
 
--- Words 0 to 4: "D, K, C, b, first free cell", which is 1.
+-- words 0 to 4: D, K, C, b and the first free cell, which is 1
 abbrev pub freshHeader : Settings → List ℕ
 freshHeader s = s .dimensions ∷ s .largest ∷ s .cells ∷ s .base ∷ 1 ∷ []
 

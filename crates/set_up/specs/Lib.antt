@@ -1,3 +1,2 @@
 -- What the code of set up writes, word by word, and what it refuses.
 pub mod Fresh
-pub mod Refusal

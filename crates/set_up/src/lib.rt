@@ -1,4 +1,4 @@
-// Set up: a fresh list in the lent words. Document 01: "Set up chains cells 1, 2, up to C-1 in that order, with the path all 0."
+// Set up: a fresh list in the lent words: The operations 1.
 ghost use mathlib.Core.Path.{_≡_};
 ghost use mathlib.Core.List.{_++_};
 ghost use Prim.Native.Nat.{_+_, _≤_, _<_};

@@ -12,7 +12,7 @@ use Rattle.meaning.specs.Layer.SweepStores.{finishAll}
 use Rattle.meaning.specs.Layer.Listed.{Listed}
 use Rattle.meaning.proofs.State.{Sound}
 use Rattle.meaning.proofs.KeepsFinish.{finished-sound}
-use Rattle.meaning.proofs.Reading.{read-of-picture, picture-is-list}
+use Rattle.meaning.proofs.ReadBack.{read-of-picture, picture-is-list}
 use Rattle.meaning.proofs.SweepFinish.{finish-cell, paid-unowing, finish-all, paid-sound, paid-owes-nothing}
 use Rattle.words.proofs.Listed.{picture-shaped, on-listed}
 use Rattle.free_between.specs.Between.{Paid}

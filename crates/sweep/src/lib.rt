@@ -28,7 +28,7 @@ fn some_owes_from_free(list: &[u32], s: Settings) -> bool
     false
 }
 
-// "It finishes all that is owed".
+// All that is owed is finished.
 fn finish_all(list: &mut [u32], s: Settings)
     requires { ⌜ Listed (now list) s ⌝ }
     ensures { λ r. ⌜ (now (list .exit) ≡ finishAll (s .dimensions) (now (list .entry)) 1 (s .cells - 1)) × Paid (now (list .exit)) s ⌝ }
@@ -70,7 +70,7 @@ fn seek_target(list: &[u32], s: Settings) -> Target
     }
 }
 
-// On a list with settings s: "0, 0, freed".
+// On a list with settings s: The operations 6.
 pub fn sweep(list: &mut [u32], s: Settings) -> Answer
     requires { ⌜ Listed (now list) s ⌝ }
     ensures { λ r. ⌜ Meets (sweepOut (now (list .entry))) r (now (list .exit)) ⌝ }

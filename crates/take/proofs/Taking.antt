@@ -52,7 +52,7 @@ pub record Passing (t : State) (s : Settings) (p : Path) (passed : ℕ) : Type 0
   pub room : passed + length later < s .cells
   pub path-in : PathIn s p
 
--- "Then D words of path": those of a list are the position's
+-- the words of path of a list are the position's path
 pub passing-start :
     {ws : List ℕ} {s : Settings} → Listed ws s → {p : Path} → Formed (s .dimensions) p → pathOf p ≡ take (s .dimensions) (drop headerWords ws) →
     Passing (read ws) s p 0

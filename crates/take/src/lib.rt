@@ -1,4 +1,4 @@
-// Take: from the position's path onward, past dead cells, to the least live key. "Links are untouched."
+// Take: from the position's path onward, past dead cells, to the least live key. No link changes.
 ghost use Rattle.meaning.specs.Refusals.{Meets};
 ghost use Rattle.meaning.specs.Operations.{takeOut};
 ghost use Rattle.meaning.specs.Layer.Listed.{Listed};
@@ -42,7 +42,7 @@ pub fn first_live(list: &[u32], s: Settings) -> Ahead
     }
 }
 
-// On a list with settings s: "the least live key, its value, and passed".
+// On a list with settings s: The operations 5.
 pub fn take(list: &mut [u32], s: Settings) -> Answer
     requires { ⌜ Listed (now list) s ⌝ }
     ensures { λ r. ⌜ Meets (takeOut (now (list .entry))) r (now (list .exit)) ⌝ }

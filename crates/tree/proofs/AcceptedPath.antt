@@ -238,7 +238,7 @@ dead-met ws s (m ∷ met) t r reached = (
     later (inl e) = let k = reached e in let i = r .0 .0 in omega arith
     later (inr e) = omega (arith, ap (keyAt ws) (eqb-true (m .cell) (positionAt ws) e))
 
--- "A dead cell's value is 0."
+-- a dead cell's value is 0
 pub values-met : (ws : List ℕ) (s : Seen) (met : List Met) → Trace ws s met → All (λ x. x .live ≡ false → x .value ≡ 0) (rowIn ws met)
 values-met ws s [] t = tt
 values-met ws s (m ∷ met) t = (at (t .0 .node), values-met ws (seen ws m s) met (t .1))

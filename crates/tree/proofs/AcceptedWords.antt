@@ -115,7 +115,7 @@ owes-next ws s y e later r linked cells levels = at (ℕ-discrete (owedAt ws y) 
 abbrev placeIn : List ℕ → ℕ → ℕ → ℕ → ℕ → List Met → Place
 placeIn ws a e y dim later = record { node = nodeIn ws y; dimension = dim; before = nodeIn ws a; beforeDimension = e; later = rowIn ws later }
 
--- The words of a standing cell are those of its place, and its debt is one that document 01 allows.
+-- The words of a standing cell are those of its place, and its debt is one that Debts 2 allows.
 pub record StandingWords (ws : List ℕ) (b D : ℕ) (p : Place) : Type 0 where
   pub held : Held ws b D p
   pub debt : p .node .owes ≡ true → Debt b D p
@@ -156,7 +156,7 @@ module _ (ws : List ℕ) (a ea y e dim : ℕ) (same : dim ≡ e) where
       ap (λ t. t && between (lowAt ws a) (highAt ws a) d) (owes-not ws a (c .owed)) ∙ sym (ap (λ t. t && between ea dim d) (owes-not ws a (c .owed)))
   due-before (inr o) d = ap₂ (λ l h. nodeIn ws a .owes && between l h d) (o .low) (o .high ∙ sym same)
 
-  -- "its owed cell c is the standing cell of next larger key, c owes nothing, .. and low < high"
+  -- Debts 2: the owed cell is the next standing one and owes nothing, and low is below high
   debt-allowed : (s : Seen) (later : List Met) → s .last ≡ y → Trace ws s later → Rising ws y later → OwesNext ws y e later →
       nodeIn ws y .owes ≡ true → Debt (baseAt ws) (dimensionsAt ws) (placeIn ws a ea y dim later)
   debt-allowed s [] is t r c o = absurd (false≢true (sym (owes-not ws y (c .owed)) ∙ o))

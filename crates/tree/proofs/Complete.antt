@@ -26,7 +26,7 @@ use Rattle.meaning.proofs.Keys.{shared-same, coordinate-head}
 use Rattle.meaning.proofs.State.{Sound, base-positive, base-above, base-of}
 use Rattle.meaning.proofs.StateCells.{free-distinct, free-range, free-length}
 use Rattle.meaning.proofs.Picture.{picture-length, picture-free, free-found}
-use Rattle.meaning.proofs.Reading.{Follow, distinct-follow, list-is-picture, list-sound}
+use Rattle.meaning.proofs.ReadBack.{Follow, distinct-follow, list-is-picture, list-sound}
 use Rattle.meaning.proofs.WalkRead.{places-read}
 use Rattle.meaning.proofs.Placed.{free-cell-first, free-cell-rest}
 use Rattle.tree.specs.Tree.{pathRun, children, headRight, atHead, freeRight, chainRight, headerRight, seenAll, accepts}

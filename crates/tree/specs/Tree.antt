@@ -1,6 +1,5 @@
--- The check for refusal 3 as a reading of the words: "reads the list cell by cell, each child's own children in turn". The children of
--- a cell are met by its links from D-1 down, so the cells are read in ascending order of keys, and each is compared with the one read
--- before it.
+-- The check for refusal 3 as a reading of the words, cell by cell, each child's own children in turn. The children of a cell are met by its
+-- links from D-1 down, so the cells are read in ascending order of keys, and each is compared with the one read before it.
 use mathlib.Core.Bool.{Bool, true, false, cond, _&&_, _||_, not}
 use mathlib.Core.List.{List, [], _∷_}
 use Prim.Native.Nat.{ℕ, zero, suc, _+_, _*_, _-_, _^_}
@@ -116,7 +115,7 @@ unfoldable pub children : ℕ → List ℕ → ℕ → ℕ → Seen → Seen
 children fuel ws zero x s = s
 children fuel ws (suc n) x s = along (children fuel ws n) ws (dimensionsAt ws - suc n) fuel x s
 
--- "Cell 0 is the head: key 0, value 0, dead", with coordinates 0, owing nothing
+-- The words 2: the head, owing nothing
 unfoldable pub headRight : List ℕ → Bool
 headRight ws =
     eqb (keyAt ws 0) 0

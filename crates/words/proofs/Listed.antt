@@ -14,7 +14,7 @@ use Rattle.meaning.specs.Walk.{linkRead}
 use Rattle.meaning.specs.Layer.Listed.{Listed}
 use Rattle.meaning.proofs.State.{Sound, base-positive}
 use Rattle.meaning.proofs.Picture.{picture-length}
-use Rattle.meaning.proofs.Reading.{list-is-picture, list-sound}
+use Rattle.meaning.proofs.ReadBack.{list-is-picture, list-sound}
 use Rattle.meaning.proofs.CellsWithin.{owed-within, linkRead-within}
 use Rattle.words.specs.Shaped.{Shaped}
 

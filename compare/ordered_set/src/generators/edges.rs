@@ -1,13 +1,13 @@
-//! The edges that document 01 lists, and those of the trace's own format.
+//! The ends of every range of docs/REFERENCE.md, and those of the trace's own format.
 
 use super::Trace;
 use crate::replay::MOST_WORDS;
 use crate::settings::{exact_length, Settings};
 
-/// "D = 2, K = 15, C = 8 ... Steps in order from fresh"
+/// The fourteen steps.
 pub const FOURTEEN_STEPS: &str = "N 6 60|N 5 50|N 9 90|F 6|T|T|N 2 20|T|T|N 6 61|T|T|S|N 5 51";
 
-/// "full buffer with a dead key inserted again": three cells beside the head.
+/// A full buffer with a dead key inserted again: three cells beside the head.
 const FULL_BUFFER: &str = "U 2 15 4 47|N 6 60|N 5 50|N 9 90|N 7 70|N 5 51|T|N 7 70|N 4 40|N 5 52|\
     N 5 53|N 7 70|T|T|T|T|N 9 91|N 1 10|S|N 1 10|N 9 92|T|T|S|N 15 1|N 1 2";
 

@@ -1,5 +1,5 @@
 //! Models altered in one way: the drawing is then a list that no call leaves, or breaks a
-//! single sentence of document 01.
+//! single rule of docs/REFERENCE.md.
 
 use super::keys::neighbour;
 use super::Trace;

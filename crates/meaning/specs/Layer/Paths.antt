@@ -15,7 +15,7 @@ use Rattle.meaning.specs.Operations.{dimensionAt, lastOf}
 use Rattle.meaning.specs.declared.Step.{Step}
 use Rattle.meaning.specs.declared.Step.the-variants.{Go, Up, End}
 
--- The path of the standing cell with a key: word d is "the least-key standing cell sharing the first d+1 coordinates" with it.
+-- The position 2, of any standing cell: word d is the first that shares at least d+1 coordinates with its key.
 unfoldable pub pathFor : ℕ → ℕ → List Node → ℕ → List ℕ
 pathFor b D row key = map (λ d. firstWith b D key (suc d) (headNode ∷ row)) (numbersFrom 0 D)
 

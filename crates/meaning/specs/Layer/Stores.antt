@@ -15,13 +15,13 @@ use Rattle.meaning.specs.Operations.{Slot, slotOwes}
 abbrev pub store : ℕ → List ℕ → ℕ → ℕ → ℕ → List ℕ
 store D ws x j v = set ws (wordIndex D x j) v
 
--- k links from number d on move from cell c to cell n: "moves those links from c to n, puts 0 in c"
+-- k links from number d on move from cell c to cell n, and 0 stands in their place in c: Debts 5
 unfoldable pub moveLinks : ℕ → List ℕ → ℕ → ℕ → ℕ → ℕ → List ℕ
 moveLinks D ws n c d zero = ws
 moveLinks D ws n c d (suc k) =
     moveLinks D (store D (store D ws n (linkField D d) (getD ws (wordIndex D c (linkField D d)) 0)) c (linkField D d) 0) n c (suc d) k
 
--- ".. and clears the three words": owed, low and high of cell n become 0
+-- .. and owed, low and high of cell n become 0
 abbrev pub clearDebt : ℕ → List ℕ → ℕ → List ℕ
 clearDebt D ws n = sets ws (wordIndex D n 3) (0 ∷ 0 ∷ 0 ∷ [])
 
@@ -38,7 +38,7 @@ writePath ws path = sets ws headerWords path
 abbrev pub writeNode : ℕ → List ℕ → ℕ → ℕ → ℕ → List ℕ
 writeNode D ws x value mark = sets ws (wordIndex D x 1) (value ∷ mark ∷ [])
 
--- the links of a new cell: "c becomes link q of n" where there is a c, every other link 0
+-- the links of a new cell: link q leads to c where there is a c, every other link is 0
 abbrev pub newLinks : ℕ → ℕ → ℕ → List ℕ
 newLinks D q c = cond (eqb c 0) (replicate D 0) (set (replicate D 0) q c)
 
@@ -48,7 +48,7 @@ newWords b D key value t =
     key ∷ value ∷ 1 ∷ cond (slotOwes t) (t .c) 0 ∷ cond (slotOwes t) (t .p) 0 ∷ cond (slotOwes t) (t .q) 0
     ∷ (coordinates b D key ++ newLinks D (t .q) (t .c))
 
--- "an insert finishes what the parent owes, then what c owes", where there is a c
+-- what the parent owes is finished, then what c owes, where there is a c: The operations 2
 abbrev pub paidWords : ℕ → List ℕ → ℕ → ℕ → List ℕ
 paidWords D ws parent c = cond (eqb c 0) (finishWords D ws parent) (finishWords D (finishWords D ws parent) c)
 

@@ -9,12 +9,13 @@ use Rattle.meaning.specs.Words.{wordIndex, firstFreeAt, linkField}
 use Rattle.meaning.specs.Layer.Paths.{onward}
 use Rattle.meaning.specs.Layer.Stores.{store, finishWords, writePath}
 
--- "finishes all that is owed": what n cells from x on owe, one cell after the other
+-- what n cells from x on owe is finished, one cell after the other
 unfoldable pub finishAll : ℕ → List ℕ → ℕ → ℕ → List ℕ
 finishAll D ws x zero = ws
 finishAll D ws x (suc n) = finishAll D (finishWords D ws x) (suc x) n
 
--- "leaves the settled shape of the rest": k links of cell x from number d on become those of the cells on a path, link d that of word d.
+-- the new position's links in the settled shape: k links of cell x from number d on become those of the cells on a path, link d that of
+-- word d.
 unfoldable pub takeLinks : ℕ → List ℕ → ℕ → List ℕ → ℕ → ℕ → List ℕ
 takeLinks D ws x path d zero = ws
 takeLinks D ws x path d (suc k) =
@@ -24,17 +25,17 @@ takeLinks D ws x path d (suc k) =
 unfoldable pub relinkHead : ℕ → List ℕ → ℕ → ℕ → List ℕ
 relinkHead D ws x z = sets ws (wordIndex D 0 (linkField D z)) (x ∷ replicate (D - suc z) 0)
 
--- "put at the front of the free chain": cell x's first word holds the first free cell, its other words are 0, and word 4 holds x
+-- cell x comes to the front of the free chain: its first word holds the first free cell, its other words are 0, and word 4 holds x
 unfoldable pub freeCell : ℕ → List ℕ → ℕ → List ℕ
 freeCell D ws x = set (sets ws (wordIndex D x 0) (freeWords D (firstFreeAt ws))) 4 x
 
--- "frees every cell strictly between head and position in key order, each put at the front of the free chain"
+-- cells come to the front of the free chain, one after the other
 unfoldable pub freeAll : ℕ → List ℕ → List ℕ → List ℕ
 freeAll D ws [] = ws
 freeAll D ws (x ∷ xs) = freeAll D (freeCell D ws x) xs
 
--- "moves the position .., frees every cell strictly between head and position .., and leaves the settled shape of the rest": the new
--- position is cell x, reached by link `number`, with its path; it shares z coordinates with the head; `between` are the cells to free.
+-- The operations 6: the front is dropped. The new position is cell x, reached by link `number`, with its path; it shares z coordinates with
+-- the head; `between` are the cells to free.
 unfoldable pub dropFront : ℕ → List ℕ → ℕ → ℕ → List ℕ → ℕ → List ℕ → List ℕ
 dropFront D ws x number path z between =
     let relinked = relinkHead D (takeLinks D ws x path z (number - z)) x z in
