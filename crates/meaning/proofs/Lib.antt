@@ -55,6 +55,7 @@ pub mod Outcomes
 pub mod BookRow
 pub mod BookCalls
 pub mod Book
+pub mod BookReplies
 pub mod BookPresent
 pub mod Serves
 -- A buffer is a list if and only if every sentence holds.

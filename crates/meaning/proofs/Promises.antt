@@ -22,7 +22,7 @@ use Rattle.meaning.specs.Promises.{ListsStayLists, CallsKeepLists, Refus
 use Rattle.meaning.specs.Promises.{PresentMeansThatKey, TakesInTurn, TakesEnd, CallsAreBooked, FindWritesNothing, TakeWrites, ReviveWrites}
 use Rattle.meaning.specs.Promises.{InsertWrites, FinishWrites, SweepWrites, EachCellOnce, SweptCellsFirst, InsertUsesFirst, SharedMeansLeading}
 use Rattle.meaning.specs.Promises.{ListMeansSentences, WalkIsRule, WalkOnce, WalkBounded, WalkEnds, WalkByKeysAlone, OrderIsLexicographic}
-use Rattle.meaning.specs.Promises.{OneOutcome}
+use Rattle.meaning.specs.Promises.{AnswersAreBooked, OneOutcome}
 use Rattle.meaning.proofs.Keys.{shared-agreed, lexicographic, coordinates-determine}
 use Rattle.meaning.proofs.AscendingKeys.{asc-rising, rising-equal}
 use Rattle.meaning.proofs.State.{Sound, base-positive, base-above}
@@ -32,6 +32,7 @@ use Rattle.meaning.proofs.Outcomes.{on-lists, insert-outcome-bad-key, i
 use Rattle.meaning.proofs.Outcomes.{insert-outcome-new, find-outcome-bad-key, find-outcome-absent, find-outcome-dead, find-outcome-live}
 use Rattle.meaning.proofs.Outcomes.{key-cases, live-cases, free-cases}
 use Rattle.meaning.proofs.Book as book
+use Rattle.meaning.proofs.BookReplies as replies
 use Rattle.meaning.proofs.Writes as leaves
 use Rattle.meaning.proofs.Serves as serves
 use Rattle.meaning.proofs.BookPresent as present
@@ -215,3 +216,6 @@ insert-uses-first = serves.insert-uses-first
 
 pub calls-are-booked : CallsAreBooked
 calls-are-booked = book.calls-are-booked
+
+pub answers-are-booked : AnswersAreBooked
+answers-are-booked = replies.answers-are-booked

@@ -22,7 +22,7 @@ use Rattle.meaning.specs.Operations.{takeOut, freedBy, slotFor}
 use Rattle.meaning.specs.Writes.{OwesNothing, OwesSame, Finished, Inserted, Taken, Revived, Swept}
 use Rattle.meaning.specs.Calls.{outcome, afterCalls, Lent}
 use Rattle.meaning.specs.Sentences.{Standing, AList}
-use Rattle.meaning.specs.Book.{Pair, livePairs, standingKeys, bookOf, bookedAll}
+use Rattle.meaning.specs.Book.{Pair, livePairs, standingKeys, bookOf, bookedAll, replyIn, replyTo}
 use Rattle.meaning.specs.declared.Call.the-variants.{SetUp, Insert, Find, Finish, Take, Sweep}
 use Rattle.meaning.specs.declared.Call.{Call}
 
@@ -139,6 +139,11 @@ TakesEnd = (ws : List ℕ) → isList ws ≡ true → (takeOut ws .answered .ref
 abbrev pub CallsAreBooked : Type 0
 CallsAreBooked =
     (calls : List Call) (ws : List ℕ) → isList ws ≡ true → bookOf (afterCalls calls ws) ≡ bookedAll calls (length ws) (bookOf ws)
+
+-- .. and each call answers what an ordered map would: its refusal, key and value follow from the pairs and the keys alone.
+abbrev pub AnswersAreBooked : Type 0
+AnswersAreBooked =
+    (call : Call) (ws : List ℕ) → isList ws ≡ true → replyIn (outcome call ws .answered) ≡ replyTo call (length ws) (bookOf ws)
 
 -- 9. What a call leaves alone. A find writes nothing.
 abbrev pub FindWritesNothing : Type 0
