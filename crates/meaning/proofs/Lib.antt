@@ -44,6 +44,7 @@ pub mod InsertLinks
 pub mod InsertSlot
 pub mod InsertPut
 pub mod InsertPath
+pub mod InsertDebts
 pub mod InsertWords
 pub mod SweepRow
 pub mod SweepStores
