@@ -70,6 +70,7 @@ pub mod ConversePlaces
 pub mod ConverseState
 pub mod ConverseLinks
 pub mod Converse
+pub mod ShapeByKeys
 -- What is promised; examples.
 pub mod Writes
 pub mod Promises
