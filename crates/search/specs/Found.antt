@@ -52,8 +52,8 @@ foundAt s k (some x) =
 unfoldable pub foundOf : State → ℕ → Found
 foundOf s k = foundAt s k (nodeAt k (s .row))
 
--- What the search for k on a list answers: what the standing keys say, with looked the number of cells that the walk on the words goes to
--- (docs/REFERENCE.md, *Looked and the walk 3*). A search that went to other cells would have another count.
+-- What the search for k on a list answers: what the standing keys say, and in looked the number of cells that the walk on the words goes to
+-- (docs/REFERENCE.md, *Looked and the walk 3*), not only the number that the rule gives.
 pub record Searched (ws : List ℕ) (k : ℕ) (f : Found) : Type 0 where
   pub found : f ≡ foundOf (read ws) k
   pub walked : f .looked ≡ length (walk ws k)
