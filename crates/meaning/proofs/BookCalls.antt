@@ -132,7 +132,7 @@ booked-untried key value long k f = at (decLe 1 key)
     at (no l) = let below : key < 1 = omega arith in rw (lt-leb 1 key below) refl
 
 -- the standing keys leave as many cells as are free
-room : (s : State) → Sound s → suc (length (keysIn (s .row)) + length (s .free)) ≡ s .settings .cells
+pub room : (s : State) → Sound s → suc (length (keysIn (s .row)) + length (s .free)) ≡ s .settings .cells
 room s v =
     let e = free-length s v in
     let n = length-map (s .row) (λ x. x .key) in

@@ -10,7 +10,7 @@ use Rattle.settings.specs.Numbers.{lengthOf}
 use Rattle.meaning.specs.Row.{nodeAt}
 use Rattle.meaning.specs.State.{positionKey}
 use Rattle.meaning.specs.Reading.{read, isList}
-use Rattle.meaning.specs.Words.{keyAt, owedAt}
+use Rattle.meaning.specs.Words.{keyAt, owedAt, linkAt}
 use Rattle.meaning.specs.Walk.{walk}
 use Rattle.meaning.specs.Calls.{outcome, afterCalls}
 use Rattle.meaning.specs.Promises.{FromFresh, Live}
@@ -61,3 +61,16 @@ example-absent = refl
 pub example-walk : map (keyAt example) (walk example 6) ≡ 5 ∷ 6 ∷ []
 unfolding example calls computing
 example-walk = refl
+
+-- Key 5 (cell 3) owes link 0 from key 7 (cell 1), where it leads to key 9 (cell 2).
+pub owing : List ℕ
+owing = afterCalls (Insert 7 70 ∷ Insert 9 90 ∷ Insert 5 50 ∷ []) (outcome (SetUp 2 15 8) (replicate (lengthOf 2 8) 0) .left)
+
+abbrev pub links-0 : List ℕ → List ℕ
+links-0 ws = linkAt ws 3 0 ∷ linkAt ws 1 0 ∷ []
+
+-- The link moves with an insert of key 6, whose parent key 5 is, and with one of key 4, whose c it is and which then owes from it.
+pub example-links-moved : map links-0 (owing ∷ outcome (Insert 6 60) owing .left ∷ outcome (Insert 4 40) owing .left ∷ []) ≡
+    (0 ∷ 2 ∷ []) ∷ (2 ∷ 0 ∷ []) ∷ (2 ∷ 0 ∷ []) ∷ []
+unfolding owing computing
+example-links-moved = refl

@@ -22,7 +22,7 @@ use Rattle.meaning.specs.Picture.{path, picture}
 use Rattle.meaning.specs.Operations.{paid, finished, withRow, Slot, newNode, slotFor, slotOwes, added, settledLinkAt}
 use Rattle.meaning.specs.Writes.{Unmoved, OwesNothing, OwesSame, Inserted}
 use Rattle.meaning.specs.Words.{wordAt, keyAt, owedAt, lowAt, highAt, linkAt, linkField}
-use Rattle.meaning.specs.Sentences.{Settled}
+use Rattle.meaning.specs.Sentences.{Standing, Settled, AList}
 use Rattle.meaning.specs.Layer.Stores.{finishWords, writePath, newWords, insertWords}
 use Rattle.meaning.proofs.State.{Sound}
 use Rattle.meaning.proofs.Places.{cells-changed, keys-changed, onCell, onCell-cases, keyOf-other}
@@ -30,16 +30,17 @@ use Rattle.meaning.proofs.KeepsFinish.{paid-keeping, finished-sound}
 use Rattle.meaning.proofs.Slot.{Gap, gap, SlotIs, slot-is, gap-changed}
 use Rattle.meaning.proofs.KeepsInsert.{added-row, added-position, added-sound-at, parentPaid, bothPaid, both-sound, both-gap, both-position}
 use Rattle.meaning.proofs.Placed.{Placed, head-placed, placed-keyOf, placed-below, place-standing, place-word, place-key, place-value}
-use Rattle.meaning.proofs.Placed.{place-mark, place-owed, place-coordinate, place-link}
+use Rattle.meaning.proofs.Placed.{placed-node, placed-cell, cell-standing, place-mark, place-owed, place-coordinate, place-link}
 use Rattle.meaning.proofs.Stores.{finishWords-none}
 use Rattle.meaning.proofs.SentencesShape.{place-settled}
-use Rattle.meaning.proofs.Sentences.{position-is, position-key-is}
+use Rattle.meaning.proofs.Sentences.{position-is, position-key-is, picture-sentences}
 use Rattle.meaning.proofs.Changed.{path-unmoved, picture-path-word}
-use Rattle.meaning.proofs.FinishWords.{finish-words, finish-own, finish-others, finish-finished, finish-nothing}
+use Rattle.meaning.proofs.FinishWords.{picture-owing, finish-words, finish-own, finish-others, finish-finished, finish-nothing}
 use Rattle.meaning.proofs.InsertSlot.{parent-leads, slot-changed, slotLinks, slotLinks-none, slotLinks-other, slotLinks-here, placed-occurs}
 use Rattle.meaning.proofs.InsertSlot.{slot-new, slot-parent-placed, slot-apart, slot-next, slot-c-placed, slot-c-apart, slot-shares}
 use Rattle.meaning.proofs.InsertPut.{withNew, newPlace, writeNew, put-new, put-link, put-new-words, put-elsewhere, put-parent, put-words}
 use Rattle.meaning.proofs.InsertPath.{put-path}
+use Rattle.meaning.proofs.InsertDebts.{spared, due-owes, owed-next, owed-other, DebtsApart, debts-apart}
 
 -- a word that finishing cell n does not change
 finish-unmoved : (s : State) (v : Sound s) (n : ℕ) → 0 < occurrences n (0 ∷ map (λ y. y .cell) (s .row)) → (x j : ℕ) →
@@ -273,6 +274,74 @@ module _ (s : State) (v : Sound s) (key value : ℕ) (positive : 0 < key) (g : G
         subst₂ (λ y d. Settled (picture now) y d (t .n)) (sym (two-slot .parent-is)) (sym (two-slot .p-is))
         (parent-leads now now-sound (two-gap .pre) (newNode (t .n) key value (slotOwes t)) (two-gap .post) refl)
 
+    -- a cell that stood has the links that it has with both debts finished, but for link p of the parent
+    link-as-paid : (x d : ℕ) → Standing (picture s) x → d < D → (x ≡ t .parent → d ≡ t .p → ⊥) → linkAt (picture now) x d ≡ linkAt (picture two) x d
+    unfolding picture
+    link-as-paid x d stands h off =
+        let (q, there) = cell-standing s x stands in
+        let new = slot-new s v key positive g f t i in
+        elsewhere x (linkField D d) (stands .cell) (omega arith)
+        (λ e. placed-node there (λ y. y .cell ≡ t .n → ⊥) (new .0) (new .1) (placed-cell there ∙ e)) (λ e q. off e (omega arith))
+
+    -- The links that the parent and c were due
+
+    module _ (held : Settled (picture s) (t .parent) (t .p) (t .c)) where
+      abbrev sentences : AList (picture s)
+      sentences = picture-sentences s v
+
+      parent-standing : Standing (picture s) (t .parent)
+      parent-standing = place-standing v (slot-parent-placed s v key positive g f t i .1)
+
+      c-standing : Standing (picture s) (t .c)
+      c-standing = place-standing v (slot-c-placed s v key positive g f t i .1)
+
+      apart : 0 < owedAt (picture s) (t .c) → DebtsApart (picture s) (t .parent) (t .c)
+      apart = debts-apart (picture s) sentences (t .parent) (t .p) (t .c) parent-standing c-standing held
+
+      -- finishing c leaves them to the parent
+      now-parent-links : (d : ℕ) → lowAt (picture s) (t .parent) ≤ d → d < highAt (picture s) (t .parent) →
+          ((d ≡ t .p → ⊥) → linkAt (picture now) (t .parent) d ≡ linkAt (picture s) (owedAt (picture s) (t .parent)) d)
+          × (linkAt (picture now) (owedAt (picture s) (t .parent)) d ≡ 0)
+      unfolding picture
+      now-parent-links d l h =
+          let from = owedAt (picture s) (t .parent) in
+          let j = linkField D d in
+          let o = due-owes (picture s) sentences (t .parent) d parent-standing l h in
+          let inside = picture-owing s v (t .parent) parent-stands o .high in
+          let paid = finish-finished s v (t .parent) parent-stands o in (
+            (λ off. link-as-paid (t .parent) d parent-standing (omega arith) (λ e. off)
+            ∙ finish-unmoved one one-sound (t .c) c-stands (t .parent) j (omega arith)
+            (c-unmoved (t .parent) j (spared (picture s) (t .c) (t .parent) j (λ m. (apart m .not-c, apart m .not-owed))))
+            ∙ paid .given d l h),
+            link-as-paid from d (owed-next (picture s) sentences (t .parent) parent-standing o .standing) (omega arith)
+            (λ e. absurd (owed-other (picture s) sentences (t .parent) parent-standing o e))
+            ∙ finish-unmoved one one-sound (t .c) c-stands from j (omega arith)
+            (c-unmoved from j (spared (picture s) (t .c) from j (λ m. (apart m .owed-not-c o, apart m .owed-not-owed o))))
+            ∙ paid .cleared d l h,
+          )
+
+      -- finishing the parent leaves them to c
+      now-c-links : (d : ℕ) → lowAt (picture s) (t .c) ≤ d → d < highAt (picture s) (t .c) →
+          (linkAt (picture now) (t .c) d ≡ linkAt (picture s) (owedAt (picture s) (t .c)) d)
+          × (linkAt (picture now) (owedAt (picture s) (t .c)) d ≡ 0)
+      unfolding picture
+      now-c-links d l h =
+          let from = owedAt (picture s) (t .c) in
+          let j = linkField D d in
+          let o = due-owes (picture s) sentences (t .c) d c-standing l h in
+          let a = apart o in
+          let (owed-same, low-same, high-same) = finish-others s v (t .parent) parent-stands (t .c) (λ e. a .not-c (sym e)) in
+          let owes : 0 < owedAt (picture one) (t .c) = omega arith in
+          let inside = picture-owing one one-sound (t .c) c-stands owes .high in
+          let paid = finish-finished one one-sound (t .c) c-stands owes in (
+            link-as-paid (t .c) d c-standing (omega arith) (λ e. absurd (a .not-c (sym e)))
+            ∙ paid .given d (omega arith) (omega arith) ∙ ap (λ x. linkAt (picture one) x d) owed-same
+            ∙ finish-unmoved s v (t .parent) parent-stands from j (omega arith)
+            (spared (picture s) (t .parent) from j (λ m. ((λ e. a .not-owed (sym e)), (λ e. a .owed-not-owed m (sym e))))),
+            link-as-paid from d (owed-next (picture s) sentences (t .c) c-standing o .standing) (omega arith) (λ e. absurd (a .not-owed (sym e)))
+            ∙ ap (λ x. linkAt (picture two) x d) (sym owed-same) ∙ paid .cleared d (omega arith) (omega arith),
+          )
+
     now-inserted : Settled (picture s) (t .parent) (t .p) (t .c) → ((t .c ≡ 0 → ⊥) → t .q ≡ shared b D key (keyAt (picture s) (t .c))) →
         Inserted (picture s) (picture now) key value t
     unfolding picture
@@ -301,6 +370,10 @@ module _ (s : State) (v : Sound s) (key value : ℕ) (positive : 0 < key) (g : G
               let now-same = owes-as-paid x below not-n in
               let two-same = two-others x not-parent not-c in
               (now-same .0 ∙ two-same .0, now-same .1 ∙ two-same .1, now-same .2 ∙ two-same .2);
+          parent-given = λ d l h. now-parent-links held d l h .0;
+          parent-cleared = λ d l h. now-parent-links held d l h .1;
+          c-given = λ d l h. now-c-links held d l h .0;
+          c-cleared = λ d l h. now-c-links held d l h .1;
           header = header;
           other = λ x j below h not-n not-link parent c. elsewhere x j below h not-n not-link ∙ two-unmoved x j h parent c;
           path-kept = λ above d h.

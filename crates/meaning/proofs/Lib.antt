@@ -44,6 +44,7 @@ pub mod InsertLinks
 pub mod InsertSlot
 pub mod InsertPut
 pub mod InsertPath
+pub mod InsertDebts
 pub mod InsertWords
 pub mod SweepRow
 pub mod SweepStores
@@ -55,6 +56,7 @@ pub mod Outcomes
 pub mod BookRow
 pub mod BookCalls
 pub mod Book
+pub mod BookReplies
 pub mod BookPresent
 pub mod Serves
 -- A buffer is a list if and only if every sentence holds.
@@ -68,6 +70,7 @@ pub mod ConversePlaces
 pub mod ConverseState
 pub mod ConverseLinks
 pub mod Converse
+pub mod ShapeByKeys
 -- What is promised; examples.
 pub mod Writes
 pub mod Promises

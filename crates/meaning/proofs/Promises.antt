@@ -2,6 +2,7 @@
 use mathlib.Core.Path.{_≡_, refl, _∙_, sym, ap, ap₂, subst}
 use mathlib.Core.Bool.{true, false, true≢false}
 use mathlib.Core.List.{List, map}
+use mathlib.Core.Logic.{_↔_}
 use Prim.Native.Nat.{ℕ, _*_, _-_, _^_, _≤_, _<_}
 use native.Mathlib.Omega.{arith}
 use lib.ListN.{length}
@@ -22,7 +23,7 @@ use Rattle.meaning.specs.Promises.{ListsStayLists, CallsKeepLists, Refus
 use Rattle.meaning.specs.Promises.{PresentMeansThatKey, TakesInTurn, TakesEnd, CallsAreBooked, FindWritesNothing, TakeWrites, ReviveWrites}
 use Rattle.meaning.specs.Promises.{InsertWrites, FinishWrites, SweepWrites, EachCellOnce, SweptCellsFirst, InsertUsesFirst, SharedMeansLeading}
 use Rattle.meaning.specs.Promises.{ListMeansSentences, WalkIsRule, WalkOnce, WalkBounded, WalkEnds, WalkByKeysAlone, OrderIsLexicographic}
-use Rattle.meaning.specs.Promises.{OneOutcome}
+use Rattle.meaning.specs.Promises.{ShapeByKeysAlone, AnswersAreBooked, OneOutcome}
 use Rattle.meaning.proofs.Keys.{shared-agreed, lexicographic, coordinates-determine}
 use Rattle.meaning.proofs.AscendingKeys.{asc-rising, rising-equal}
 use Rattle.meaning.proofs.State.{Sound, base-positive, base-above}
@@ -32,12 +33,14 @@ use Rattle.meaning.proofs.Outcomes.{on-lists, insert-outcome-bad-key, i
 use Rattle.meaning.proofs.Outcomes.{insert-outcome-new, find-outcome-bad-key, find-outcome-absent, find-outcome-dead, find-outcome-live}
 use Rattle.meaning.proofs.Outcomes.{key-cases, live-cases, free-cases}
 use Rattle.meaning.proofs.Book as book
+use Rattle.meaning.proofs.BookReplies as replies
 use Rattle.meaning.proofs.Writes as leaves
 use Rattle.meaning.proofs.Serves as serves
 use Rattle.meaning.proofs.BookPresent as present
 use Rattle.meaning.proofs.Walk as walks
 use Rattle.meaning.proofs.Walk.{trail-ends, trail-more, walk-looked}
 use Rattle.meaning.proofs.Converse.{list-exactly-if}
+use Rattle.meaning.proofs.ShapeByKeys.{keys-alike, links-by-keys}
 
 -- keys up to K are below b to the power D
 pub list-keys : (ws : List ℕ) → isList ws ≡ true → (0 < baseAt ws) × (largestAt ws < baseAt ws ^ dimensionsAt ws)
@@ -86,16 +89,26 @@ list-base : (ws : List ℕ) → isList ws ≡ true → baseAt ws ≡ baseOf (dim
 unfolding picture
 list-base = on-lists (λ ws. baseAt ws ≡ baseOf (dimensionsAt ws) (largestAt ws)) (λ s v. v .base)
 
+-- Two lists with the same dimensions and largest key have the same base, and the same standing keys in the same order.
+module _ (ws vs : List ℕ) (e : isList ws ≡ true) (f : isList vs ≡ true) where
+  same-base : dimensionsAt ws ≡ dimensionsAt vs → largestAt ws ≡ largestAt vs → baseAt ws ≡ baseAt vs
+  same-base d l = list-base ws e ∙ (ap₂ baseOf d l ∙ sym (list-base vs f))
+
+  same-keys : ((key : ℕ) → (0 < occurrences key (standingKeys ws)) ↔ (0 < occurrences key (standingKeys vs))) → standingKeys ws ≡ standingKeys vs
+  same-keys same =
+      rising-equal 0 (standingKeys ws) (standingKeys vs) (asc-rising 0 (read ws .row) (list-sound ws e .ascends))
+      (asc-rising 0 (read vs .row) (list-sound vs f .ascends)) same
+
 pub walk-by-keys-alone : WalkByKeysAlone
 walk-by-keys-alone ws vs e f d l same k h m =
-    let b : baseAt ws ≡ baseAt vs = list-base ws e ∙ (ap₂ baseOf d l ∙ sym (list-base vs f)) in
-    let keys : standingKeys ws ≡ standingKeys vs =
-    rising-equal 0 (standingKeys ws) (standingKeys vs) (asc-rising 0 (read ws .row) (list-sound ws e .ascends))
-        (asc-rising 0 (read vs .row) (list-sound vs f .ascends)) same in
     walk-is-rule ws e k h m
-    ∙ (ap (λ t. rule t (dimensionsAt ws) (standingKeys ws) k) b
+    ∙ (ap (λ t. rule t (dimensionsAt ws) (standingKeys ws) k) (same-base ws vs e f d l)
     ∙ (ap (λ t. rule (baseAt vs) t (standingKeys ws) k) d
-    ∙ (ap (λ t. rule (baseAt vs) (dimensionsAt vs) t k) keys ∙ sym (walk-is-rule vs f k h (subst (λ t. k ≤ t) l m)))))
+    ∙ (ap (λ t. rule (baseAt vs) (dimensionsAt vs) t k) (same-keys ws vs e f same) ∙ sym (walk-is-rule vs f k h (subst (λ t. k ≤ t) l m)))))
+
+pub shape-by-keys-alone : ShapeByKeysAlone
+shape-by-keys-alone ws vs e f d l same settled settled′ x y sx sy k i h =
+    links-by-keys ws vs e f (keys-alike ws vs e f d (same-base ws vs e f d l) (same-keys ws vs e f same)) settled settled′ x y sx sy k i h
 
 pub order-is-lexicographic : OrderIsLexicographic
 order-is-lexicographic ws e x y hx hy =
@@ -215,3 +228,6 @@ insert-uses-first = serves.insert-uses-first
 
 pub calls-are-booked : CallsAreBooked
 calls-are-booked = book.calls-are-booked
+
+pub answers-are-booked : AnswersAreBooked
+answers-are-booked = replies.answers-are-booked

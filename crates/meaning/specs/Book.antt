@@ -6,6 +6,7 @@ use lib.Dec.{eqb, leb, ltb}
 use lib.ListN.{length, drop}
 use Rattle.settings.specs.Numbers.{inRange, lengthOf}
 use Rattle.lists.specs.Lists.{those}
+use Rattle.meaning.specs.declared.Answer.{Answer}
 use Rattle.meaning.specs.Row.{Node}
 use Rattle.meaning.specs.Reading.{read}
 use Rattle.meaning.specs.Words.{largestAt, cellsAt}
@@ -79,3 +80,48 @@ booked Sweep long k = record { largest = k .largest; cells = k .cells; pairs = k
 unfoldable pub bookedAll : List Call → ℕ → Book → Book
 bookedAll [] long k = k
 bookedAll (call ∷ calls) long k = bookedAll calls long (booked call long k)
+
+-- What a call answers, but for its count, which the pairs and keys do not tell.
+pub record Reply : Type 0 where
+  pub refusal : ℕ
+  pub key : ℕ
+  pub value : ℕ
+
+abbrev pub replies : ℕ → ℕ → ℕ → Reply
+replies refusal key value = record { refusal = refusal; key = key; value = value }
+
+abbrev pub replyIn : Answer → Reply
+replyIn a = replies (a .refusal) (a .key) (a .value)
+
+-- the value of a key among pairs; 0 if it has none
+unfoldable pub valueIn : ℕ → List Pair → ℕ
+valueIn key [] = 0
+valueIn key (p ∷ pairs) = cond (eqb (p .key) key) (p .value) (valueIn key pairs)
+
+-- the key is one of the live pairs'
+abbrev pub liveIn : ℕ → Book → Bool
+liveIn key k = hasKey key (map (λ p. p .key) (k .pairs))
+
+-- what a call with a key replies: 4 if the key is out of range (docs/REFERENCE.md, *Refusals*)
+unfoldable pub keyed : ℕ → Book → Reply → Reply
+keyed key k reply = cond (leb 1 key && leb key (k .largest)) reply (replies 4 0 0)
+
+-- .. an insert: 5 if the key is live, 6 if it does not stand and no cell is left beside the head's and those of the standing keys
+unfoldable pub insertReply : ℕ → Book → Reply
+insertReply key k =
+    cond (liveIn key k) (replies 5 key 0)
+    (cond (hasKey key (k .standing) || ltb (suc (length (k .standing))) (k .cells)) (replies 0 key 0) (replies 6 key 0))
+
+-- .. a take: the first pair (*The operations 5*), 7 if there is none
+abbrev pub takeReply : List Pair → Reply
+takeReply [] = replies 7 0 0
+takeReply (p ∷ pairs) = replies 0 (p .key) (p .value)
+
+-- what a call on a list of `long` words replies: *The operations*, with the refusals in the order of *Refusals 1*; 3 and 9 are no list's
+unfoldable pub replyTo : Call → ℕ → Book → Reply
+replyTo (SetUp D K C) long k = cond (inRange D K C) (cond (eqb long (lengthOf D C)) (replies 0 0 0) (replies 2 0 0)) (replies 1 0 0)
+replyTo (Insert key value) long k = keyed key k (insertReply key k)
+replyTo (Find key) long k = keyed key k (cond (liveIn key k) (replies 0 key (valueIn key (k .pairs))) (replies 8 key 0))
+replyTo (Finish key) long k = keyed key k (cond (hasKey key (k .standing)) (replies 0 key 0) (replies 8 key 0))
+replyTo Take long k = takeReply (k .pairs)
+replyTo Sweep long k = replies 0 0 0

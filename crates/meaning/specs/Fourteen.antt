@@ -1,11 +1,12 @@
 -- Fourteen steps: one table of calls, answers and remarks, with which the customer and we compare notes. proofs/Fourteen.antt proves it.
+use mathlib.Core.Path.{_≡_}
 use mathlib.Core.Bool.{Bool, true, _&&_}
 use mathlib.Core.List.{List, [], _∷_}
 use mathlib.Core.Option.{Option, none, some}
 use Prim.Native.Nat.{ℕ, suc}
 use lib.Dec.{eqb, ltb}
 use lib.ListN.{replicate}
-use Rattle.settings.specs.Numbers.{lengthOf}
+use Rattle.settings.specs.Numbers.{lengthOf, baseOf}
 use Rattle.lists.specs.Lists.{same}
 use Rattle.meaning.specs.declared.Answer.{Answer}
 use Rattle.meaning.specs.Row.{Node, nodeAt}
@@ -93,3 +94,10 @@ ran (l ∷ lines) ws =
 
 unfoldable pub freshWords : List ℕ
 freshWords = outcome (SetUp 2 15 8) (replicate (lengthOf 2 8) 0) .left
+
+-- the base of the list of these steps, and of the order program's (docs/REFERENCE.md, *Numbers 3* and *The order program 1*)
+abbrev pub BaseOfSteps : Type 0
+BaseOfSteps = baseOf 2 15 ≡ 4
+
+abbrev pub BaseOfOrder : Type 0
+BaseOfOrder = baseOf 8 1048575 ≡ 6

@@ -16,13 +16,13 @@ use Rattle.meaning.specs.Row.{Node, nodeAt}
 use Rattle.meaning.specs.Reading.{read, isList}
 use Rattle.meaning.specs.Refusals.{Outcome, Meets}
 use Rattle.meaning.specs.Rule.{rule}
-use Rattle.meaning.specs.Words.{keyAt, markAt, owedAt, lowAt, highAt, dimensionsAt, largestAt, cellsAt, baseAt, liveMark}
+use Rattle.meaning.specs.Words.{keyAt, markAt, owedAt, lowAt, highAt, linkAt, dimensionsAt, largestAt, cellsAt, baseAt, liveMark}
 use Rattle.meaning.specs.Walk.{walk, trailFrom, trail, ends}
 use Rattle.meaning.specs.Operations.{takeOut, freedBy, slotFor}
 use Rattle.meaning.specs.Writes.{OwesNothing, OwesSame, Finished, Inserted, Taken, Revived, Swept}
 use Rattle.meaning.specs.Calls.{outcome, afterCalls, Lent}
 use Rattle.meaning.specs.Sentences.{Standing, AList}
-use Rattle.meaning.specs.Book.{Pair, livePairs, standingKeys, bookOf, bookedAll}
+use Rattle.meaning.specs.Book.{Pair, livePairs, standingKeys, bookOf, bookedAll, replyIn, replyTo}
 use Rattle.meaning.specs.declared.Call.the-variants.{SetUp, Insert, Find, Finish, Take, Sweep}
 use Rattle.meaning.specs.declared.Call.{Call}
 
@@ -95,6 +95,18 @@ WalkByKeysAlone =
     → ((key : ℕ) → (0 < occurrences key (standingKeys ws)) ↔ (0 < occurrences key (standingKeys vs)))
     → (k : ℕ) → 1 ≤ k → k ≤ largestAt ws → map (keyAt ws) (walk ws k) ≡ map (keyAt vs) (walk vs k)
 
+-- .. So does the settled shape (docs/REFERENCE.md, *How cells hang together 3*): of two lists in which nothing is owed, with the same
+-- dimensions, largest key and standing keys, a link of a key leads to the same key in both. Only the head has key 0, so where one leads
+-- nowhere the other does.
+abbrev pub ShapeByKeysAlone : Type 0
+ShapeByKeysAlone =
+    (ws vs : List ℕ) → isList ws ≡ true → isList vs ≡ true
+    → dimensionsAt ws ≡ dimensionsAt vs → largestAt ws ≡ largestAt vs
+    → ((key : ℕ) → (0 < occurrences key (standingKeys ws)) ↔ (0 < occurrences key (standingKeys vs)))
+    → ((x : ℕ) → Standing ws x → owedAt ws x ≡ 0) → ((y : ℕ) → Standing vs y → owedAt vs y ≡ 0)
+    → (x y : ℕ) → Standing ws x → Standing vs y → keyAt ws x ≡ keyAt vs y
+    → (d : ℕ) → d < dimensionsAt ws → keyAt ws (linkAt ws x d) ≡ keyAt vs (linkAt vs y d)
+
 -- 5. Demand 3: after any sequence of calls from a fresh list, the count of a next insert or find that answers looked is the number of
 -- cells that the walk meets on the words as they stand, and their keys are the rule's.
 pub record Looks (ws : List ℕ) (k count : ℕ) : Type 0 where
@@ -139,6 +151,11 @@ TakesEnd = (ws : List ℕ) → isList ws ≡ true → (takeOut ws .answered .ref
 abbrev pub CallsAreBooked : Type 0
 CallsAreBooked =
     (calls : List Call) (ws : List ℕ) → isList ws ≡ true → bookOf (afterCalls calls ws) ≡ bookedAll calls (length ws) (bookOf ws)
+
+-- .. and each call answers what an ordered map would: its refusal, key and value follow from the pairs and the keys alone.
+abbrev pub AnswersAreBooked : Type 0
+AnswersAreBooked =
+    (call : Call) (ws : List ℕ) → isList ws ≡ true → replyIn (outcome call ws .answered) ≡ replyTo call (length ws) (bookOf ws)
 
 -- 9. What a call leaves alone. A find writes nothing.
 abbrev pub FindWritesNothing : Type 0

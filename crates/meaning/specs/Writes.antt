@@ -78,6 +78,13 @@ pub record Inserted (ws us : List ℕ) (k v : ℕ) (t : Slot) : Type 0 where
   pub parent-paid : OwesNothing us (t .parent)
   pub c-paid : OwesNothing us (t .c)
   pub others-owe : (x : ℕ) → x < cellsAt ws → (x ≡ t .n → ⊥) → (x ≡ t .parent → ⊥) → (x ≡ t .c → ⊥) → OwesSame ws us x
+  -- so the links that the parent was due become its own, but for link p, which leads to n, and all are 0 in the cell that it owed from
+  pub parent-given : (d : ℕ) → lowAt ws (t .parent) ≤ d → d < highAt ws (t .parent) → (d ≡ t .p → ⊥) →
+      linkAt us (t .parent) d ≡ linkAt ws (owedAt ws (t .parent)) d
+  pub parent-cleared : (d : ℕ) → lowAt ws (t .parent) ≤ d → d < highAt ws (t .parent) → linkAt us (owedAt ws (t .parent)) d ≡ 0
+  -- .. and all that c was due become its own: where n owes, those from p to q-1 are then n's settled ones (docs/REFERENCE.md, *Debts 1*)
+  pub c-given : (d : ℕ) → lowAt ws (t .c) ≤ d → d < highAt ws (t .c) → linkAt us (t .c) d ≡ linkAt ws (owedAt ws (t .c)) d
+  pub c-cleared : (d : ℕ) → lowAt ws (t .c) ≤ d → d < highAt ws (t .c) → linkAt us (owedAt ws (t .c)) d ≡ 0
   -- every other word of the header and of the cells is as before
   pub header : (i : ℕ) → i < 4 → getD us i 0 ≡ getD ws i 0
   pub other : (x j : ℕ) → x < cellsAt ws → j < cellWords (dimensionsAt ws) → (x ≡ t .n → ⊥) → (x ≡ t .parent → j ≡ linkField (dimensionsAt ws) (t .p) → ⊥) →

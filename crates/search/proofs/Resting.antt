@@ -31,7 +31,7 @@ use Rattle.meaning.proofs.WalkRead.{settled-above}
 use Rattle.meaning.proofs.Walk.{walk-looked}
 use Rattle.meaning.proofs.WalkStop.{rest-walk, Hangs, Wanting, Moved, rests}
 use Rattle.meaning.proofs.Placed.{Placed, placed-cell, placed-below, placed-other, place-key}
-use Rattle.search.specs.Found.{slotNumber, slotParent, slotShared, slotCell, foundAt, foundOf}
+use Rattle.search.specs.Found.{slotNumber, slotParent, slotShared, slotCell, foundAt, foundOf, Searched}
 use Rattle.search.specs.declared.Found.{Found}
 use Rattle.words.proofs.Listed.{on-listed}
 use Rattle.search.proofs.Sides.{Sides, sides-absent, sides-present, slot-at, hung-at}
@@ -179,3 +179,9 @@ answers h k least most {r} is e =
     rw e
     (on-listed (λ t ws u. k ≤ u .largest → r ≡ rest ws k → Answers t u k (keyAt ws (r .at)) r) (λ t v m q. rest-answers t v k least m r q)
     h most is)
+
+-- what is answered of the place where the walk rests is answered of the walk: g is that, and f what the function gives
+pub searched :
+    {ws : List ℕ} {k : ℕ} {r : Rest} {f g : Found} → r ≡ rest ws k → f ≡ g → g .looked ≡ r .looked → g ≡ foundOf (read ws) k → Searched ws k f
+searched {ws} {k} is same counted found =
+    record { found = same ∙ found; walked = ap (λ t. t .looked) same ∙ counted ∙ ap (λ t. t .looked) is ∙ rest-walk ws k }

@@ -1,15 +1,19 @@
 -- What the search for a key answers on a list, over the standing keys. The slot is put by the next smaller and the next larger key, as the
 -- walk finds it; that it is the meaning's own (slotFor) is found-slot in proofs/Slots.antt. Where there is no c, q is 0.
+use mathlib.Core.Path.{_≡_}
 use mathlib.Core.Bool.{true, false, cond}
 use mathlib.Core.List.{List, _∷_}
 use mathlib.Core.Option.{Option, none, some}
 use Prim.Native.Nat.{ℕ, suc}
 use lib.Dec.{eqb, leb, ltb}
+use lib.ListN.{length}
 use Rattle.lists.specs.Lists.{those}
 use Rattle.meaning.specs.Keys.{shared}
 use Rattle.meaning.specs.Row.{Node, headNode, firstOf, nodeAt}
 use Rattle.meaning.specs.State.{State}
 use Rattle.meaning.specs.Picture.{firstWith}
+use Rattle.meaning.specs.Reading.{read}
+use Rattle.meaning.specs.Walk.{walk}
 use Rattle.meaning.specs.Operations.{looked, lastOf}
 use Rattle.search.specs.declared.Found.{Found}
 
@@ -47,3 +51,9 @@ foundAt s k (some x) =
 
 unfoldable pub foundOf : State → ℕ → Found
 foundOf s k = foundAt s k (nodeAt k (s .row))
+
+-- What the search for k on a list answers: what the standing keys say, and in looked the number of cells that the walk on the words goes to
+-- (docs/REFERENCE.md, *Looked and the walk 3*), not only the number that the rule gives.
+pub record Searched (ws : List ℕ) (k : ℕ) (f : Found) : Type 0 where
+  pub found : f ≡ foundOf (read ws) k
+  pub walked : f .looked ≡ length (walk ws k)

@@ -3,10 +3,9 @@
 ghost use mathlib.Core.Path.{_≡_};
 ghost use Prim.Native.Nat.{_≤_, _<_};
 ghost use Rattle.meaning.specs.Keys.{coordinates};
-ghost use Rattle.meaning.specs.Reading.{read};
 ghost use Rattle.meaning.specs.Layer.Resting.{rest};
 ghost use Rattle.meaning.specs.Layer.Listed.{Listed};
-ghost use Rattle.search.specs.Found.{foundOf};
+ghost use Rattle.search.specs.Found.{Searched};
 use meaning::Rest;
 use meaning::Step;
 use settings::Settings;
@@ -77,7 +76,7 @@ fn moved(r: Rest, standing: bool, q: u32) -> Found
 // The search for k. Where the walk rests below k it wants a link of the cell at hand; else its last move went to k or above it.
 pub fn search(list: &[u32], s: Settings, k: u32) -> Found
     requires { ⌜ Listed (now list) s × ((1 ≤ k) × (k ≤ s .largest)) ⌝ }
-    ensures { λ r. ⌜ r ≡ foundOf (read (now (list .entry))) k ⌝ }
+    ensures { λ r. ⌜ Searched (now (list .entry)) k r ⌝ }
 {
     let sought = words::coordinates_of(k, s);
     let n = s.dimensions as usize;

@@ -24,14 +24,15 @@ returns-3 c =
     let s = c .before .before .before .before .before .before .before .before in
     let f = c .before .before .before .search in
     c .not-live .ensures
-    ∙ find-missing (s .pre) (s .args .key) (omega arith) (omega arith) (f .ensures) (not-true (f .result .standing) (c .before .if3 .taken))
+    ∙ find-missing (s .pre) (s .args .key) (omega arith) (omega arith) (f .ensures .found) (not-true (f .result .standing) (c .before .if3 .taken))
 
 word-requires : tie.Need-word-requires
 word-requires c κs =
     let s = c .before .before .before .before .before .before .before in
     let f = c .before .before .search in (
       listed-shaped (s .pre),
-      field-within (find-cell (s .pre) (s .args .key) (omega arith) (omega arith) (f .ensures) (not-false (f .result .standing) (c .if3 .left))) (omega arith),
+      field-within (find-cell (s .pre) (s .args .key) (omega arith) (omega arith) (f .ensures .found)
+          (not-false (f .result .standing) (c .if3 .left))) (omega arith),
     )
 
 returns-4 : tie.Need-returns-4
@@ -39,15 +40,15 @@ returns-4 c =
     let s = c .before .before .before .before .before .before .before .before .before .before in
     let f = c .before .before .before .before .before .search in
     c .not-live2 .ensures
-    ∙ find-dead (s .pre) (s .args .key) (omega arith) (omega arith) (f .ensures) (not-false (f .result .standing) (c .before .before .before .if3 .left))
-    (c .before .before .word .ensures) (c .before .if4 .taken)
+    ∙ find-dead (s .pre) (s .args .key) (omega arith) (omega arith) (f .ensures .found)
+    (not-false (f .result .standing) (c .before .before .before .if3 .left)) (c .before .before .word .ensures) (c .before .if4 .taken)
 
 word-requires-2 : tie.Need-word-requires-2
 word-requires-2 c κs =
     let s = c .before .before .before .before .before .before .before .before .before in
     let f = c .before .before .before .before .search in (
       listed-shaped (s .pre),
-      field-within (find-cell (s .pre) (s .args .key) (omega arith) (omega arith) (f .ensures)
+      field-within (find-cell (s .pre) (s .args .key) (omega arith) (omega arith) (f .ensures .found)
           (not-false (f .result .standing) (c .before .before .if3 .left))) (omega arith),
     )
 
@@ -57,7 +58,7 @@ returns-5 c =
     let f = c .before .before .before .before .before .before .search in
     c .accepted .ensures
     ∙ find-live (s .pre) (s .args .key) (omega (arith, c .before .before .before .before .before .before .before .before .before .if1 .left))
-        (omega arith) (f .ensures) (not-false (f .result .standing) (c .before .before .before .before .if3 .left))
+        (omega arith) (f .ensures .found) (not-false (f .result .standing) (c .before .before .before .before .if3 .left))
     (c .before .before .before .word .ensures) (c .before .before .if4 .left) (c .before .word2 .ensures)
 
 pub find-spec : {M : Type 1} → statement M

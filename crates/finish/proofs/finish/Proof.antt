@@ -22,7 +22,7 @@ cell c =
     let s = c .before .before .before .before .before .before .before .before in
     let f = c .before .before .search in
     let k = asked (c .before .before .before .before) in
-    standing-cell (s .pre) (s .args .key) (k .0) (k .1) (f .ensures) (not-false (f .result .standing) (c .if3 .left))
+    standing-cell (s .pre) (s .args .key) (k .0) (k .1) (f .ensures .found) (not-false (f .result .standing) (c .if3 .left))
 
 returns : tie.Need-returns
 returns c =
@@ -39,7 +39,7 @@ returns-3 c =
     let s = c .before .before .before .before .before .before .before .before .before in
     let f = c .before .before .before .search in
     let k = asked (c .before .before .before .before .before) in
-    absent-meets (s .pre) (s .args .key) (k .0) (k .1) (f .ensures) (not-true (f .result .standing) (c .before .if3 .taken))
+    absent-meets (s .pre) (s .args .key) (k .0) (k .1) (f .ensures .found) (not-true (f .result .standing) (c .before .if3 .taken))
     (c .refused-at .ensures)
 
 owes-from-free-requires : tie.Need-owes-from-free-requires
@@ -82,7 +82,7 @@ returns-5 c =
     let k = asked (e .before .before .before .before) in
     let high = c .before .before .before .before .before .before .before .word .ensures in
     let low = c .before .before .before .before .before .word2 .ensures in
-    standing-meets (s .pre) (s .args .key) (k .0) (k .1) (f .ensures) (not-false (f .result .standing) (e .if3 .left))
+    standing-meets (s .pre) (s .args .key) (k .0) (k .1) (f .ensures .found) (not-false (f .result .standing) (e .if3 .left))
     (ap₂ (λ m n. m - n) high low) (c .before .before .before .finish-cell .ensures .0) (c .accepted .ensures)
 
 pub finish-spec : {M : Type 1} → statement M

@@ -18,12 +18,12 @@ returns-2 c =
 insert-standing-requires : tie.Need-insert-standing-requires
 insert-standing-requires c κs =
     (record { list = c .before .before .before .before .before .before .before .before .pre; least = omega arith; most = omega arith;
-        is = c .before .before .search .ensures }, c .before .if3 .taken)
+        is = c .before .before .search .ensures .found }, c .before .if3 .taken)
 
 insert-new-requires : tie.Need-insert-new-requires
 insert-new-requires c κs =
     (record { list = c .before .before .before .before .before .before .before .before .pre; least = omega arith; most = omega arith;
-        is = c .before .before .search .ensures }, c .before .if3 .left)
+        is = c .before .before .search .ensures .found }, c .before .if3 .left)
 
 pub insert-spec : {M : Type 1} → statement M
 insert-spec =

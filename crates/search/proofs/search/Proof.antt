@@ -1,12 +1,12 @@
 -- `search::search` meets its contract: the three ways out are told apart by the key of the cell at which the walk rests, and each answers
 -- what is known there.
-use mathlib.Core.Path.{refl, sym, _∙_}
+use mathlib.Core.Path.{refl, sym}
 use native.Mathlib.Omega.{arith}
 use lib.Seq.{length-take-le}
 use borrow.Author.Needs.{needs}
 use Rattle.words.proofs.Shaped.{field-within}
 use Rattle.words.proofs.Listed.{listed-shaped, listed-base, listed-sought}
-use Rattle.search.proofs.Resting.{answers}
+use Rattle.search.proofs.Resting.{answers, searched}
 use Rattle.search.proofs.search.Statement.{statement}
 use Rattle.search.proofs.search.Tie as tie
 
@@ -34,22 +34,22 @@ word-requires c κs =
 returns : tie.Need-returns
 returns c =
     let s = c .before .before .before .before .before .before .before in
-    answers (s .pre .0) (s .args .k) (s .pre .1 .0) (s .pre .1 .1) (c .before .before .rest-of .ensures) (c .before .word .ensures)
-    .below (c .if1 .taken)
+    let r = c .before .before .rest-of .ensures in
+    searched r refl refl (answers (s .pre .0) (s .args .k) (s .pre .1 .0) (s .pre .1 .1) r (c .before .word .ensures) .below (c .if1 .taken))
 
 returns-2 : tie.Need-returns-2
 returns-2 c =
     let s = c .before .before .before .before .before .before .before .before .before in
-    c .moved .ensures
-    ∙ answers (s .pre .0) (s .args .k) (s .pre .1 .0) (s .pre .1 .1) (c .before .before .before .before .rest-of .ensures)
-    (c .before .before .before .word .ensures) .above (c .before .if2 .taken)
+    let r = c .before .before .before .before .rest-of .ensures in
+    searched r (c .moved .ensures) refl
+    (answers (s .pre .0) (s .args .k) (s .pre .1 .0) (s .pre .1 .1) r (c .before .before .before .word .ensures) .above (c .before .if2 .taken))
 
 returns-3 : tie.Need-returns-3
 returns-3 c =
     let s = c .before .before .before .before .before .before .before .before .before in
-    c .moved2 .ensures
-    ∙ answers (s .pre .0) (s .args .k) (s .pre .1 .0) (s .pre .1 .1) (c .before .before .before .before .rest-of .ensures)
-    (c .before .before .before .word .ensures) .here (omega arith)
+    let r = c .before .before .before .before .rest-of .ensures in
+    searched r (c .moved2 .ensures) refl
+    (answers (s .pre .0) (s .args .k) (s .pre .1 .0) (s .pre .1 .1) r (c .before .before .before .word .ensures) .here (omega arith))
 
 pub search-spec : {M : Type 1} → statement M
 search-spec =

@@ -1,0 +1,144 @@
+-- What each call answers, but for its count, follows from the live pairs and the standing keys: each outcome of a call on a state in order
+-- (Outcomes.antt) is the one that an ordered map with its pairs and keys would give.
+use mathlib.Core.Path.{_≡_, refl, sym, _∙_, ap, subst}
+use mathlib.Core.Bool.{Bool, true, false, cond, _&&_, _||_}
+use mathlib.Core.List.{List, [], _∷_, map}
+use mathlib.Core.Option.{Option, none, some}
+use Prim.Native.Nat.{ℕ, suc, _≤_, _<_}
+use native.Mathlib.Decide.{ℕ-discrete, decLe}
+use native.Mathlib.Omega.{arith}
+use lib.Dec.{leb}
+use lib.ListN.{length}
+use borrow.Author.Tests.{eq-eqb, ne-eqb, lt-ltb, le-ltb, le-leb, lt-leb}
+use Rattle.settings.specs.Numbers.{inRange, lengthOf}
+use Rattle.meaning.specs.Row.{Node, nodeAt}
+use Rattle.meaning.specs.State.{State}
+use Rattle.meaning.specs.Picture.{picture}
+use Rattle.meaning.specs.Refusals.{Outcome}
+use Rattle.meaning.specs.Operations.{fromLive}
+use Rattle.meaning.specs.Calls.{outcome}
+use Rattle.meaning.specs.Book.{Book, bookOf, Reply, replies, replyIn, hasKey, valueIn, liveIn, keyed, insertReply, takeReply, replyTo}
+use Rattle.meaning.specs.Promises.{AnswersAreBooked}
+use Rattle.meaning.specs.declared.Call.the-variants.{SetUp, Insert, Find, Finish, Take, Sweep}
+use Rattle.meaning.specs.declared.Call.{Call}
+use Rattle.meaning.proofs.State.{Sound}
+use Rattle.meaning.proofs.Outcomes.{on-lists, set-up-outcome-out-of-range, set-up-outcome-wrong-length, set-up-outcome, insert-outcome-bad-key}
+use Rattle.meaning.proofs.Outcomes.{insert-outcome-live, insert-outcome-dead, insert-outcome-full, insert-outcome-new, find-outcome-bad-key}
+use Rattle.meaning.proofs.Outcomes.{find-outcome-absent, find-outcome-dead, find-outcome-live, finish-outcome-bad-key, finish-outcome-absent}
+use Rattle.meaning.proofs.Outcomes.{finish-outcome-standing, take-outcome-none, take-outcome-first, sweep-outcome}
+use Rattle.meaning.proofs.Outcomes.{key-cases, live-cases, free-cases}
+use Rattle.meaning.proofs.BookRow.{pairsIn, keysIn, pairs-live, pairs-dead, isThere, isLive, key-stands, key-lives, pairs-empty, pairs-first}
+use Rattle.meaning.proofs.BookCalls.{bookIn, room}
+use Rattle.meaning.proofs.Book.{book-of-picture}
+
+-- the value of a live key among the pairs is its node's
+pair-value : (key : ℕ) (x : Node) (row : List Node) → nodeAt key row ≡ some x → x .live ≡ true → valueIn key (pairsIn row) ≡ x .value
+unfolding nodeAt valueIn
+pair-value key x [] e live = absurd (let z : _≡_ {A = ℕ} 0 1 = cc in omega arith)
+pair-value key x (y ∷ row) e live = at (ℕ-discrete (y .key) key) (pair-value key x row)
+  where
+    past : (y .key ≡ key → ⊥) → (t : Bool) → y .live ≡ t → valueIn key (pairsIn (y ∷ row)) ≡ valueIn key (pairsIn row)
+    past ne true l = ap (valueIn key) (pairs-live y row l) ∙ rw (ne-eqb (y .key) key ne) refl
+    past ne false l = ap (valueIn key) (pairs-dead y row l)
+
+    at : Dec (y .key ≡ key) → (nodeAt key row ≡ some x → x .live ≡ true → valueIn key (pairsIn row) ≡ x .value) →
+        valueIn key (pairsIn (y ∷ row)) ≡ x .value
+    at (yes q) more =
+        let found : some y ≡ some x = rw (eq-eqb (y .key) key q) at e in
+        let same : y ≡ x = cc in
+        ap (valueIn key) (pairs-live y row (ap (λ z. z .live) same ∙ live)) ∙ rw (eq-eqb (y .key) key q) (ap (λ z. z .value) same)
+    at (no ne) more = past ne (y .live) refl ∙ more (rw (ne-eqb (y .key) key ne) at e) live
+
+-- a call with a key in range, and with another
+keyed-good : (key : ℕ) (k : Book) (reply : Reply) → 1 ≤ key → key ≤ k .largest → keyed key k reply ≡ reply
+unfolding keyed
+keyed-good key k reply l h = rw (le-leb 1 key l, le-leb key (k .largest) h) refl
+
+keyed-bad : (key : ℕ) (k : Book) (reply : Reply) → (1 ≤ key → k .largest < key) → keyed key k reply ≡ replies 4 0 0
+unfolding keyed
+keyed-bad key k reply f = at (decLe 1 key)
+  where
+    at : Dec (1 ≤ key) → cond (leb 1 key && leb key (k .largest)) reply (replies 4 0 0) ≡ replies 4 0 0
+    at (yes l) = rw (le-leb 1 key l, lt-leb key (k .largest) (f l)) refl
+    at (no l) = let below : key < 1 = omega arith in rw (lt-leb 1 key below) refl
+
+-- a call on a state replies what the state's book tells
+abbrev Replied : Call → State → Type 0
+Replied call s = replyIn (outcome call (picture s) .answered) ≡ replyTo call (length (picture s)) (bookIn s)
+
+-- what an outcome answers
+answering : {o p : Outcome (List ℕ)} → o ≡ p → replyIn (o .answered) ≡ replyIn (p .answered)
+answering e = ap (λ (o : Outcome (List ℕ)). replyIn (o .answered)) e
+
+set-up-reply : (D K C : ℕ) (s : State) → Replied (SetUp D K C) s
+unfolding outcome replyTo
+set-up-reply D K C s = at (inRange D K C) refl (ℕ-discrete (length (picture s)) (lengthOf D C))
+  where
+    at : (t : Bool) → inRange D K C ≡ t → Dec (length (picture s) ≡ lengthOf D C) → Replied (SetUp D K C) s
+    at false e l = answering (set-up-outcome-out-of-range D K C (picture s) e) ∙ rw e refl
+    at true e (no l) = answering (set-up-outcome-wrong-length D K C (picture s) e l) ∙ rw (e, ne-eqb (length (picture s)) (lengthOf D C) l) refl
+    at true e (yes l) = answering (set-up-outcome D K C (picture s) e l) ∙ rw (e, eq-eqb (length (picture s)) (lengthOf D C) l) refl
+
+module _ (s : State) (v : Sound s) (key : ℕ) where
+  -- the key is among the pairs, and among the keys, as the node with that key says
+  lives : (o : Option Node) → nodeAt key (s .row) ≡ o → liveIn key (bookIn s) ≡ isLive o
+  lives o e = key-lives 0 key (s .row) (v .ascends) ∙ ap isLive e
+
+  stands : (o : Option Node) → nodeAt key (s .row) ≡ o → hasKey key (keysIn (s .row)) ≡ isThere o
+  stands o e = key-stands key (s .row) ∙ ap isThere e
+
+  insert-reply : (value : ℕ) → Replied (Insert key value) s
+  unfolding outcome replyTo insertReply
+  insert-reply value =
+      key-cases s key
+      (λ n. answering (insert-outcome-bad-key s v key value n) ∙ sym (keyed-bad key (bookIn s) _ n))
+      (λ l h e. free-cases s
+      (λ full. answering (insert-outcome-full s v key value l h e full) ∙ sym (keyed-good key (bookIn s) _ l h
+          ∙ rw (lives none e, stands none e, le-ltb (suc (length (keysIn (s .row)))) (s .settings .cells) (omega (arith, room s v))) refl))
+      (λ space. answering (insert-outcome-new s v key value l h e space) ∙ sym (keyed-good key (bookIn s) _ l h
+          ∙ rw (lives none e, stands none e, lt-ltb (suc (length (keysIn (s .row)))) (s .settings .cells) (omega (arith, room s v))) refl)))
+      (λ l h x e. live-cases x
+      (λ q. answering (insert-outcome-live s v key value l h x e q) ∙ sym (keyed-good key (bookIn s) _ l h ∙ rw (lives (some x) e ∙ q) refl))
+      (λ q. answering (insert-outcome-dead s v key value l h x e q) ∙ sym (keyed-good key (bookIn s) _ l h
+          ∙ rw (lives (some x) e ∙ q, stands (some x) e) refl)))
+
+  find-reply : Replied (Find key) s
+  unfolding outcome replyTo
+  find-reply =
+      key-cases s key
+      (λ n. answering (find-outcome-bad-key s v key n) ∙ sym (keyed-bad key (bookIn s) _ n))
+      (λ l h e. answering (find-outcome-absent s v key l h e) ∙ sym (keyed-good key (bookIn s) _ l h ∙ rw (lives none e) refl))
+      (λ l h x e. live-cases x
+      (λ q. answering (find-outcome-live s v key l h x e q) ∙ sym (keyed-good key (bookIn s) _ l h
+          ∙ rw (lives (some x) e ∙ q, pair-value key x (s .row) e q) refl))
+      (λ q. answering (find-outcome-dead s v key l h x e q) ∙ sym (keyed-good key (bookIn s) _ l h ∙ rw (lives (some x) e ∙ q) refl)))
+
+  finish-reply : Replied (Finish key) s
+  unfolding outcome replyTo
+  finish-reply =
+      key-cases s key
+      (λ n. answering (finish-outcome-bad-key s v key n) ∙ sym (keyed-bad key (bookIn s) _ n))
+      (λ l h e. answering (finish-outcome-absent s v key l h e) ∙ sym (keyed-good key (bookIn s) _ l h ∙ rw (stands none e) refl))
+      (λ l h x e. answering (finish-outcome-standing s v key l h x e) ∙ sym (keyed-good key (bookIn s) _ l h ∙ rw (stands (some x) e) refl))
+
+take-reply : (s : State) → Sound s → Replied Take s
+unfolding outcome replyTo
+take-reply s v = at (fromLive (s .row)) refl
+  where
+    at : (rest : List Node) → fromLive (s .row) ≡ rest → Replied Take s
+    at [] e = answering (take-outcome-none s v e) ∙ sym (ap takeReply (pairs-empty (s .row) e))
+    at (x ∷ later) e = answering (take-outcome-first s v x later e) ∙ sym (ap takeReply (pairs-first (s .row) x later e))
+
+call-reply : (call : Call) (s : State) → Sound s → Replied call s
+unfolding outcome replyTo
+call-reply (SetUp D K C) s v = set-up-reply D K C s
+call-reply (Insert key value) s v = insert-reply s v key value
+call-reply (Find key) s v = find-reply s v key
+call-reply (Finish key) s v = finish-reply s v key
+call-reply Take s v = take-reply s v
+call-reply Sweep s v = answering (sweep-outcome s v)
+
+pub answers-are-booked : AnswersAreBooked
+answers-are-booked call =
+    on-lists (λ ws. replyIn (outcome call ws .answered) ≡ replyTo call (length ws) (bookOf ws)) (λ s v.
+    call-reply call s v ∙ ap (replyTo call (length (picture s))) (sym (book-of-picture s v)))
