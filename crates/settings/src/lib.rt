@@ -4,7 +4,8 @@ ghost use mathlib.Core.Path.{_≡_};
 ghost use mathlib.Core.Bool.{true};
 ghost use Prim.Native.Nat.{ℕ, _^_, _≤_, _<_};
 ghost use lib.Dec.{ltb};
-ghost use Rattle.settings.specs.Numbers.{leastDimensions, mostDimensions, leastLargest, mostLargest, mostCells, inRange, baseOf, cellWords, lengthOf};
+ghost use Rattle.settings.specs.Numbers.{leastDimensions, mostDimensions, leastLargest, mostLargest, mostCells};
+ghost use Rattle.settings.specs.Numbers.{inRange, baseOf, cellWords, lengthOf};
 ghost use Rattle.settings.specs.Checked.{checkedOf};
 ghost use Rattle.settings.specs.Base.{IsBase, isBase};
 
