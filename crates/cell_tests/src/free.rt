@@ -13,6 +13,6 @@ pub fn free_right(list: &[u32], s: Settings, c: u32) -> bool
         return false;
     }
     let start = words::word_index(s, c, words::VALUE);
-    let end = start + settings::cell_words(s.dimensions) - 1;
+    let end = start + Settings::cell_words(s.dimensions) - 1;
     lists::all_zero(&list[start..end])
 }

@@ -112,7 +112,7 @@ fn store_before_zeros(list: &mut [u32], s: Settings, x: u32, j: u32, v: u32)
 {
     words::store(list, s, x, j, v);
     let start = words::word_index(s, x, j) + 1;
-    let end = start + settings::cell_words(s.dimensions) - 1 - j as usize;
+    let end = start + Settings::cell_words(s.dimensions) - 1 - j as usize;
     lists::fill(&mut list[start..end], 0);
 }
 

@@ -24,13 +24,13 @@ fn header(list: &[u32]) -> Reading
         cells: list[2],
         base: list[3],
     };
-    if !settings::in_range(s.dimensions, s.largest, s.cells) {
+    if !Settings::in_range(s.dimensions, s.largest, s.cells) {
         return Reading::NotAList;
     }
     if list.len() != s.length() {
         return Reading::NotAList;
     }
-    if !settings::is_base(s.base, s.dimensions, s.largest) {
+    if !Settings::is_base(s.base, s.dimensions, s.largest) {
         return Reading::NotAList;
     }
     Reading::IsList(s)

@@ -59,7 +59,7 @@ fn write_cells(list: &mut [u32], d: u32, c: u32)
     requires { ⌜ length (now list) ≡ lengthOf d c ⌝ }
     ensures { λ r. ⌜ now (list .exit) ≡ take (headerWords + d) (now (list .entry)) ++ freshCells d c c ⌝ }
 {
-    let cell_words = settings::cell_words(d);
+    let cell_words = Settings::cell_words(d);
     let mut at = words::HEADER_WORDS + d as usize;
     let mut x: u32 = 0;
     while x < c {

@@ -14,7 +14,7 @@ use meaning::Step;
 use settings::Settings;
 
 // "Words 0 to 4: D, K, C, b, first free cell. Then D words of path."
-pub const HEADER_WORDS: usize = settings::HEADER_WORDS;
+pub const HEADER_WORDS: usize = Settings::HEADER_WORDS;
 
 // Word 4 is the first free cell.
 pub const FIRST_FREE: usize = 4;
@@ -32,7 +32,7 @@ pub const LOW: u32 = 4;
 
 pub const HIGH: u32 = 5;
 
-pub const COORDINATES: u32 = settings::FIELDS_BEFORE_COORDINATES;
+pub const COORDINATES: u32 = Settings::FIELDS_BEFORE_COORDINATES;
 
 // "Mark: 0 free, 1 live, 2 dead."
 pub const FREE: u32 = 0;
@@ -46,7 +46,7 @@ pub fn word_index(s: Settings, x: u32, j: u32) -> usize
     requires { ⌜ (s .dimensions ≤ mostDimensions) × ((s .cells ≤ mostCells) × Within s x j) ⌝ }
     ensures { λ r. ⌜ (r ≡ wordIndex (s .dimensions) x j) × (r < 1073741824) ⌝ }
 {
-    HEADER_WORDS + s.dimensions as usize + (x as usize) * settings::cell_words(s.dimensions) + j as usize
+    HEADER_WORDS + s.dimensions as usize + (x as usize) * Settings::cell_words(s.dimensions) + j as usize
 }
 
 // Word j of cell x.

@@ -1,11 +1,11 @@
--- `settings::is_base` meets its contract: the three tests are those of the definition.
+-- `Settings::is_base` meets its contract: the three tests are those of the definition.
 use mathlib.Core.Path.{refl}
 use native.Mathlib.Omega.{arith}
 use borrow.Author.Needs.{needs}
 use borrow.Author.Tests.{lt-ltb, le-ltb, not-true, not-false}
 use Rattle.settings.specs.Base.{isBase}
-use Rattle.settings.proofs.is_base.Statement.{statement}
-use Rattle.settings.proofs.is_base.Tie as tie
+use Rattle.settings.proofs.Settings.is_base.Statement.{statement}
+use Rattle.settings.proofs.Settings.is_base.Tie as tie
 
 returns : tie.Need-returns
 unfolding isBase

@@ -1,4 +1,4 @@
--- `settings::above` meets its contract: the product is b to the power i, at most K or 1 before each factor, and once above K it stays above.
+-- `Settings::above` meets its contract: the product is b to the power i, at most K or 1 before each factor, and once above K it stays above.
 use mathlib.Core.Path.{_≡_, sym}
 use Prim.Native.Nat.{_+_, _-_, _^_, _≤_}
 use native.Mathlib.Nat.{pow-zero}
@@ -6,8 +6,8 @@ use native.Mathlib.Omega.{arith}
 use borrow.Author.Tests.{lt-ltb}
 use borrow.Author.Needs.{needs}
 use Rattle.settings.proofs.Numbers.{product-fits, power-more, stays-above}
-use Rattle.settings.proofs.above.Statement.{statement}
-use Rattle.settings.proofs.above.Tie as tie
+use Rattle.settings.proofs.Settings.above.Statement.{statement}
+use Rattle.settings.proofs.Settings.above.Tie as tie
 
 abbrev Inv-loop : tie.InvT-loop
 Inv-loop b d k top by power₀ i₀ power i = (i ≤ d) × ((power ≡ b ^ i) × (power ≤ k + 1))

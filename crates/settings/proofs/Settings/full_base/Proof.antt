@@ -1,4 +1,4 @@
--- `settings::full_base` meets its contract: each node of the table passes one computed test, whose two halves make it the base.
+-- `Settings::full_base` meets its contract: each node of the table passes one computed test, whose two halves make it the base.
 use mathlib.Core.Bool.{Bool, _&&_}
 use mathlib.Core.List.{List, [], _∷_}
 use mathlib.Core.Path.{_≡_, refl, subst}
@@ -12,8 +12,8 @@ use Rattle.settings.specs.Numbers.{leastDimensions, mostLargest}
 use Rattle.settings.specs.Base.{IsBase}
 use Rattle.settings.proofs.Numbers.{and-left, and-right, is-base}
 use Rattle.settings.proofs.Table.{at}
-use Rattle.settings.proofs.full_base.Statement.{statement}
-use Rattle.settings.proofs.full_base.Tie as tie
+use Rattle.settings.proofs.Settings.full_base.Statement.{statement}
+use Rattle.settings.proofs.Settings.full_base.Tie as tie
 
 bases : List ℕ
 bases = 65536 ∷ 1626 ∷ 256 ∷ 85 ∷ 41 ∷ 24 ∷ 16 ∷ 12 ∷ 10 ∷ 8 ∷ 7 ∷ 6 ∷ 5 ∷ 5 ∷ 4 ∷ []

@@ -1,4 +1,4 @@
--- `settings::base` meets its contract: low to the power D is at most K and high to the power D above it, so that high is the base once
+-- `Settings::base` meets its contract: low to the power D is at most K and high to the power D above it, so that high is the base once
 -- the two are neighbours, and there is only one base.
 use mathlib.Core.Path.{_≡_, sym, _∙_}
 use Prim.Native.Nat.{_-_, _^_, _≤_, _<_}
@@ -6,8 +6,8 @@ use native.Mathlib.Omega.{arith}
 use borrow.Author.Tests.{ltb-true, ltb-false}
 use borrow.Author.Needs.{needs}
 use Rattle.settings.proofs.Numbers.{one-power, is-base, base-is, base-unique, base-at-least-two, base-at-most}
-use Rattle.settings.proofs.base.Statement.{statement}
-use Rattle.settings.proofs.base.Tie as tie
+use Rattle.settings.proofs.Settings.base.Statement.{statement}
+use Rattle.settings.proofs.Settings.base.Tie as tie
 
 abbrev Inv-loop : tie.InvT-loop
 Inv-loop d k low₀ high₀ low high = (1 ≤ low) × ((low < high) × ((low ^ d ≤ k) × ((k < high ^ d) × (high ≤ 65536))))
