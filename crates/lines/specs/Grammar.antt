@@ -14,7 +14,7 @@ use Rattle.lines.specs.declared.Kind.the-variants.{Insert, Find, Finish,
 use Rattle.lines.specs.declared.Parsed.{Parsed}
 use Rattle.lines.specs.declared.Parsed.the-variants.{Readable, Unreadable}
 
--- "An entry has a class 0 to 15 (0 most urgent) and a unit 1 to 65,535."
+-- Entries 1: the ranges of class and unit.
 abbrev pub leastClass : ℕ
 leastClass = 0
 
@@ -33,7 +33,7 @@ isClass field = isNumber leastClass mostClass field
 abbrev pub isUnit : List ℕ → Bool
 isUnit field = isNumber leastUnit mostUnit field
 
--- "values: 32 bits"
+-- Numbers 2: any value
 abbrev pub leastValue : ℕ
 leastValue = 0
 
@@ -56,7 +56,7 @@ KindInRange (Finish e) = InRange e
 KindInRange Take = Unit {0}
 KindInRange Sweep = Unit {0}
 
--- "Its key is class x 65,536 + unit."
+-- Entries 2: the key.
 abbrev pub keysPerClass : ℕ
 keysPerClass = 65536
 
@@ -100,6 +100,6 @@ kindOf (letter ∷ fields) =
     (cond (same letter (84 ∷ [])) (noFields Take fields)
     (cond (same letter (83 ∷ [])) (noFields Sweep fields) Unreadable))))
 
--- "an empty or longer line, or a number outside its range .., is answered 10"
+-- The order program 4: every other line is unreadable
 unfoldable pub parsedOf : List ℕ → Parsed
 parsedOf line = cond (leb 1 (length line) && leb (length line) mostBytes) (kindOf (fieldsOf line)) Unreadable

@@ -1,3 +1,3 @@
--- Entries and the lines of the order program: document 01, "Entries and the order program".
+-- Entries and the lines of the order program: Entries, The order program (docs/REFERENCE.md).
 pub mod Grammar
 pub mod Answers

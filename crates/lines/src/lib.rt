@@ -1,4 +1,4 @@
-// Entries and the lines of the order program. Document 01: "Each line is one of five kinds with its own fields." The fields are read one
+// Entries and the lines of the order program: each line is one of five kinds with its own fields. The fields are read one
 // after the other, each by where the one before it ends: at a space, or with the line.
 ghost use mathlib.Core.Path.{_≡_};
 ghost use mathlib.Core.List.{[], _∷_};
@@ -9,7 +9,7 @@ ghost use Rattle.lines.specs.Answers.{fieldsAfter, NumberAfter, EntryAft
 ghost use Rattle.lines.specs.declared.Kind.the-variants.{Find, Finish};
 use text::fields::Numeral;
 
-// "An entry has a class 0 to 15 (0 most urgent) and a unit 1 to 65,535."
+// Entries 1.
 pub struct Entry {
     pub class: u32,
     pub unit: u32,
@@ -32,7 +32,7 @@ pub struct Line {
     pub kind: Kind,
 }
 
-// A line read, or the case that document 01 gives number 10.
+// A line read, or the case that is answered 10.
 pub enum Parsed {
     Readable(Line),
     Unreadable,
@@ -60,7 +60,7 @@ const MOST_UNIT: u32 = 65535;
 
 const KEYS_PER_CLASS: u32 = 65536;
 
-// "values: 32 bits"
+// Numbers 2: any value.
 const LEAST_VALUE: u32 = 0;
 
 const MOST_VALUE: u32 = 4294967295;
@@ -78,7 +78,7 @@ const LETTER_S: u8 = 83;
 // Where the first field ends, which is a letter: one byte.
 const LETTER_END: usize = 1;
 
-// "Its key is class x 65,536 + unit."
+// Entries 2.
 pub fn entry_key(e: Entry) -> u32
     requires { ⌜ InRange e ⌝ }
     ensures { λ r. ⌜ r ≡ entryKey e ⌝ }

@@ -61,7 +61,7 @@ SharedMeansLeading =
     (ws : List ℕ) → isList ws ≡ true → (x y : ℕ) → x ≤ largestAt ws → y ≤ largestAt ws
     → shared (baseAt ws) (dimensionsAt ws) x y ≡ agreed (coordinates (baseAt ws) (dimensionsAt ws) x) (coordinates (baseAt ws) (dimensionsAt ws) y)
 
--- .. and a buffer is a list if and only if every sentence of document 01's three sections holds of its words.
+-- .. and a buffer is a list if and only if every rule from Numbers to A list holds of its words.
 abbrev pub ListMeansSentences : Type 0
 ListMeansSentences = (ws : List ℕ) → (isList ws ≡ true) ↔ AList ws
 
@@ -71,7 +71,7 @@ WalkIsRule =
     (ws : List ℕ) → isList ws ≡ true → (k : ℕ) → 1 ≤ k → k ≤ largestAt ws
     → map (keyAt ws) (walk ws k) ≡ rule (baseAt ws) (dimensionsAt ws) (standingKeys ws) k
 
--- .. "The cells gone to, each counted once": no cell is gone to twice;
+-- .. no cell is gone to twice;
 abbrev pub WalkOnce : Type 0
 WalkOnce = (ws : List ℕ) → isList ws ≡ true → (k : ℕ) → 1 ≤ k → k ≤ largestAt ws → (x : ℕ) → occurrences x (walk ws k) ≤ 1
 
@@ -161,13 +161,13 @@ AnswersAreBooked =
 abbrev pub FindWritesNothing : Type 0
 FindWritesNothing = (ws : List ℕ) (key : ℕ) → outcome (Find key) ws .left ≡ ws
 
--- A take writes the taken cell's value 0 and mark 2, and the path, whose last word becomes that cell: "Links are untouched."
+-- A take writes the taken cell's value 0 and mark 2, and the path, whose last word becomes that cell. No link changes.
 abbrev pub TakeWrites : Type 0
 TakeWrites =
     (ws : List ℕ) → isList ws ≡ true → outcome Take ws .answered .refusal ≡ 0
     → Taken ws (outcome Take ws .left) (outcome Take ws .answered .key)
 
--- A revived key gets the new value and mark 1, "with no link changed and nothing finished"; and the path, if the key is not above the
+-- A revived key gets the new value and mark 1, with no link changed and nothing finished; and the path, if the key is not above the
 -- position's.
 abbrev pub ReviveWrites : Type 0
 ReviveWrites =
@@ -197,7 +197,7 @@ FinishWrites =
     (ws : List ℕ) → isList ws ≡ true → (key : ℕ) → outcome (Finish key) ws .answered .refusal ≡ 0
     → Finishes ws (outcome (Finish key) ws .left) key (outcome (Finish key) ws .answered .count)
 
--- A sweep leaves what document 01 says.
+-- A sweep leaves what The operations 6 says.
 abbrev pub SweepWrites : Type 0
 SweepWrites = (ws : List ℕ) → isList ws ≡ true → Swept ws (outcome Sweep ws .left)
 

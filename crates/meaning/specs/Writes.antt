@@ -12,7 +12,7 @@ use Rattle.meaning.specs.Operations.{Slot, parentIn}
 use Rattle.meaning.specs.Reading.{read}
 use Rattle.meaning.specs.Sentences.{Free, Standing, Settled}
 
--- "A cell that owes nothing has owed, low and high 0."
+-- Debts 4: a cell that owes nothing has owed, low and high 0.
 abbrev pub OwesNothing : List ℕ → ℕ → Type 0
 OwesNothing ws n = (owedAt ws n ≡ 0) × (lowAt ws n ≡ 0) × (highAt ws n ≡ 0)
 
@@ -20,13 +20,13 @@ OwesNothing ws n = (owedAt ws n ≡ 0) × (lowAt ws n ≡ 0) × (highAt ws n ≡
 abbrev pub OwesSame : List ℕ → List ℕ → ℕ → Type 0
 OwesSame ws us x = (owedAt us x ≡ owedAt ws x) × (lowAt us x ≡ lowAt ws x) × (highAt us x ≡ highAt ws x)
 
--- Finishing, in document 01's words: us are the words ws after cell n is finished.
+-- Debts 5: us are the words ws after cell n is finished.
 pub record Finished (ws us : List ℕ) (n : ℕ) : Type 0 where
-  -- "moves those links from c to n"
+  -- the links move from c to n,
   pub given : (d : ℕ) → lowAt ws n ≤ d → d < highAt ws n → linkAt us n d ≡ linkAt ws (owedAt ws n) d
-  -- "puts 0 in c"
+  -- .. 0 stands in their place in c,
   pub cleared : (d : ℕ) → lowAt ws n ≤ d → d < highAt ws n → linkAt us (owedAt ws n) d ≡ 0
-  -- "and clears the three words"
+  -- .. and the three words are 0
   pub owed : owedAt us n ≡ 0
   pub low : lowAt us n ≡ 0
   pub high : highAt us n ≡ 0
@@ -48,33 +48,33 @@ pub record Parent (ws : List ℕ) (x y : ℕ) : Type 0 where
   pub number : ℕ
   pub leads : Settled ws y number x
 
--- "If the key is at or below the position's, the position becomes the parent": a key k above it changes no word of path
+-- The operations 2: a key k above the position changes no word of path
 abbrev pub PathKept : List ℕ → List ℕ → ℕ → Type 0
 PathKept ws us k = keyAt ws (positionAt ws) < k → (d : ℕ) → d < dimensionsAt ws → pathAt us d ≡ pathAt ws d
 
 -- An insert of a key k that does not stand, with value v, into slot t: us are the words ws afterwards.
 pub record Inserted (ws us : List ℕ) (k v : ℕ) (t : Slot) : Type 0 where
-  -- "puts a new cell n in the first free cell"
+  -- a new cell n, the first free one
   pub free : t .n ≡ firstFreeAt ws
   pub next-free : firstFreeAt us ≡ wordAt ws (t .n) 0
   pub key : keyAt us (t .n) ≡ k
   pub value : valueAt us (t .n) ≡ v
   pub live : markAt us (t .n) ≡ liveMark
   pub coordinates : (d : ℕ) → d < dimensionsAt ws → coordinateAt us (t .n) d ≡ coordinate (baseAt ws) (dimensionsAt ws) k d
-  -- "as link p of its parent in the new settled shape"
+  -- it hangs by link p from its parent in the new settled shape
   pub standing : Standing ws (t .parent)
   pub settled : Settled us (t .parent) (t .p) (t .n)
   pub parent : linkAt us (t .parent) (t .p) ≡ t .n
-  -- "If a cell c had that slot in the settled shape before"; "where n and c share exactly q coordinates"
+  -- c had that slot in the settled shape before, and shares q coordinates with n
   pub held : Settled ws (t .parent) (t .p) (t .c)
   pub shares : (t .c ≡ 0 → ⊥) → t .q ≡ shared (baseAt ws) (dimensionsAt ws) k (keyAt ws (t .c))
-  -- "c becomes link q of n"
+  -- c becomes link q of n
   pub given : (t .c ≡ 0 → ⊥) → linkAt us (t .n) (t .q) ≡ t .c
   pub other-links : (d : ℕ) → d < dimensionsAt ws → (d ≡ t .q → t .c ≡ 0) → linkAt us (t .n) d ≡ 0
-  -- "If p < q, then n owes: owed c, low p, high q", and only so
+  -- if p is below q, n owes c from p to q, and only so
   pub owes : (t .c ≡ 0 → ⊥) → t .p < t .q → (owedAt us (t .n) ≡ t .c) × (lowAt us (t .n) ≡ t .p) × (highAt us (t .n) ≡ t .q)
   pub owes-nothing : ((t .c ≡ 0 → ⊥) → t .q ≤ t .p) → OwesNothing us (t .n)
-  -- "an insert finishes what the parent owes, then what c owes, and nothing else"
+  -- what the parent owes is finished, then what c owes, and nothing else
   pub parent-paid : OwesNothing us (t .parent)
   pub c-paid : OwesNothing us (t .c)
   pub others-owe : (x : ℕ) → x < cellsAt ws → (x ≡ t .n → ⊥) → (x ≡ t .parent → ⊥) → (x ≡ t .c → ⊥) → OwesSame ws us x
@@ -89,12 +89,12 @@ pub record Inserted (ws us : List ℕ) (k v : ℕ) (t : Slot) : Type 0 where
   pub header : (i : ℕ) → i < 4 → getD us i 0 ≡ getD ws i 0
   pub other : (x j : ℕ) → x < cellsAt ws → j < cellWords (dimensionsAt ws) → (x ≡ t .n → ⊥) → (x ≡ t .parent → j ≡ linkField (dimensionsAt ws) (t .p) → ⊥) →
       Unmoved ws (t .parent) x j → Unmoved ws (t .c) x j → wordAt us x j ≡ wordAt ws x j
-  -- "If the key is at or below the position's, the position becomes the parent", and only so
+  -- if the key is at or below the position's, the position becomes the parent, and only so
   pub path-kept : PathKept ws us k
   pub position-lowered : k ≤ keyAt ws (positionAt ws) → positionAt us ≡ t .parent
 
--- A take, or a revival, of key k: value and mark of its cell are written, and the path. "Links are untouched"; "no link changed and nothing
--- finished".
+-- A take, or a revival, of key k: value and mark of its cell are written, and the path. No link changes and nothing is
+-- finished.
 pub record Marked (ws us : List ℕ) (cell k value mark : ℕ) : Type 0 where
   -- a free cell's first word is no key
   pub standing : Standing ws cell
@@ -105,44 +105,44 @@ pub record Marked (ws us : List ℕ) (cell k value mark : ℕ) : Type 0 where
   pub header : (i : ℕ) → i < headerWords → getD us i 0 ≡ getD ws i 0
   pub other : (x j : ℕ) → j < cellWords (dimensionsAt ws) → (x ≡ cell → (j ≡ valueField → ⊥) × (j ≡ markField → ⊥)) → wordAt us x j ≡ wordAt ws x j
 
--- A take of key k: "It becomes dead and the position. Links are untouched."
+-- The operations 5: a take of key k.
 pub record Taken (ws us : List ℕ) (k : ℕ) : Type 0 where
   pub cell : ℕ
   pub marked : Marked ws us cell k 0 deadMark
-  -- "the least live key"
+  -- it is the least live key
   pub live : markAt ws cell ≡ liveMark
   pub least : (x : ℕ) → Standing ws x → markAt ws x ≡ liveMark → k ≤ keyAt ws x
-  -- "It becomes .. the position"
+  -- it becomes the position
   pub position : positionAt us ≡ cell
 
--- A revival of key k with value v: "A standing dead key gets the new value and mark 1"
+-- The operations 2: a revival of key k with value v.
 pub record Revived (ws us : List ℕ) (k v : ℕ) : Type 0 where
   pub cell : ℕ
   pub marked : Marked ws us cell k v liveMark
   pub dead : markAt ws cell ≡ deadMark
-  -- "If the key is at or below the position's, the position becomes the parent of that cell in the settled shape", and only so
+  -- if the key is at or below the position's, the position becomes the parent of that cell in the settled shape, and only so
   pub path-kept : PathKept ws us k
   pub position-lowered : k ≤ keyAt ws (positionAt ws) → positionAt us ≡ parentIn (read us) cell (read us .row)
   pub position-parent : k ≤ keyAt ws (positionAt ws) → Parent us cell (positionAt us)
 
--- A sweep, in document 01's words: us are the words ws afterwards.
+-- The operations 6: us are the words ws afterwards.
 pub record Swept (ws us : List ℕ) : Type 0 where
-  -- "moves the position to the greatest dead cell below every live key (of all, if none is live; the head, if there is no other)"
+  -- the position moves to the greatest dead cell below every live key (of all, if none is live; the head, if there is no other)
   pub position : Standing ws (positionAt us)
   pub dead : markAt ws (positionAt us) ≡ deadMark
   pub below-live : (x : ℕ) → Standing ws x → markAt ws x ≡ liveMark → keyAt ws (positionAt us) < keyAt ws x
   pub greatest : (x : ℕ) → Standing ws x → markAt ws x ≡ deadMark → ((y : ℕ) → Standing ws y → markAt ws y ≡ liveMark → keyAt ws x < keyAt ws y) →
       keyAt ws x ≤ keyAt ws (positionAt us)
-  -- "frees every cell strictly between head and position in key order"
+  -- every cell strictly between head and position is freed
   pub freed : (x : ℕ) → Standing ws x → 0 < keyAt ws x → keyAt ws x < keyAt ws (positionAt us) → markAt us x ≡ freeMark
-  -- "the rest": the head, the position and every cell of larger key
+  -- what still stands: the head, the position and every cell of larger key
   pub kept : (x : ℕ) → Standing ws x → (x ≡ 0) ⊎ (keyAt ws (positionAt us) ≤ keyAt ws x) →
       (keyAt us x ≡ keyAt ws x) × ((valueAt us x ≡ valueAt ws x) × (markAt us x ≡ markAt ws x))
   -- .. and a free cell stays free
   pub free : (x : ℕ) → Free ws x → Free us x
-  -- "It finishes all that is owed"
+  -- all that is owed is finished
   pub owes : (x : ℕ) → x < cellsAt ws → OwesNothing us x
-  -- "and leaves the settled shape of the rest"
+  -- what still stands has its settled shape
   pub settled : (x d : ℕ) → Standing us x → d < dimensionsAt ws → Settled us x d (linkAt us x d)
   -- D, K, C and b are as before
   pub header : (i : ℕ) → i < 4 → getD us i 0 ≡ getD ws i 0

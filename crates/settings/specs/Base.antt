@@ -1,4 +1,4 @@
--- "The least whole number with b to the power D above K", as a property of b.
+-- The base as a property of b: Numbers 3.
 use mathlib.Core.Bool.{Bool, not, _&&_}
 use Prim.Native.Nat.{ℕ, _-_, _^_, _≤_, _<_}
 use lib.Dec.{ltb}

@@ -10,6 +10,6 @@ use Rattle.settings.specs.declared.Checked.the-variants.{Accepted, OutOf
 abbrev pub settingsOf : ℕ → ℕ → ℕ → Settings
 settingsOf D K C = record { dimensions = D; largest = K; cells = C; base = baseOf D K }
 
--- settings in range, or the case that document 01 gives number 1
+-- settings in range, or the case that is refused by number 1
 unfoldable pub checkedOf : ℕ → ℕ → ℕ → Checked
 checkedOf D K C = cond (inRange D K C) (Accepted (settingsOf D K C)) OutOfRange

@@ -1,4 +1,4 @@
--- What the settings of a list are: document 01, "Numbers", and the length from "The words".
+-- What the settings of a list are: Numbers, and the length from The words 1 (docs/REFERENCE.md).
 pub mod Numbers
 pub mod Base
 pub mod Checked

@@ -1,4 +1,4 @@
--- The fields of a line and the numbers in them: "One space between fields; decimal, no leading zeros".
+-- The fields of a line and the numbers in them: The order program 2.
 use mathlib.Core.Bool.{Bool, true, cond, _&&_, _||_}
 use mathlib.Core.List.{List, [], _∷_}
 use Prim.Native.Nat.{ℕ, _+_, _*_, _-_}
@@ -31,7 +31,7 @@ unfoldable pub decimalFrom : ℕ → List ℕ → ℕ
 decimalFrom n [] = n
 decimalFrom n (byte ∷ field) = decimalFrom (n * 10 + (byte - 48)) field
 
--- "decimal, no leading zeros": one digit or more, the first not 0 unless it is the only one
+-- decimal, no leading zeros: one digit or more, the first not 0 unless it is the only one
 unfoldable pub isDecimal : List ℕ → Bool
 isDecimal field = ltb 0 (length field) && allDigits field && (eqb (length field) 1 || ltb 48 (getD field 0 0))
 

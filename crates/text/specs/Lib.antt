@@ -1,4 +1,4 @@
--- Lines, fields and decimal numbers in bytes: document 01, "Entries and the order program".
+-- Lines, fields and decimal numbers in bytes: The order program 2 and 3 (docs/REFERENCE.md).
 pub mod Fields
 pub mod Lines
 pub mod Answers

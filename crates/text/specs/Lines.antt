@@ -1,4 +1,4 @@
--- The lines of an input: "at most 64 bytes before the line feed .. A last line without line feed counts".
+-- The lines of an input: The order program 3.
 use mathlib.Core.Bool.{cond}
 use mathlib.Core.List.{List, [], _∷_, _++_, map}
 use Prim.Native.Nat.{ℕ}

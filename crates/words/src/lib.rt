@@ -13,13 +13,13 @@ ghost use Rattle.words.specs.Shaped.{Shaped, Within};
 use meaning::Step;
 use settings::Settings;
 
-// "Words 0 to 4: D, K, C, b, first free cell. Then D words of path."
+// The words 1: the header, before the path.
 pub const HEADER_WORDS: usize = Settings::HEADER_WORDS;
 
 // Word 4 is the first free cell.
 pub const FIRST_FREE: usize = 4;
 
-// "key, value, mark, owed cell, low, high, D coordinates, D links"
+// The words 1: the fields of a cell, by their numbers.
 pub const KEY: u32 = 0;
 
 pub const VALUE: u32 = 1;
@@ -34,7 +34,7 @@ pub const HIGH: u32 = 5;
 
 pub const COORDINATES: u32 = Settings::FIELDS_BEFORE_COORDINATES;
 
-// "Mark: 0 free, 1 live, 2 dead."
+// The words 1: the marks.
 pub const FREE: u32 = 0;
 
 pub const LIVE: u32 = 1;
