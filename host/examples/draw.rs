@@ -1,7 +1,7 @@
 //! Draws a list as SVG: reads calls as in a trace from standard input, makes them, and writes the list that they leave to standard output.
 //!
-//! The lines are `U D K C LEN` (a buffer of LEN words, then set up), `N key value` (insert), `F key` (find), `A key` (finish), `T` (take) and
-//! `S` (sweep), as `crates/replay` reads them. A refused call is no error; a line that is none of these is.
+//! The lines are `U D K C LEN` (a buffer of LEN words, then set up), `N key value` (insert), `F key` (find), `A key` (finish), `T` (take)
+//! and `S` (sweep), as `crates/replay` reads them. A refused call is no error; a line that is none of these is.
 //!
 //! The standing cells stand in key order from left to right, and in rows by their dimensions. Link d leads to a cell of dimension d, and no
 //! cell between the two ends has a dimension of d or less (docs/REFERENCE.md, *How cells hang together*). So a line that goes down from
@@ -312,7 +312,9 @@ fn draw_cell(drawing: &mut Drawing, plan: &Plan, column: usize, cell: &Cell) {
     let middle = x + width / 2;
     let head = cell.number == 0;
     drawing.text((x + 6, y + 13), "small", "start", &format!("cell {}", cell.number));
-    drawing.text((x + width - 6, y + 13), "small", "end", if head || cell.live { "" } else { "dead" });
+    if !cell.live && !head {
+        drawing.text((x + width - 6, y + 13), "small", "end", "dead");
+    }
     drawing.text((middle, y + 33), "key", "middle", &if head { "head".into() } else { cell.key.to_string() });
     drawing.text((middle, y + 47), "", "middle", &coordinates(cell));
     if cell.live {
@@ -380,9 +382,11 @@ fn draw_debt(drawing: &mut Drawing, plan: &Plan, list: &Reading, column: usize) 
 
 /// A debt in words.
 fn debt_text(debtor: &Cell, owed: &Cell) -> String {
-    let (first, last) = (debtor.low, debtor.high - 1);
-    let links = if first == last { "link" } else { "links" };
-    format!("key {} owes {links} {} that still stand{} in key {}", debtor.key, span(first, last), if first == last { "s" } else { "" }, owed.key)
+    let numbers = span(debtor.low, debtor.high - 1);
+    match debtor.high - debtor.low {
+        1 => format!("key {} owes link {numbers} that still stands in key {}", debtor.key, owed.key),
+        _ => format!("key {} owes links {numbers} that still stand in key {}", debtor.key, owed.key),
+    }
 }
 
 /// What is owed, a line for each debt; where the lines end.
@@ -428,27 +432,33 @@ fn draw_free(drawing: &mut Drawing, free: &[u32], top: i32) -> i32 {
     end
 }
 
-/// One sign of the legend at a place.
-type Sign = fn(&mut Drawing, (i32, i32));
-
-const LEGEND: [(Sign, &str); 9] = [
-    (|drawing, (x, y)| drawing.area("live", (x, y - 12), (24, 16), 3), "live cell"),
-    (|drawing, (x, y)| drawing.area("dead", (x, y - 12), (24, 16), 3), "dead cell, and the head"),
-    (|drawing, (x, y)| drawing.area("position", (x, y - 12), (24, 16), 3), "the position"),
-    (|drawing, (x, y)| drawing.area("path", (x, y - 12), (24, 16), 3), "named by these path words"),
-    (|drawing, (x, y)| drawing.area("free", (x, y - 12), (24, 16), 3), "free cell"),
-    (|drawing, (x, y)| drawing.path("link", &format!("M{x} {} H{}", y - 4, x + 26)), "link with its number"),
-    (|drawing, (x, y)| drawing.path("debt", &format!("M{} {} H{}", x - 6, y - 4, x + 26)), "debt: links of this cell that still stand in the next"),
-    (|drawing, (x, y)| drawing.path("owed", &format!("M{x} {} H{}", y - 4, x + 26)), "owed link, where it still stands"),
-    (|drawing, (x, y)| drawing.path("owed nowhere", &format!("M{x} {} H{}", y - 4, x + 24)), "owed link that leads nowhere"),
+/// The signs of the legend: a shape of a cell or a line, its class, and what it says.
+const LEGEND: [(Shape, &str, &str); 9] = [
+    (Shape::Cell, "live", "live cell"),
+    (Shape::Cell, "dead", "dead cell, and the head"),
+    (Shape::Cell, "position", "the position"),
+    (Shape::Cell, "path", "named by these path words"),
+    (Shape::Cell, "free", "free cell"),
+    (Shape::Line, "link", "link with its number"),
+    (Shape::Line, "debt", "debt: links of this cell that still stand in the next"),
+    (Shape::Line, "owed", "owed link, where it still stands"),
+    (Shape::Line, "owed nowhere", "owed link that leads nowhere"),
 ];
+
+enum Shape {
+    Cell,
+    Line,
+}
 
 fn draw_legend(drawing: &mut Drawing, top: i32) -> i32 {
     drawing.text((10, top), "row", "start", "legend");
-    let (places, end) = drawing.flow(top, 24, LEGEND.iter().map(|(_, text)| text_width(text) + 50));
-    for ((x, y), (sign, text)) in places.into_iter().zip(LEGEND) {
-        sign(drawing, (x, y));
-        drawing.text((x + 32, y), "", "start", text);
+    let (places, end) = drawing.flow(top, 24, LEGEND.iter().map(|(.., text)| text_width(text) + 50));
+    for ((x, y), (shape, class, text)) in places.into_iter().zip(LEGEND) {
+        match shape {
+            Shape::Cell => drawing.area(class, (x, y - 12), (26, 16), 3),
+            Shape::Line => drawing.path(class, &format!("M{} {} H{}", x - 6, y - 4, x + 26)),
+        }
+        drawing.text((x + 34, y), "", "start", text);
     }
     end
 }
