@@ -1,25 +1,41 @@
 //! The proved waiting list, called from Rust.
 //!
-//! A list lives in a slice of 32-bit words that the host lends to each call. Every function checks the words it is given, refuses by
-//! number what document 01 refuses, and alters no word when it refuses. Nothing here allocates or panics.
+//! A list lives in a slice of 32-bit words that the host lends. Every call checks the words it is given, refuses by number what it can't
+//! do, and alters no word when it refuses. Nothing here allocates or panics. The behaviour is in `docs/REFERENCE.md`, which is cited by
+//! its headings.
+//!
+//! A [`List`] holds the lent words and has the operations as methods:
 //!
 //! ```
-//! use mdlist_host::{find, insert, set_up, take, words_needed, Refusal};
+//! use mdlist_host::{words_needed, List, Refusal};
 //!
-//! let mut list = [0u32; 87];
-//! assert_eq!(words_needed(2, 8), 87);
-//! set_up(2, 15, 8, &mut list)?;
-//! insert(&mut list, 6, 60)?;
-//! insert(&mut list, 5, 50)?;
-//! assert_eq!(find(&list, 6)?.value, 60);
-//! assert_eq!(insert(&mut list, 6, 61), Err(Refusal::KeyLive { looked: 2 }));
-//! assert_eq!(take(&mut list)?.key, 5);
-//! assert_eq!(take(&mut list)?.key, 6);
-//! assert_eq!(take(&mut list), Err(Refusal::NothingLive { above: 0 }));
+//! let mut words = [0u32; words_needed(2, 8)];
+//! let mut list = List::set_up(2, 15, 8, &mut words)?;
+//! list.insert(6, 60)?;
+//! list.insert(5, 50)?;
+//! assert_eq!(list.find(6)?.value, 60);
+//! assert_eq!(list.insert(6, 61), Err(Refusal::KeyLive { looked: 2 }));
+//! assert_eq!(list.take()?.key, 5);
+//! assert_eq!(list.take()?.key, 6);
+//! assert_eq!(list.take(), Err(Refusal::NothingLive { above: 0 }));
+//! # Ok::<(), Refusal>(())
+//! ```
+//!
+//! The same operations are functions on the words, for a host that keeps them in a place of its own:
+//!
+//! ```
+//! use mdlist_host::{insert, set_up, take, words_needed, Refusal};
+//!
+//! let mut words = [0u32; words_needed(2, 8)];
+//! set_up(2, 15, 8, &mut words)?;
+//! insert(&mut words, 6, 60)?;
+//! assert_eq!(take(&mut words)?.value, 60);
 //! # Ok::<(), Refusal>(())
 //! ```
 #![no_std]
 #![deny(missing_docs)]
+
+use core::fmt;
 
 mod sys {
     #[repr(C)]
@@ -41,7 +57,20 @@ mod sys {
     }
 }
 
-/// Why a call was turned away: document 01, "Turned away". A refused call has altered no word.
+/// Why a call was refused: docs/REFERENCE.md, *Refusals*. A refused call has altered no word.
+///
+/// It is an error with a text, so that `?` hands it on in a function that answers any error:
+///
+/// ```
+/// use mdlist_host::{words_needed, List};
+///
+/// fn first(words: &mut [u32]) -> Result<u32, Box<dyn std::error::Error>> {
+///     Ok(List::set_up(2, 15, 8, words)?.take()?.key)
+/// }
+///
+/// let error = first(&mut [0; words_needed(2, 8)]).expect_err("the list is empty");
+/// assert_eq!(error.to_string(), "refusal 7: nothing is live; standing keys above the position: 0");
+/// ```
 #[derive(Clone, Copy, Debug, PartialEq, Eq)]
 pub enum Refusal {
     /// 1, set up: D, K or C is out of range.
@@ -74,12 +103,12 @@ pub enum Refusal {
     },
     /// 9, insert, finish, sweep: a cell owed from is not standing. No list gives it.
     OwedNotStanding,
-    /// A number that document 01 does not have: the archive and this package do not belong together.
+    /// A number that no call answers: the archive and this package do not belong together.
     Unknown(u32),
 }
 
 impl Refusal {
-    /// Document 01's number.
+    /// The number in docs/REFERENCE.md, *Refusals*.
     ///
     /// ```
     /// assert_eq!(mdlist_host::Refusal::NotAList.number(), 3);
@@ -99,6 +128,26 @@ impl Refusal {
         }
     }
 }
+
+impl fmt::Display for Refusal {
+    fn fmt(&self, f: &mut fmt::Formatter<'_>) -> fmt::Result {
+        write!(f, "refusal {}: ", self.number())?;
+        match self {
+            Refusal::OutOfRange => f.write_str("D, K or C is out of range"),
+            Refusal::WrongLength => f.write_str("the slice has not the exact length"),
+            Refusal::NotAList => f.write_str("the words are not a list"),
+            Refusal::BadKey => f.write_str("the key is 0 or above K"),
+            Refusal::KeyLive { looked } => write!(f, "the key is live already; cells looked at: {looked}"),
+            Refusal::NoFreeCell { looked } => write!(f, "no cell is free; cells looked at: {looked}"),
+            Refusal::NothingLive { above } => write!(f, "nothing is live; standing keys above the position: {above}"),
+            Refusal::NotThere { looked } => write!(f, "the key is not there; cells looked at: {looked}"),
+            Refusal::OwedNotStanding => f.write_str("a cell that is owed from is free"),
+            Refusal::Unknown(_) => f.write_str("no call answers it; the archive and the package do not belong together"),
+        }
+    }
+}
+
+impl core::error::Error for Refusal {}
 
 impl From<Refusal> for u32 {
     fn from(refusal: Refusal) -> u32 {
@@ -243,4 +292,132 @@ pub fn take(list: &mut [u32]) -> Result<Taken, Refusal> {
 pub fn sweep(list: &mut [u32]) -> Result<u32, Refusal> {
     // SAFETY: as in `set_up`.
     checked(unsafe { sys::mdlist_sweep(list.as_mut_ptr(), list.len()) }).map(|a| a.count)
+}
+
+/// A list in lent words, with the operations as methods.
+///
+/// Nothing is kept but the borrow: another `List` on the same words later goes on where this one ended.
+///
+/// ```
+/// # use mdlist_host::*;
+/// let mut words = [0u32; words_needed(2, 8)];
+/// List::set_up(2, 15, 8, &mut words)?.insert(6, 60)?;
+/// assert_eq!(List::new(&mut words).take()?.key, 6);
+/// # Ok::<(), Refusal>(())
+/// ```
+#[derive(Debug)]
+pub struct List<'a> {
+    words: &'a mut [u32],
+}
+
+impl<'a> List<'a> {
+    /// Makes the words a fresh list, as [`set_up`] does, and holds them.
+    ///
+    /// ```
+    /// # use mdlist_host::*;
+    /// let mut words = [0u32; words_needed(2, 8)];
+    /// assert!(List::set_up(2, 15, 8, &mut words).is_ok());
+    /// assert!(matches!(List::set_up(2, 0, 8, &mut words), Err(Refusal::OutOfRange)));
+    /// ```
+    pub fn set_up(d: u32, k: u32, c: u32, words: &'a mut [u32]) -> Result<List<'a>, Refusal> {
+        set_up(d, k, c, words)?;
+        Ok(List { words })
+    }
+
+    /// Holds words that are a list already. It does not look at them: each call checks them, and refuses words that are not a list.
+    ///
+    /// ```
+    /// # use mdlist_host::*;
+    /// let mut words = [0u32; words_needed(2, 8)];
+    /// assert_eq!(List::new(&mut words).take(), Err(Refusal::NotAList));
+    /// ```
+    pub fn new(words: &'a mut [u32]) -> List<'a> {
+        List { words }
+    }
+
+    /// The words, to copy or to store.
+    ///
+    /// ```
+    /// # use mdlist_host::*;
+    /// let mut words = [0u32; words_needed(2, 8)];
+    /// let list = List::set_up(2, 15, 8, &mut words)?;
+    /// assert_eq!(list.words()[..4], [2, 15, 8, 4]);
+    /// # Ok::<(), Refusal>(())
+    /// ```
+    pub fn words(&self) -> &[u32] {
+        self.words
+    }
+
+    /// Inserts a key with its value, as [`insert`] does.
+    ///
+    /// ```
+    /// # use mdlist_host::*;
+    /// # let mut words = [0u32; words_needed(2, 8)];
+    /// # let mut list = List::set_up(2, 15, 8, &mut words)?;
+    /// assert_eq!(list.insert(6, 60), Ok(0));
+    /// # Ok::<(), Refusal>(())
+    /// ```
+    pub fn insert(&mut self, key: u32, value: u32) -> Result<u32, Refusal> {
+        insert(self.words, key, value)
+    }
+
+    /// Finds a live key, as [`find`] does.
+    ///
+    /// ```
+    /// # use mdlist_host::*;
+    /// # let mut words = [0u32; words_needed(2, 8)];
+    /// # let mut list = List::set_up(2, 15, 8, &mut words)?;
+    /// list.insert(6, 60)?;
+    /// assert_eq!(list.find(6), Ok(Found { value: 60, looked: 1 }));
+    /// # Ok::<(), Refusal>(())
+    /// ```
+    pub fn find(&self, key: u32) -> Result<Found, Refusal> {
+        find(self.words, key)
+    }
+
+    /// Finishes what a key's cell owes, as [`finish`] does.
+    ///
+    /// ```
+    /// # use mdlist_host::*;
+    /// # let mut words = [0u32; words_needed(2, 8)];
+    /// # let mut list = List::set_up(2, 15, 8, &mut words)?;
+    /// list.insert(6, 60)?;
+    /// list.insert(5, 50)?;
+    /// assert_eq!(list.finish(5), Ok(1));
+    /// # Ok::<(), Refusal>(())
+    /// ```
+    pub fn finish(&mut self, key: u32) -> Result<u32, Refusal> {
+        finish(self.words, key)
+    }
+
+    /// Takes the least live key, as [`take`] does.
+    ///
+    /// ```
+    /// # use mdlist_host::*;
+    /// # let mut words = [0u32; words_needed(2, 8)];
+    /// # let mut list = List::set_up(2, 15, 8, &mut words)?;
+    /// list.insert(6, 60)?;
+    /// assert_eq!(list.take(), Ok(Taken { key: 6, value: 60, passed: 1 }));
+    /// # Ok::<(), Refusal>(())
+    /// ```
+    pub fn take(&mut self) -> Result<Taken, Refusal> {
+        take(self.words)
+    }
+
+    /// Finishes all that is owed and frees dead cells, as [`sweep`] does.
+    ///
+    /// ```
+    /// # use mdlist_host::*;
+    /// # let mut words = [0u32; words_needed(2, 8)];
+    /// # let mut list = List::set_up(2, 15, 8, &mut words)?;
+    /// list.insert(6, 60)?;
+    /// list.insert(5, 50)?;
+    /// list.take()?;
+    /// list.take()?;
+    /// assert_eq!(list.sweep(), Ok(1));
+    /// # Ok::<(), Refusal>(())
+    /// ```
+    pub fn sweep(&mut self) -> Result<u32, Refusal> {
+        sweep(self.words)
+    }
 }

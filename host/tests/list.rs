@@ -1,4 +1,5 @@
-//! The list through its Rust functions: document 01's steps and examples, its edges, and a random comparison with an ordered map.
+//! The list through its Rust functions: fourteen steps, units that begin alike, the edges, the texts of the refusals, the methods of
+//! `List`, and a random comparison with an ordered map.
 
 use mdlist_host::*;
 use std::collections::BTreeMap;
@@ -32,7 +33,7 @@ fn fourteen_steps() {
     assert_eq!(insert(&mut l, 5, 51), Ok(1));
 }
 
-/// The incident: units 117 and 1117 of one class are both accepted, found, and taken in order.
+/// Units 117 and 1117 of one class are both accepted, found, and taken in order: docs/REFERENCE.md, *Entries*.
 #[test]
 fn unit_1117_beside_unit_117() {
     let key = |class: u32, unit: u32| class * 65_536 + unit;
@@ -46,6 +47,74 @@ fn unit_1117_beside_unit_117() {
     assert_eq!(take(&mut l), taken(65_653, 41, 1));
     assert_eq!(take(&mut l), taken(66_653, 42, 1));
     assert_eq!(take(&mut l), Err(Refusal::NothingLive { above: 0 }));
+}
+
+/// The texts that the refusals of real calls show, and their numbers: docs/REFERENCE.md, *Refusals*.
+#[test]
+fn refusals_as_texts() {
+    let mut l = fresh(2, 15, 4);
+    for key in [3, 7, 11] {
+        assert!(insert(&mut l, key, key).is_ok());
+    }
+    let short = &mut [0; 3];
+    let shown = [
+        (set_up(2, 0, 8, short).unwrap_err(), "refusal 1: D, K or C is out of range"),
+        (set_up(2, 15, 8, short).unwrap_err(), "refusal 2: the slice has not the exact length"),
+        (sweep(short).unwrap_err(), "refusal 3: the words are not a list"),
+        (find(&l, 16).unwrap_err(), "refusal 4: the key is 0 or above K"),
+        (insert(&mut l, 7, 0).unwrap_err(), "refusal 5: the key is live already; cells looked at: 1"),
+        (insert(&mut l, 5, 0).unwrap_err(), "refusal 6: no cell is free; cells looked at: 1"),
+        (take(&mut fresh(2, 15, 4)).unwrap_err(), "refusal 7: nothing is live; standing keys above the position: 0"),
+        (find(&l, 15).unwrap_err(), "refusal 8: the key is not there; cells looked at: 2"),
+        (Refusal::OwedNotStanding, "refusal 9: a cell that is owed from is free"),
+        (Refusal::Unknown(77), "refusal 77: no call answers it; the archive and the package do not belong together"),
+    ];
+    for (refusal, text) in shown {
+        let error: Box<dyn std::error::Error> = Box::new(refusal);
+        assert_eq!(error.to_string(), text);
+        assert!(text.starts_with(&format!("refusal {}: ", u32::from(refusal))));
+    }
+}
+
+/// The methods of `List` do what the functions do, word for word, and a `List` made anew on the words goes on with them.
+#[test]
+fn list_methods_beside_the_functions() {
+    let mut l = fresh(2, 15, 8);
+    let mut words = vec![7; words_needed(2, 8)];
+    let mut list = List::set_up(2, 15, 8, &mut words).unwrap();
+    assert_eq!(list.words(), l);
+    for key in [6, 5, 5, 9, 16] {
+        assert_eq!(list.insert(key, 10 * key), insert(&mut l, key, 10 * key));
+        assert_eq!(list.words(), l);
+    }
+    assert_eq!(list.find(9), find(&l, 9));
+    assert_eq!(list.find(10), Err(Refusal::NotThere { looked: 2 }));
+    assert_eq!(list.insert(4, 40), insert(&mut l, 4, 40));
+    let mut list = List::new(&mut words);
+    assert_eq!(list.finish(4), Ok(1));
+    assert_eq!(finish(&mut l, 4), Ok(1));
+    assert_eq!(list.words(), l);
+    for _ in 0..5 {
+        assert_eq!(list.take(), take(&mut l));
+        assert_eq!(list.words(), l);
+    }
+    assert_eq!(list.sweep(), Ok(3));
+    assert_eq!(sweep(&mut l), Ok(3));
+    assert_eq!(words, l);
+}
+
+/// A `List` on words that are not a list refuses each call and leaves them; a set up that is refused gives no `List`.
+#[test]
+fn list_on_other_words() {
+    let mut words = vec![7; 87];
+    let mut list = List::new(&mut words);
+    assert_eq!(list.insert(1, 1), Err(Refusal::NotAList));
+    assert_eq!(list.find(1), Err(Refusal::NotAList));
+    assert_eq!(list.finish(1), Err(Refusal::NotAList));
+    assert_eq!(list.take(), Err(Refusal::NotAList));
+    assert_eq!(list.sweep(), Err(Refusal::NotAList));
+    assert_eq!(List::set_up(2, 15, 7, &mut words).err(), Some(Refusal::WrongLength));
+    assert!(words.iter().all(|w| *w == 7));
 }
 
 #[test]
