@@ -12,7 +12,7 @@ use Rattle.text.specs.declared.feed.Told.the-variants.{NoLine, Line, LongLine}
 use Rattle.meaning.specs.Refusals.{Meets}
 use Rattle.meaning.specs.declared.Answer.{Answer}
 use Rattle.report.specs.Report.{answerText, Put}
-use Rattle.report.proofs.Puts.{put-length, put-lent}
+use Rattle.report.proofs.Puts.{put-start}
 use Rattle.order_step.specs.Step.{lineOutcome}
 use Rattle.order_step.specs.Printed.{lineText, wordsAfter, linesText, LinesAnswered}
 
@@ -21,12 +21,11 @@ module _
   one-answered : (h : Handed) → Meets (lineOutcome h ws) a after → LinesAnswered (h ∷ []) ws after out r
   unfolding lineText wordsAfter linesText
   one-answered h met =
+      let bytes = put-start put fits in
       record {
         left = met .left;
-        text =
-            ap (λ (n : ℕ). take n out) (sym (sub-zero r)) ∙ put-lent (answerText a lineFeed) put fits
-            ∙ ap (λ (b : Answer). answerText b lineFeed) (met .answered) ∙ sym (append-nil (lineText h ws));
-        within = omega (arith, fits, put-length put);
+        text = bytes .0 ∙ ap (λ (b : Answer). answerText b lineFeed) (met .answered) ∙ sym (append-nil (lineText h ws));
+        within = bytes .1;
       }
 
   -- the bytes from 0 to n, as the code lends them

@@ -1,27 +1,57 @@
--- `replay::reply` meets its contract: the call is made on the buffer that the line leaves, and the rest of the array stays.
-use mathlib.Core.Path.{_≡_, ap, _∙_}
-use Prim.Native.Nat.{_-_}
-use native.Mathlib.Omega.{arith}
-use lib.ListN.{length, take}
-use lib.Seq.{take-at}
 use borrow.Author.Needs.{needs}
-use Rattle.trace.specs.Calling.{afterCall}
 use Rattle.replay.proofs.reply.Statement.{statement}
 use Rattle.replay.proofs.reply.Tie as tie
+use Rattle.replay.proofs.reply.Reads as reads
+use Rattle.replay.proofs.reply.Lts as lts
+use Rattle.replay.proofs.answer.line_text.Reads as line-text-reads
+use Rattle.replay.proofs.answer.write.Reads as write-reads
 
+-- src/main.rt:47:53
+slice-aggregate-line-text : tie.Need-slice-aggregate-line-text
+slice-aggregate-line-text c = search needs
+
+-- src/main.rt:47:9
+line-text-requires : tie.Need-line-text-requires
+line-text-requires c κs = search needs
+
+-- src/main.rt:50:19
+array-share-prefix-out : tie.Need-array-share-prefix-out
+array-share-prefix-out c = search needs
+
+-- src/main.rt:50:19
+slice-aggregate-write : tie.Need-slice-aggregate-write
+slice-aggregate-write c = ?
+
+-- src/main.rt:50:38
+slice-reshare-prefix-write : tie.Need-slice-reshare-prefix-write
+slice-reshare-prefix-write c = search needs
+
+-- src/main.rt:50:38
+slice-aggregate-write-2 : tie.Need-slice-aggregate-write-2
+slice-aggregate-write-2 c = ?
+
+-- src/main.rt:50:5
+write-requires : tie.Need-write-requires
+write-requires c κs = search needs
+
+-- src/main.rt:42:1
+same-length : tie.Need-same-length
+same-length c = search needs
+
+-- src/main.rt:42:1
 returns : tie.Need-returns
-returns c =
-    let done = c .before .before .before .before .before .call in
-    let before = c .before .before .before .before .before .before .before .before .before .altered in
-    let kind = c .before .before .before .before .before .before .before .before .before .before .before .before .args .kind in
-    let n = before .result in
-    let zero : n - 0 ≡ n = omega arith in
-    let buffer = ap (λ m. take m (before .last .0)) zero ∙ before .ensures .is in
-    let long : length (done .last .0) ≡ n = search needs in
-    record { held = search needs; is = take-at (done .last .0) _ n long ∙ done .ensures .1 ∙ ap (afterCall kind) buffer }
+returns c = search needs
 
 pub reply-spec : {M : Type 1} → statement M
 reply-spec =
     tie.close
-    (tie.spec (λ c κs. search needs) (λ c. search needs) (λ c. search needs) (λ c. search needs) (λ c κs. search needs) (λ c. search needs)
-    (λ c. search needs) (λ c. search needs) (λ c κs. search needs) (λ c. search needs) returns)
+    (tie.spec
+    slice-aggregate-line-text
+    line-text-requires
+    array-share-prefix-out
+    slice-aggregate-write
+    slice-reshare-prefix-write
+    slice-aggregate-write-2
+    write-requires
+    same-length
+    returns)
