@@ -1,57 +1,34 @@
+-- `replay::reply` meets its contract: the bytes written are those that `line_text` puts, on the buffer before it.
+use mathlib.Core.Path.{sym}
+use native.Mathlib.Omega.{arith}
+use lib.ListN.{take}
+use lib.Seq.{length-take-le}
 use borrow.Author.Needs.{needs}
 use Rattle.replay.proofs.reply.Statement.{statement}
 use Rattle.replay.proofs.reply.Tie as tie
-use Rattle.replay.proofs.reply.Reads as reads
-use Rattle.replay.proofs.reply.Lts as lts
-use Rattle.replay.proofs.answer.line_text.Reads as line-text-reads
-use Rattle.replay.proofs.answer.write.Reads as write-reads
 
--- src/main.rt:47:53
-slice-aggregate-line-text : tie.Need-slice-aggregate-line-text
-slice-aggregate-line-text c = search needs
-
--- src/main.rt:47:9
-line-text-requires : tie.Need-line-text-requires
-line-text-requires c κs = search needs
-
--- src/main.rt:50:19
-array-share-prefix-out : tie.Need-array-share-prefix-out
-array-share-prefix-out c = search needs
-
--- src/main.rt:50:19
 slice-aggregate-write : tie.Need-slice-aggregate-write
-slice-aggregate-write c = ?
+slice-aggregate-write c =
+    let done = c .before .before .before .before .line-text in
+    sym (length-take-le (done .result .text) _ (done .ensures .within))
 
--- src/main.rt:50:38
-slice-reshare-prefix-write : tie.Need-slice-reshare-prefix-write
-slice-reshare-prefix-write c = search needs
-
--- src/main.rt:50:38
 slice-aggregate-write-2 : tie.Need-slice-aggregate-write-2
-slice-aggregate-write-2 c = ?
+slice-aggregate-write-2 c =
+    let done = c .before .before .before .before .before .line-text in
+    let held = done .ensures .holds .held in
+    sym (length-take-le (done .result .used) _ (omega (arith, held .room, held .within)))
 
--- src/main.rt:50:5
 write-requires : tie.Need-write-requires
-write-requires c κs = search needs
+write-requires c κs =
+    let done = c .before .before .before .before .before .line-text .ensures in
+    let a = c .before .before .before .before .before .before .before .before .before .args in
+    record { before = take (a .used) (a .words .now); left = done .holds .is; is = done .is }
 
--- src/main.rt:42:1
-same-length : tie.Need-same-length
-same-length c = search needs
-
--- src/main.rt:42:1
 returns : tie.Need-returns
-returns c = search needs
+returns c = c .before .before .before .before .before .before .line-text .ensures .holds
 
 pub reply-spec : {M : Type 1} → statement M
 reply-spec =
     tie.close
-    (tie.spec
-    slice-aggregate-line-text
-    line-text-requires
-    array-share-prefix-out
-    slice-aggregate-write
-    slice-reshare-prefix-write
-    slice-aggregate-write-2
-    write-requires
-    same-length
-    returns)
+    (tie.spec (λ c. search needs) (λ c κs. search needs) (λ c. search needs) slice-aggregate-write (λ c. search needs) slice-aggregate-write-2
+    write-requires (λ c. search needs) returns)

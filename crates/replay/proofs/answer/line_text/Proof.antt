@@ -1,73 +1,26 @@
+-- `replay::answer::line_text` meets its contract: the call is made on the buffer that the line leaves it, and the rest of the array stays.
+use mathlib.Core.Path.{_≡_}
+use native.Mathlib.Omega.{arith}
+use lib.ListN.{length, take}
+use lib.Seq.{take-at}
 use borrow.Author.Needs.{needs}
+use Rattle.replay.proofs.Printed.{line-answered}
 use Rattle.replay.proofs.answer.line_text.Statement.{statement}
 use Rattle.replay.proofs.answer.line_text.Tie as tie
-use Rattle.replay.proofs.answer.line_text.Reads as reads
-use Rattle.replay.proofs.answer.line_text.Lts as lts
-use Rattle.replay.proofs.answer.put_reply.Reads as put-reply-reads
-use Rattle.trace.proofs.buffer.altered.Reads as altered-reads
-use Rattle.trace.proofs.call.call.Reads as call-reads
 
--- src/answer.rt:42:9
-altered-requires : tie.Need-altered-requires
-altered-requires c κs = search needs
-
--- src/answer.rt:43:35
-sub-call : tie.Need-sub-call
-sub-call c = search needs
-
--- src/answer.rt:43:35
-part-call-start : tie.Need-part-call-start
-part-call-start c = search needs
-
--- src/answer.rt:43:35
-part-call-end : tie.Need-part-call-end
-part-call-end c = search needs
-
--- src/answer.rt:43:9
-call-requires : tie.Need-call-requires
-call-requires c κs = search needs
-
--- src/answer.rt:44:37
-sub-put-reply : tie.Need-sub-put-reply
-sub-put-reply c = search needs
-
--- src/answer.rt:44:37
-part-put-reply-start : tie.Need-part-put-reply-start
-part-put-reply-start c = search needs
-
--- src/answer.rt:44:37
-part-put-reply-end : tie.Need-part-put-reply-end
-part-put-reply-end c = search needs
-
--- src/answer.rt:44:9
-put-reply-requires : tie.Need-put-reply-requires
-put-reply-requires c κs = search needs
-
--- src/answer.rt:38:1
-same-length : tie.Need-same-length
-same-length c = search needs
-
--- src/answer.rt:38:1
-same-length-2 : tie.Need-same-length-2
-same-length-2 c = search needs
-
--- src/answer.rt:38:1
 returns : tie.Need-returns
-returns c = ?
+returns c =
+    let put = c .before .before .put-reply .ensures in
+    let done = c .before .before .before .before .before .before .before .before in
+    let changed = done .before .before .before .before in
+    let a = changed .before .before .before .before .args in
+    let n = changed .altered .result in
+    let long : length (done .call .last .0) ≡ n = search needs in
+    line-answered (a .kind) (take (a .used) (a .words .now)) (changed .altered .ensures) (done .call .ensures .0) (done .call .ensures .1)
+        (search needs) (take-at (done .call .last .0) _ n long) (put .0) (omega (arith, put .1))
 
 pub line-text-spec : {M : Type 1} → statement M
 line-text-spec =
     tie.close
-    (tie.spec
-    altered-requires
-    sub-call
-    part-call-start
-    part-call-end
-    call-requires
-    sub-put-reply
-    part-put-reply-start
-    part-put-reply-end
-    put-reply-requires
-    same-length
-    same-length-2
-    returns)
+    (tie.spec (λ c κs. search needs) (λ c. search needs) (λ c. search needs) (λ c. search needs) (λ c κs. search needs) (λ c. search needs)
+    (λ c. search needs) (λ c. search needs) (λ c κs. search needs) (λ c. search needs) (λ c. search needs) returns)

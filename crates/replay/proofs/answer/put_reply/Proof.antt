@@ -1,52 +1,16 @@
+-- `replay::answer::put_reply` meets its contract: what is put is read off by the kind of the reply.
 use borrow.Author.Needs.{needs}
 use Rattle.replay.proofs.answer.put_reply.Statement.{statement}
 use Rattle.replay.proofs.answer.put_reply.Tie as tie
-use Rattle.replay.proofs.answer.put_reply.Reads as reads
-use Rattle.replay.proofs.answer.put_reply.Lts as lts
-use Rattle.replay.proofs.answer.put_no_call.Reads as put-no-call-reads
-use Rattle.report.proofs.put_checked.Reads as put-checked-reads
 
--- src/answer.rt:32:21
-enum-known-reply : tie.Need-enum-known-reply
-enum-known-reply c = search needs
-
--- src/answer.rt:32:27
-put-checked-requires : tie.Need-put-checked-requires
-put-checked-requires c κs = search needs
-
--- src/answer.rt:32:27
-same-length : tie.Need-same-length
-same-length c = search needs
-
--- src/answer.rt:32:27
 returns : tie.Need-returns
-returns c = ?
+returns c = rw (c .before .before .before .before .before .reply .given .1) (c .before .before .put-checked .ensures)
 
--- src/answer.rt:33:45
-enum-told : tie.Need-enum-told
-enum-told c = search needs
-
--- src/answer.rt:33:26
-put-no-call-requires : tie.Need-put-no-call-requires
-put-no-call-requires c κs = search needs
-
--- src/answer.rt:33:26
-same-length-2 : tie.Need-same-length-2
-same-length-2 c = search needs
-
--- src/answer.rt:33:26
 returns-2 : tie.Need-returns-2
-returns-2 c = ?
+returns-2 c = rw (c .before .before .before .before .enum-told .given .1) (c .before .before .put-no-call .ensures)
 
 pub put-reply-spec : {M : Type 1} → statement M
 put-reply-spec =
     tie.close
-    (tie.spec
-    enum-known-reply
-    put-checked-requires
-    same-length
-    returns
-    enum-told
-    put-no-call-requires
-    same-length-2
+    (tie.spec (λ c. search needs) (λ c κs. search needs) (λ c. search needs) returns (λ c. search needs) (λ c κs. search needs) (λ c. search needs)
     returns-2)
