@@ -3,18 +3,16 @@
 use mathlib.Core.Path.{_≡_, refl, sym, _∙_, ap}
 use mathlib.Core.Bool.{Bool, true, false, not}
 use mathlib.Core.List.{List, [], _∷_, _++_, append-nil}
-use Prim.Native.Nat.{ℕ, _+_, _-_, _<_}
-use native.Mathlib.Nat.{sub-zero}
+use Prim.Native.Nat.{ℕ, _+_, _<_}
 use native.Mathlib.Numerals.{add-one}
 use native.Mathlib.Omega.{arith}
 use lib.ListN.{length, getD, take, replicate, length-replicate}
 use lib.Seq.{take-suc}
-use Rattle.text.specs.Lines.{mostBytes, Handed, line, tooLong}
+use Rattle.text.specs.Lines.{mostBytes, Handed}
 use Rattle.text.specs.Feeding.{handedBy, handedAtEnd, begunAfterPart, handedByPart, begunIn, toldIn, Ready, Stepped, FeedEnded}
 use Rattle.text.specs.declared.feed.Feed.{Feed}
 use Rattle.text.specs.declared.feed.Fed.{Fed}
 use Rattle.text.specs.declared.feed.Told.{Told}
-use Rattle.text.specs.declared.feed.Told.the-variants.{NoLine, Line, LongLine}
 use Rattle.text.proofs.Feeding.{begun-append, handed-append}
 use Rattle.meaning.specs.Refusals.{Outcome, Meets, accepted}
 use Rattle.meaning.specs.Picture.{picture}
@@ -23,7 +21,8 @@ use Rattle.meaning.specs.declared.Answer.{Answer}
 use Rattle.meaning.proofs.Computing.{computing}
 use Rattle.meaning.proofs.Outcomes.{set-up-outcome}
 use Rattle.order_step.specs.Step.{lineOutcome}
-use Rattle.order.specs.Input.{wordsAfter, BytesTaken}
+use Rattle.order_step.specs.Printed.{wordsAfter}
+use Rattle.order.specs.Input.{BytesTaken}
 
 -- The program's numbers are in range and its array has the length for them.
 numbers-accepted : (ws : List ℕ) → length ws ≡ 11277 → setUpOut 8 1048575 512 ws ≡ accepted 0 0 0 (picture (fresh 8 1048575 512))
@@ -34,24 +33,6 @@ pub set-up-fresh :
     {after : List ℕ} {r : Answer} → Meets (setUpOut 8 1048575 512 (replicate 11277 0)) r after → after ≡ picture (fresh 8 1048575 512)
 set-up-fresh met =
     met .left ∙ ap (λ (o : Outcome (List ℕ)). o .left) (numbers-accepted (replicate 11277 0) (length-replicate {A = ℕ} 11277 0))
-
--- One line: what was told of, by its case.
-module _ (buffer ws : List ℕ) {ended : Told} where
-  pub no-line-words : ended ≡ NoLine → ws ≡ wordsAfter (toldIn buffer ended) ws
-  unfolding toldIn wordsAfter
-  no-line-words e = rw e refl
-
-  module _ {r : Answer} {after : List ℕ} where
-    -- the bytes from 0 to n, as the code lends them
-    pub line-words :
-        {n : ℕ} → ended ≡ Line n → Meets (lineOutcome (line (take (n - 0) buffer)) ws) r after →
-        after ≡ wordsAfter (toldIn buffer ended) ws
-    unfolding toldIn wordsAfter
-    line-words {n} e met = rw (e, ← sub-zero n) (met .left)
-
-    pub long-line-words : ended ≡ LongLine → Meets (lineOutcome tooLong ws) r after → after ≡ wordsAfter (toldIn buffer ended) ws
-    unfolding toldIn wordsAfter
-    long-line-words e met = rw e (met .left)
 
 -- The end of the input: what the feed tells of is what the end hands on.
 pub end-words :

@@ -7,13 +7,14 @@ use lib.ListN.{length, take}
 use Rattle.text.specs.Lines.{Handed}
 use Rattle.text.specs.Feeding.{begunAfterPart, handedByPart, begunIn, Ready}
 use Rattle.text.specs.declared.feed.Feed.{Feed}
-use Rattle.order_step.specs.Step.{lineOutcome}
+use Rattle.order_step.specs.Printed.{wordsAfter, linesText}
 use Rattle.order.specs.declared.State.{State}
 
--- the words after some lines, from the words before
-unfoldable pub wordsAfter : List Handed → List ℕ → List ℕ
-wordsAfter [] ws = ws
-wordsAfter (h ∷ hs) ws = wordsAfter hs (lineOutcome h ws .left)
+-- Bytes are what is printed for these lines, which took the list from some words to the words afterwards.
+pub record TextOf (bytes : List ℕ) (hs : List Handed) (after : List ℕ) : Type 0 where
+  pub before : List ℕ
+  pub left : after ≡ wordsAfter hs before
+  pub is : bytes ≡ linesText hs before
 
 -- Bytes of the input were taken, from a line begun and the words before: every line that they hand on was asked of the list, in order,
 -- and what follows the last of these lines is the line begun.

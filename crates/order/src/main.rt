@@ -12,8 +12,6 @@
 // what was answered until then has been written, and a line begun at a read that fails is not answered.
 //
 // The file stdout has the answers of the separate ordered set: compare/ordered_set/target/release/ordered_set order < stdin > stdout
-mod answer; // answer.rt: the line printed
-
 ghost use mathlib.Core.Path.{_≡_};
 ghost use mathlib.Core.List.{[], _∷_};
 ghost use lib.ListN.{length};
@@ -21,7 +19,8 @@ ghost use Rattle.text.specs.Lines.{mostBytes};
 ghost use Rattle.text.specs.Feeding.{handedAtEnd, begunIn, toldIn, Ready, LineIn};
 ghost use Rattle.meaning.specs.Picture.{picture};
 ghost use Rattle.meaning.specs.Operations.{fresh};
-ghost use Rattle.order.specs.Input.{wordsAfter, BytesTaken, PartTaken};
+ghost use Rattle.order_step.specs.Printed.{wordsAfter};
+ghost use Rattle.order.specs.Input.{TextOf, BytesTaken, PartTaken};
 use text::feed::Feed;
 use text::feed::Told;
 
@@ -47,16 +46,22 @@ pub enum End {
     NotWritten,
 }
 
+// Writes what is printed for the line that ended, by one write, and nothing if none did; whether it was written whole. It takes the line and
+// the words that it left so that its contract can say whose text it is.
+fn write(text: &[u8], line: &[u8], ended: Told, words: &[u32]) -> bool
+    requires { ⌜ TextOf (now text) (toldIn (now line) ended) (now words) ⌝ }
+{
+    io::write_all(1, text)
+}
+
 // Answers the line that ended, if one did; whether the answer was written.
 fn take_line(words: &mut [u32], line: &[u8], ended: Told) -> bool
     requires { ⌜ LineIn (now line) ended ⌝ }
     ensures { λ r. ⌜ now (words .exit) ≡ wordsAfter (toldIn (now (line .entry)) ended) (now (words .entry)) ⌝ }
 {
-    match ended {
-        Told::NoLine => return true,
-        Told::Line(n) => return answer::print(order_step::step(words, &line[0..n])),
-        Told::LongLine => return answer::print(order_step::long_line(words)),
-    }
+    let mut out = [0u8; report::ANSWER_BYTES];
+    let n = order_step::line_text(words, line, ended, &mut out);
+    write(&out[..n], line, ended, words)
 }
 
 // One byte of the input: the feed keeps it, or the line that it ends is answered.

@@ -1,2 +1,3 @@
--- One line of the order program.
+-- One line of the order program, and what is printed for it.
 pub mod Step
+pub mod Printed

@@ -1,14 +1,20 @@
 // One line of the order program on the list's words: 10 for a line that is not readable, before the list is called; else the call that
-// the line asks for.
+// the line asks for. And the bytes that are printed for it.
 ghost use mathlib.Core.Path.{_≡_};
+ghost use Prim.Native.Nat.{_≤_};
+ghost use lib.ListN.{length};
 ghost use Rattle.text.specs.Lines.{line, tooLong};
+ghost use Rattle.text.specs.Feeding.{toldIn, LineIn};
 ghost use Rattle.meaning.specs.Refusals.{Meets};
 ghost use Rattle.lines.specs.Grammar.{KindInRange};
+ghost use Rattle.report.specs.Report.{answerBytes};
 ghost use Rattle.order_step.specs.Step.{callOf, lineOutcome};
+ghost use Rattle.order_step.specs.Printed.{LinesAnswered};
 use lines::Kind;
 use lines::Parsed;
 use meaning::Answer;
 use meaning::Call;
+use text::feed::Told;
 
 // The call that a kind of line asks for.
 fn call_of(kind: Kind) -> Call
@@ -40,4 +46,16 @@ pub fn step(list: &mut [u32], bytes: &[u8]) -> Answer
     };
     let kind = l.kind;
     mdlist::make(list, call_of(kind))
+}
+
+// Answers the line that is told of, if one is: puts the bytes that are printed for it into `out`, from the first on; how many they are.
+pub fn line_text(list: &mut [u32], line: &[u8], told: Told, out: &mut [u8]) -> usize
+    requires { ⌜ LineIn (now line) told × (answerBytes ≤ length (now out)) ⌝ }
+    ensures { λ r. ⌜ LinesAnswered (toldIn (now (line .entry)) told) (now (list .entry)) (now (list .exit)) (now (out .exit)) r ⌝ }
+{
+    match told {
+        Told::NoLine => return 0,
+        Told::Line(n) => return report::put_answer(out, 0, step(list, &line[0..n]), b'\n'),
+        Told::LongLine => return report::put_answer(out, 0, long_line(list), b'\n'),
+    }
 }

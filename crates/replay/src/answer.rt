@@ -1,36 +1,53 @@
-// The line that is printed for a line.
+// What a line of a trace does, and the line that is printed for it.
 ghost use mathlib.Core.Path.{_≡_};
 ghost use Prim.Native.Nat.{_≤_};
-ghost use lib.ListN.{length};
-ghost use Rattle.report.specs.Report.{answerBytes, Put};
-ghost use Rattle.replay.specs.Printed.{replyText, lineText};
+ghost use lib.ListN.{length, take};
+ghost use Rattle.report.specs.Report.{checkedBytes, Put};
+ghost use Rattle.trace.specs.Trace.{mostWords, lengthIn, Held};
+ghost use Rattle.replay.specs.Printed.{noCallText, replyText, LineAnswered, TextOf};
+use trace::Kind;
 use trace::call::Reply;
 
-// The room for an answer and the checksum, with a byte after it.
-const MOST_BYTES: usize = report::ANSWER_BYTES + report::FIELD_BYTES;
+// After a line: how many of the words are the buffer's, and how many bytes are printed.
+pub struct Answered {
+    pub used: usize,
+    pub text: usize,
+}
 
-// Puts what is printed before the checksum; the index after it.
-fn put_reply(out: &mut [u8], reply: Reply) -> usize
-    requires { ⌜ answerBytes ≤ length (now out) ⌝ }
-    ensures { λ r. ⌜ Put (now (out .entry)) 0 (replyText reply) (now (out .exit)) r × (r ≤ answerBytes) ⌝ }
+// Puts `- - - -` in the place of four numbers, and the checksum of a buffer.
+fn put_no_call(out: &mut [u8], list: &[u32]) -> usize
+    requires { ⌜ checkedBytes ≤ length (now out) ⌝ }
+    ensures { λ r. ⌜ Put (now (out .entry)) 0 (noCallText (now (list .entry))) (now (out .exit)) r × (r ≤ checkedBytes) ⌝ }
+{
+    let at = report::put(out, 0, b"- - - - ");
+    report::put_checksum(out, at, list)
+}
+
+// Puts the line that is printed for a reply and the buffer afterwards; the index after it.
+fn put_reply(out: &mut [u8], reply: Reply, list: &[u32]) -> usize
+    requires { ⌜ checkedBytes ≤ length (now out) ⌝ }
+    ensures { λ r. ⌜ Put (now (out .entry)) 0 (replyText reply (now (list .entry))) (now (out .exit)) r × (r ≤ checkedBytes) ⌝ }
 {
     match reply {
-        Reply::Four(a) => return report::put_answer(out, 0, a, b' '),
-        Reply::NoCall => return report::put(out, 0, b"- - - - "),
+        Reply::Four(a) => return report::put_checked(out, a, list),
+        Reply::NoCall => return put_no_call(out, list),
     }
 }
 
-// Writes a line, by one write. It takes the reply and the buffer afterwards so that its contract can say whose line it is.
-fn write(line: &[u8], reply: Reply, list: &[u32])
-    requires { ⌜ now line ≡ lineText reply (now list) ⌝ }
+// Does what a line says, and puts the bytes that are printed for it into `out`, from the first on.
+pub fn line_text(words: &mut [u32], used: usize, kind: Kind, out: &mut [u8]) -> Answered
+    requires { ⌜ (Held (now words) used × (lengthIn kind ≤ mostWords)) × (checkedBytes ≤ length (now out)) ⌝ }
+    ensures { λ r. ⌜ LineAnswered kind (take used (now (words .entry))) (now (words .exit)) (now (out .exit)) r ⌝ }
 {
-    io::write_all(1, line);
+    let n = trace::buffer::altered(words, used, kind);
+    let reply = trace::call::call(&mut words[0..n], kind);
+    let end = put_reply(out, reply, &words[0..n]);
+    Answered { used: n, text: end }
 }
 
-// Prints a reply and the checksum of the buffer afterwards.
-pub fn print(reply: Reply, list: &[u32]) {
-    let mut out = [0u8; MOST_BYTES];
-    let at = put_reply(&mut out, reply);
-    let end = report::put_number(&mut out, at, report::checksum(list), b'\n');
-    write(&out[0..end], reply, list);
+// Writes a line, by one write. It takes what the line says and the buffer afterwards so that its contract can say whose line it is.
+pub fn write(text: &[u8], kind: Kind, list: &[u32])
+    requires { ⌜ TextOf (now text) kind (now list) ⌝ }
+{
+    io::write_all(1, text);
 }

@@ -18,16 +18,16 @@
 // for each word in order h becomes (h x 1,000,003 + word) mod 2,147,483,647.
 //
 // The file stdout has the answers of the separate ordered set: compare/ordered_set/target/release/ordered_set replay < stdin > stdout
-mod answer; // answer.rt: the line printed
+mod answer; // answer.rt: what a line does, and the line printed
 
 ghost use mathlib.Core.Path.{_≡_};
 ghost use Prim.Native.Nat.{_≤_};
 ghost use lib.ListN.{length, take};
 ghost use Rattle.text.specs.Lines.{mostBytes};
 ghost use Rattle.text.specs.Feeding.{LineIn};
-ghost use Rattle.trace.specs.Trace.{mostWords, lengthIn, Held, Holds, bufferAfter};
-ghost use Rattle.trace.specs.Calling.{afterCall};
+ghost use Rattle.trace.specs.Trace.{mostWords, lengthIn, Held, Holds};
 ghost use Rattle.replay.specs.Kept.{Kept};
+ghost use Rattle.replay.specs.Printed.{leftBy};
 use text::feed::Feed;
 use text::feed::Told;
 use trace::Kind;
@@ -41,11 +41,13 @@ pub struct State {
 // Does what a line says and prints its answer; the buffer's length afterwards.
 fn reply(words: &mut [u32], used: usize, kind: Kind) -> usize
     requires { ⌜ Held (now words) used × (lengthIn kind ≤ mostWords) ⌝ }
-    ensures { λ r. ⌜ Holds (now (words .exit)) r (afterCall kind (bufferAfter kind (take used (now (words .entry))))) ⌝ }
+    ensures { λ r. ⌜ Holds (now (words .exit)) r (leftBy kind (take used (now (words .entry)))) ⌝ }
 {
-    let n = trace::buffer::altered(words, used, kind);
-    let answered = trace::call::call(&mut words[0..n], kind);
-    answer::print(answered, &words[0..n]);
+    let mut out = [0u8; report::CHECKED_BYTES];
+    let done = answer::line_text(words, used, kind, &mut out);
+    let n = done.used;
+    let end = done.text;
+    answer::write(&out[..end], kind, &words[..n]);
     n
 }
 

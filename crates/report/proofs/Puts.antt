@@ -1,7 +1,7 @@
 -- Bytes put after others: what is put twice, each time at the index after the last, is put at once.
 use mathlib.Core.Path.{_≡_, refl, sym, _∙_, ap, ap₂, subst}
 use mathlib.Core.List.{List, [], _∷_, _++_}
-use Prim.Native.Nat.{ℕ, suc, _+_, _-_, _≤_, _<_}
+use Prim.Native.Nat.{ℕ, suc, _+_, _≤_, _<_}
 use native.Mathlib.Numerals.{add-one}
 use native.Mathlib.Omega.{arith}
 use lib.ListN.{length, getD, set, take, drop, length-append}
@@ -49,9 +49,12 @@ pub put-all :
     Put before at bytes after r
 put-all {before} {after} {at} {r} bytes i p h = subst (λ l. Put before at l after r) (take-all i bytes h) p
 
--- What is put at the start of an array, lent as its part from 0 to the index after it.
-pub put-lent :
-    {before after : List ℕ} {r : ℕ} (bytes : List ℕ) → Put before 0 bytes after r → r ≤ length before → take (r - 0) after ≡ bytes
-put-lent {before} {r = r} bytes p h =
-    let long : length bytes ≡ r - 0 = omega (arith, p .end) in
-    ap (take (r - 0)) (p .is ∙ sets-eq bytes before 0 (omega (arith, long))) ∙ take-at bytes (drop (0 + length bytes) before) (r - 0) long
+-- What is put at the start of an array is its first bytes, up to the index after it.
+pub put-start :
+    {before after : List ℕ} {r : ℕ} {bytes : List ℕ} → Put before 0 bytes after r → r ≤ length before → (take r after ≡ bytes) × (r ≤ length after)
+put-start {before} {r = r} {bytes} p h =
+    let long : length bytes ≡ r = omega (arith, p .end) in
+    (
+      ap (take r) (p .is ∙ sets-eq bytes before 0 (omega (arith, long))) ∙ take-at bytes (drop (0 + length bytes) before) r long,
+      omega (arith, h, put-length p),
+    )

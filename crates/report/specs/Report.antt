@@ -8,6 +8,7 @@ use lib.ListN.{length}
 use lib.Seq.{sets}
 use Rattle.meaning.specs.declared.Answer.{Answer}
 use Rattle.text.specs.Fields.{space}
+use Rattle.text.specs.Lines.{lineFeed}
 
 -- the most digits of a number of 64 bits
 abbrev pub mostDigits : ℕ
@@ -35,6 +36,10 @@ fieldBytes = mostDigits + 1
 abbrev pub answerBytes : ℕ
 answerBytes = 4 * fieldBytes
 
+-- the room for an answer and a checksum
+abbrev pub checkedBytes : ℕ
+checkedBytes = answerBytes + fieldBytes
+
 -- Bytes have been put at `at`, and every other byte is as it was: r is the index after them.
 pub record Put (before : List ℕ) (at : ℕ) (bytes after : List ℕ) (r : ℕ) : Type 0 where
   pub is : after ≡ sets before at bytes
@@ -48,3 +53,11 @@ checksumFrom h (w ∷ ws) = checksumFrom ((h * 1000003 + w) % 2147483647) ws
 -- .. and h starts at the number of words
 abbrev pub checksumOf : List ℕ → ℕ
 checksumOf ws = checksumFrom (length ws) ws
+
+-- the end of a line that tells of a buffer's words: their checksum and a line feed
+unfoldable pub checksumText : List ℕ → List ℕ
+checksumText ws = decimal (checksumOf ws) ++ (lineFeed ∷ [])
+
+-- a line that tells of a call: its answer, and the checksum of the words that it leaves
+unfoldable pub checkedText : Answer → List ℕ → List ℕ
+checkedText a ws = answerText a space ++ checksumText ws

@@ -4,7 +4,8 @@ ghost use mathlib.Core.Path.{_≡_};
 ghost use mathlib.Core.List.{[], _∷_, _++_};
 ghost use Prim.Native.Nat.{_+_, _≤_};
 ghost use lib.ListN.{length};
-ghost use Rattle.report.specs.Report.{decimal, answerText, fieldBytes, answerBytes, Put, checksumOf};
+ghost use Rattle.report.specs.Report.{decimal, answerText, fieldBytes, answerBytes, checkedBytes, Put, checksumOf};
+ghost use Rattle.report.specs.Report.{checksumText, checkedText};
 use meaning::Answer;
 
 // The digits of a number of 64 bits, at most.
@@ -15,6 +16,9 @@ pub const FIELD_BYTES: usize = MOST_DIGITS + 1;
 
 // The room for an answer's four numbers, each with a byte after it.
 pub const ANSWER_BYTES: usize = 4 * FIELD_BYTES;
+
+// The room for an answer and a checksum.
+pub const CHECKED_BYTES: usize = ANSWER_BYTES + FIELD_BYTES;
 
 const FACTOR: u64 = 1000003;
 
@@ -68,4 +72,21 @@ pub fn checksum(part: &[u32]) -> u64
         i += 1;
     }
     h
+}
+
+// Puts the checksum of a buffer's words, and a line feed.
+pub fn put_checksum(out: &mut [u8], at: usize, part: &[u32]) -> usize
+    requires { ⌜ at + fieldBytes ≤ length (now out) ⌝ }
+    ensures { λ r. ⌜ Put (now (out .entry)) at (checksumText (now (part .entry))) (now (out .exit)) r × (r ≤ at + fieldBytes) ⌝ }
+{
+    put_number(out, at, checksum(part), b'\n')
+}
+
+// Puts an answer, a space, and the checksum of the words that it leaves, as a line.
+pub fn put_checked(out: &mut [u8], a: Answer, part: &[u32]) -> usize
+    requires { ⌜ checkedBytes ≤ length (now out) ⌝ }
+    ensures { λ r. ⌜ Put (now (out .entry)) 0 (checkedText a (now (part .entry))) (now (out .exit)) r × (r ≤ checkedBytes) ⌝ }
+{
+    let at = put_answer(out, 0, a, b' ');
+    put_checksum(out, at, part)
 }

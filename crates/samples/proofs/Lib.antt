@@ -1,2 +1,3 @@
--- The samples, computed.
+-- The samples, computed, and what the functions rest on.
 pub mod Samples
+pub mod Printed

@@ -4,8 +4,10 @@
 // The file stdout has the answers of the separate ordered set to the same rows. In the crate's folder:
 //     sed -n 's/^    \[\(.*\)\],$/U \1/p' src/main.rt | tr -d , | ../../compare/ordered_set/target/release/ordered_set replay > stdout
 ghost use mathlib.Core.Path.{_≡_};
-ghost use Rattle.samples.specs.Printed.{lineText};
-use meaning::Answer;
+ghost use Prim.Native.Nat.{_≤_};
+ghost use lib.ListN.{length, take};
+ghost use Rattle.report.specs.Report.{checkedBytes};
+ghost use Rattle.samples.specs.Printed.{edgeText, rowText};
 
 const MOST_WORDS: usize = 155670;
 
@@ -50,34 +52,30 @@ const EDGES: [[u32; 4]; 28] = [
 // A word that no fresh list has, so that a word left as it was shows.
 const LEFT: u32 = 2779096485;
 
-// The room for an answer and the checksum, with a byte after it.
-const MOST_BYTES: usize = report::ANSWER_BYTES + report::FIELD_BYTES;
-
-// Writes a line, by one write. It takes the answer and the words afterwards so that its contract can say whose line it is.
-fn write(line: &[u8], a: Answer, part: &[u32])
-    requires { ⌜ now line ≡ lineText a (now part) ⌝ }
+// Writes a row's line, by one write. It takes the row so that its contract can say whose line it is.
+fn write(text: &[u8], row: [u32; 4])
+    requires { ⌜ now text ≡ rowText row ⌝ }
 {
-    io::write_all(1, line);
+    io::write_all(1, text);
 }
 
-fn print(a: Answer, part: &[u32]) {
-    let mut out = [0u8; MOST_BYTES];
-    let at = report::put_answer(&mut out, 0, a, b' ');
-    let end = report::put_number(&mut out, at, report::checksum(part), b'\n');
-    write(&out[0..end], a, part);
-}
-
-fn edge(part: &mut [u32], d: u32, k: u32, c: u32) {
+// Calls set up on words that are all LEFT, and puts the line that is printed for it into `out`, from the first byte on; how many bytes.
+fn edge_text(part: &mut [u32], d: u32, k: u32, c: u32, out: &mut [u8]) -> usize
+    requires { ⌜ checkedBytes ≤ length (now out) ⌝ }
+    ensures { λ r. ⌜ (take r (now (out .exit)) ≡ edgeText d k c (length (now (part .entry)))) × (r ≤ length (now (out .exit))) ⌝ }
+{
     lists::fill(part, LEFT);
     let a = mdlist::mdlist_set_up(d, k, c, part);
-    print(a, part);
+    report::put_checked(out, a, part)
 }
 
-// Lends the first of the words, as many as are asked for.
-fn edge_in(words: &mut [u32], d: u32, k: u32, c: u32, length: u32) {
-    let n = length as usize;
+// Lends the first of the words, as many as the row asks for.
+fn edge(words: &mut [u32], row: [u32; 4]) {
+    let n = row[3] as usize;
     if n <= words.len() {
-        edge(&mut words[0..n], d, k, c);
+        let mut out = [0u8; report::CHECKED_BYTES];
+        let end = edge_text(&mut words[0..n], row[0], row[1], row[2], &mut out);
+        write(&out[..end], row);
     }
 }
 
@@ -85,8 +83,7 @@ fn main() {
     let mut words = [0u32; MOST_WORDS];
     let mut i = 0;
     while i < EDGES.len() {
-        let e = EDGES[i];
-        edge_in(&mut words, e[0], e[1], e[2], e[3]);
+        edge(&mut words, EDGES[i]);
         i += 1;
     }
 }

@@ -1,27 +1,34 @@
--- `replay::reply` meets its contract: the call is made on the buffer that the line leaves, and the rest of the array stays.
-use mathlib.Core.Path.{_≡_, ap, _∙_}
-use Prim.Native.Nat.{_-_}
+-- `replay::reply` meets its contract: the bytes written are those that `line_text` puts, on the buffer before it.
+use mathlib.Core.Path.{sym}
 use native.Mathlib.Omega.{arith}
-use lib.ListN.{length, take}
-use lib.Seq.{take-at}
+use lib.ListN.{take}
+use lib.Seq.{length-take-le}
 use borrow.Author.Needs.{needs}
-use Rattle.trace.specs.Calling.{afterCall}
 use Rattle.replay.proofs.reply.Statement.{statement}
 use Rattle.replay.proofs.reply.Tie as tie
 
+slice-aggregate-write : tie.Need-slice-aggregate-write
+slice-aggregate-write c =
+    let done = c .before .before .before .before .line-text in
+    sym (length-take-le (done .result .text) _ (done .ensures .within))
+
+slice-aggregate-write-2 : tie.Need-slice-aggregate-write-2
+slice-aggregate-write-2 c =
+    let done = c .before .before .before .before .before .line-text in
+    let held = done .ensures .holds .held in
+    sym (length-take-le (done .result .used) _ (omega (arith, held .room, held .within)))
+
+write-requires : tie.Need-write-requires
+write-requires c κs =
+    let done = c .before .before .before .before .before .line-text .ensures in
+    let a = c .before .before .before .before .before .before .before .before .before .args in
+    record { before = take (a .used) (a .words .now); left = done .holds .is; is = done .is }
+
 returns : tie.Need-returns
-returns c =
-    let done = c .before .before .before .before .before .call in
-    let before = c .before .before .before .before .before .before .before .before .before .altered in
-    let kind = c .before .before .before .before .before .before .before .before .before .before .before .before .args .kind in
-    let n = before .result in
-    let zero : n - 0 ≡ n = omega arith in
-    let buffer = ap (λ m. take m (before .last .0)) zero ∙ before .ensures .is in
-    let long : length (done .last .0) ≡ n = search needs in
-    record { held = search needs; is = take-at (done .last .0) _ n long ∙ done .ensures .1 ∙ ap (afterCall kind) buffer }
+returns c = c .before .before .before .before .before .before .line-text .ensures .holds
 
 pub reply-spec : {M : Type 1} → statement M
 reply-spec =
     tie.close
-    (tie.spec (λ c κs. search needs) (λ c. search needs) (λ c. search needs) (λ c. search needs) (λ c κs. search needs) (λ c. search needs)
-    (λ c. search needs) (λ c. search needs) (λ c κs. search needs) (λ c. search needs) returns)
+    (tie.spec (λ c. search needs) (λ c κs. search needs) (λ c. search needs) slice-aggregate-write (λ c. search needs) slice-aggregate-write-2
+    write-requires (λ c. search needs) returns)

@@ -1,0 +1,2 @@
+-- What the functions of the replay rest on.
+pub mod Printed
