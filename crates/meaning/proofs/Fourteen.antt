@@ -1,7 +1,7 @@
 -- The fourteen steps, proved of the definitions by computing them.
 use mathlib.Core.Path.{_≡_, refl}
 use mathlib.Core.List.{map}
-use Rattle.meaning.specs.Fourteen.{table, expected, ran, freshWords, BaseOfSteps, BaseOfOrder}
+use Rattle.meaning.specs.Fourteen.{table, expected, ran, freshWords, BaseOfSteps}
 use Rattle.meaning.proofs.Computing.{computing}
 
 pub fourteen : ran table freshWords ≡ map expected table
@@ -11,7 +11,3 @@ fourteen = refl
 pub base-of-steps-is-4 : BaseOfSteps
 unfolding computing
 base-of-steps-is-4 = refl
-
-pub base-of-order-is-6 : BaseOfOrder
-unfolding computing
-base-of-order-is-6 = refl

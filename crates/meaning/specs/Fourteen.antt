@@ -95,9 +95,6 @@ ran (l ∷ lines) ws =
 unfoldable pub freshWords : List ℕ
 freshWords = outcome (SetUp 2 15 8) (replicate (lengthOf 2 8) 0) .left
 
--- the base of the list of these steps, and of the order program's (docs/REFERENCE.md, *Numbers 3* and *The order program 1*)
+-- the base of the list of these steps: Numbers 3
 abbrev pub BaseOfSteps : Type 0
 BaseOfSteps = baseOf 2 15 ≡ 4
-
-abbrev pub BaseOfOrder : Type 0
-BaseOfOrder = baseOf 8 1048575 ≡ 6

@@ -15,24 +15,28 @@ use Rattle.text.specs.declared.feed.Fed.{Fed}
 use Rattle.text.specs.declared.feed.Told.{Told}
 use Rattle.text.proofs.Feeding.{begun-append, handed-append}
 use Rattle.meaning.specs.Refusals.{Outcome, Meets, accepted}
-use Rattle.meaning.specs.Picture.{picture}
-use Rattle.meaning.specs.Operations.{fresh, setUpOut}
+use Rattle.meaning.specs.Operations.{setUpOut}
 use Rattle.meaning.specs.declared.Answer.{Answer}
 use Rattle.meaning.proofs.Computing.{computing}
 use Rattle.meaning.proofs.Outcomes.{set-up-outcome}
 use Rattle.order_step.specs.Step.{lineOutcome}
 use Rattle.order_step.specs.Printed.{wordsAfter}
-use Rattle.order.specs.Input.{BytesTaken}
+use Rattle.order.specs.Input.{BytesTaken, listDimensions, listLargest, listCells, listWords, freshWords, BaseOfOrder}
 
 -- The program's numbers are in range and its array has the length for them.
-numbers-accepted : (ws : List ℕ) → length ws ≡ 11277 → setUpOut 8 1048575 512 ws ≡ accepted 0 0 0 (picture (fresh 8 1048575 512))
+numbers-accepted :
+    (ws : List ℕ) → length ws ≡ listWords → setUpOut listDimensions listLargest listCells ws ≡ accepted 0 0 0 freshWords
 unfolding computing
-numbers-accepted ws long = set-up-outcome 8 1048575 512 ws refl long
+numbers-accepted ws long = set-up-outcome listDimensions listLargest listCells ws refl long
+
+pub base-of-order-is-6 : BaseOfOrder
+unfolding computing
+base-of-order-is-6 = refl
 
 pub set-up-fresh :
-    {after : List ℕ} {r : Answer} → Meets (setUpOut 8 1048575 512 (replicate 11277 0)) r after → after ≡ picture (fresh 8 1048575 512)
+    {after : List ℕ} {r : Answer} → Meets (setUpOut listDimensions listLargest listCells (replicate listWords 0)) r after → after ≡ freshWords
 set-up-fresh met =
-    met .left ∙ ap (λ (o : Outcome (List ℕ)). o .left) (numbers-accepted (replicate 11277 0) (length-replicate {A = ℕ} 11277 0))
+    met .left ∙ ap (λ (o : Outcome (List ℕ)). o .left) (numbers-accepted (replicate listWords 0) (length-replicate {A = ℕ} listWords 0))
 
 -- The end of the input: what the feed tells of is what the end hands on.
 pub end-words :

@@ -1,5 +1,5 @@
-// The order program: reads lines from standard input, asks the list what each line says, and prints one line for each. Document 01, "Entries
-// and the order program".
+// The order program: reads lines from standard input, asks the list what each line says, and prints one line for each. docs/REFERENCE.md,
+// The order program.
 //
 //     N class unit value    insert
 //     F class unit          find
@@ -17,10 +17,8 @@ ghost use mathlib.Core.List.{[], _∷_};
 ghost use lib.ListN.{length};
 ghost use Rattle.text.specs.Lines.{mostBytes};
 ghost use Rattle.text.specs.Feeding.{handedAtEnd, begunIn, toldIn, Ready, LineIn};
-ghost use Rattle.meaning.specs.Picture.{picture};
-ghost use Rattle.meaning.specs.Operations.{fresh};
 ghost use Rattle.order_step.specs.Printed.{wordsAfter};
-ghost use Rattle.order.specs.Input.{TextOf, BytesTaken, PartTaken};
+ghost use Rattle.order.specs.Input.{freshWords, TextOf, BytesTaken, PartTaken};
 use text::feed::Feed;
 use text::feed::Told;
 
@@ -30,7 +28,7 @@ const LARGEST_KEY: u32 = 1048575;
 
 const CELLS: u32 = 512;
 
-// 5 + D + C x (6 + 2D)
+// The words 1: 5 + D + C x (6 + 2D).
 const WORDS: usize = 11277;
 
 // What is kept from one byte to the next, beside the words and the bytes of the line begun: whether every answer has been written.
@@ -114,7 +112,7 @@ fn take_last(words: &mut [u32], line: &[u8], feed: Feed) -> End
 // The input, in parts, to its end, on a fresh list. Nothing says that an input ends, so the turns are counted down from a number that no
 // run uses up.
 fn take_all(words: &mut [u32], line: &mut [u8]) -> End
-    requires { ⌜ (length (now line) ≡ mostBytes) × (now words ≡ picture (fresh 8 1048575 512)) ⌝ }
+    requires { ⌜ (length (now line) ≡ mostBytes) × (now words ≡ freshWords) ⌝ }
 {
     let mut feed = text::feed::start();
     let mut part = io::large_buffer();
