@@ -1,4 +1,4 @@
--- What one line of the order program answers and leaves: document 01, "Entries and the order program".
+-- What one line of the order program answers and leaves: The order program 1 and 4.
 use mathlib.Core.List.{List}
 use Prim.Native.Nat.{ℕ}
 use Rattle.text.specs.Lines.{Handed, line, tooLong}

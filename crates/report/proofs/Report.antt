@@ -1,4 +1,4 @@
--- What a customer may rely on. A number is printed as document 01's grammar reads it: "decimal, no leading zeros", and it reads as that
+-- What a customer may rely on. A number is printed as the grammar of lines reads it (The order program 2), and it reads as that
 -- number. So a line that the programs print is four fields with one space between, and they read as refusal, key, value and count.
 use mathlib.Core.Path.{_≡_, refl, _∙_, ap}
 use mathlib.Core.Bool.{Bool, true, false, cond, _&&_, _||_, or-true}
@@ -81,7 +81,7 @@ decimal-read zero n h = digits-in zero n (λ several. absurd (omega arith))
 decimal-read (suc most) n h =
     digits-in (suc most) n (λ several. decimal-read most (n / 10) (omega (arith, h, pow-suc 10 (suc most))))
 
--- What is printed for a number is a number of document 01's grammar, and is read as that number.
+-- What is printed for a number is a number of the grammar of lines, and is read as that number.
 pub decimal-reads : (n : ℕ) → n < 10 ^ mostDigits → (isDecimal (decimal n) ≡ true) × (decimalFrom 0 (decimal n) ≡ n)
 unfolding isDecimal
 decimal-reads n h =
@@ -140,7 +140,7 @@ four-fields a h =
     )
     refl
 
--- What is printed for an answer, without the byte after it, is four fields. Each is a number of document 01's grammar, and they are read as
+-- What is printed for an answer, without the byte after it, is four fields. Each is a number of the grammar of lines, and they are read as
 -- refusal, key, value and count.
 pub answer-reads :
     (a : Answer) (after : ℕ) → Holds a →

@@ -1,4 +1,4 @@
--- What the programs print: "Each line prints refusal, key, value, count." A number is decimal, with no leading zeros.
+-- What the programs print: refusal, key, value, count (The order program 1). A number is decimal, with no leading zeros.
 use mathlib.Core.Bool.{cond}
 use mathlib.Core.List.{List, [], _∷_, _++_}
 use mathlib.Core.Path.{_≡_}

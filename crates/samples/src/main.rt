@@ -1,4 +1,4 @@
-// Set up on document 01's edges: D, K and C at and past each end of their ranges, lengths one short, exact, one long and 0. For each it
+// Set up on its edges: D, K and C at and past each end of their ranges, lengths one short, exact, one long and 0. For each it
 // prints the four numbers and a checksum of every word afterwards.
 //
 // The file stdout has the answers of the separate ordered set to the same rows. In the crate's folder:

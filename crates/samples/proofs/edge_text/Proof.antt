@@ -11,7 +11,8 @@ returns c =
     let put = c .before .before .put-checked .ensures in
     let made = c .before .before .before .before .before .before .before in
     let a = made .before .before .before .before .before .before .before .before .args in
-    edge-put (a .d) (a .k) (a .c) (length (a .part .now)) (made .before .before .before .before .fill .ensures) (made .mdlist-set-up .ensures) (put .0) (omega (arith, put .1))
+    edge-put (a .d) (a .k) (a .c) (length (a .part .now))
+        (made .before .before .before .before .fill .ensures) (made .mdlist-set-up .ensures) (put .0) (omega (arith, put .1))
 
 pub edge-text-spec : {M : Type 1} → statement M
 edge-text-spec =
