@@ -20,7 +20,7 @@ callOf (Finish e) = calls.Finish (entryKey e)
 callOf Take = calls.Take
 callOf Sweep = calls.Sweep
 
--- "10: program: line not readable"; "10 is given before the list is called"
+-- Refusal 10, which is given before the list is called
 abbrev pub unreadable : List ℕ → Outcome (List ℕ)
 unreadable ws = refused lineNotReadable ws
 
