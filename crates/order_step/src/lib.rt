@@ -31,14 +31,14 @@ fn call_of(kind: Kind) -> Call
 }
 
 // A line with more than 64 bytes.
-pub fn long_line(list: &[u32]) -> Answer
+fn long_line(list: &[u32]) -> Answer
     ensures { λ r. ⌜ Meets (lineOutcome tooLong (now (list .entry))) r (now (list .entry)) ⌝ }
 {
     meaning::refused(meaning::LINE_NOT_READABLE)
 }
 
 // A line of at most 64 bytes, or any other that is handed over whole.
-pub fn step(list: &mut [u32], bytes: &[u8]) -> Answer
+fn step(list: &mut [u32], bytes: &[u8]) -> Answer
     ensures { λ r. ⌜ Meets (lineOutcome (line (now (bytes .entry))) (now (list .entry))) r (now (list .exit)) ⌝ }
 {
     let Parsed::Readable(l) = lines::parse(bytes) else {

@@ -5,10 +5,13 @@ use mathlib.Core.Path.{_≡_}
 use Prim.Native.Nat.{ℕ, _≤_}
 use lib.ListN.{length, take}
 use Rattle.text.specs.Fields.{space}
+use Rattle.text.specs.declared.feed.Told.{Told}
+use Rattle.text.specs.declared.feed.Told.the-variants.{NoLine, Line, LongLine}
 use Rattle.report.specs.Report.{checksumText, checkedText}
 use Rattle.trace.specs.Trace.{Holds, bufferAfter}
 use Rattle.trace.specs.Calling.{replyOf, afterCall}
 use Rattle.trace.specs.declared.Kind.{Kind}
+use Rattle.trace.specs.declared.Kind.the-variants.{Unreadable}
 use Rattle.trace.specs.declared.call.Reply.{Reply}
 use Rattle.trace.specs.declared.call.Reply.the-variants.{Four, NoCall}
 use Rattle.replay.specs.declared.answer.Answered.{Answered}
@@ -44,3 +47,9 @@ pub record TextOf (bytes : List ℕ) (kind : Kind) (after : List ℕ) : Type 0 w
   pub before : List ℕ
   pub left : after ≡ leftBy kind before
   pub is : bytes ≡ lineText kind before
+
+-- What is told of is read as this kind: a line that is too long is not readable, and where no line ended there is nothing to read.
+abbrev pub ReadAs : Told → Kind → Type 0
+ReadAs NoLine kind = ⊥
+ReadAs (Line n) kind = Unit {0}
+ReadAs LongLine kind = kind ≡ Unreadable

@@ -4,7 +4,8 @@ ghost use Prim.Native.Nat.{_≤_};
 ghost use lib.ListN.{length, take};
 ghost use Rattle.report.specs.Report.{checkedBytes, Put};
 ghost use Rattle.trace.specs.Trace.{mostWords, lengthIn, Held};
-ghost use Rattle.replay.specs.Printed.{noCallText, replyText, LineAnswered, TextOf};
+ghost use Rattle.replay.specs.Printed.{noCallText, replyText, LineAnswered, ReadAs, TextOf};
+use text::feed::Told;
 use trace::Kind;
 use trace::call::Reply;
 
@@ -45,9 +46,9 @@ pub fn line_text(words: &mut [u32], used: usize, kind: Kind, out: &mut [u8]) -> 
     Answered { used: n, text: end }
 }
 
-// Writes a line, by one write. It takes what the line says and the buffer afterwards so that its contract can say whose line it is.
-pub fn write(text: &[u8], kind: Kind, list: &[u32])
-    requires { ⌜ TextOf (now text) kind (now list) ⌝ }
+// Writes a line, by one write. It takes what ended, what that says and the buffer afterwards so that its contract can say whose line it is.
+pub fn write(text: &[u8], ended: Told, kind: Kind, list: &[u32])
+    requires { ⌜ ReadAs ended kind × TextOf (now text) kind (now list) ⌝ }
 {
     io::write_all(1, text);
 }

@@ -27,7 +27,7 @@ ghost use Rattle.text.specs.Lines.{mostBytes};
 ghost use Rattle.text.specs.Feeding.{LineIn};
 ghost use Rattle.trace.specs.Trace.{mostWords, lengthIn, Held, Holds};
 ghost use Rattle.replay.specs.Kept.{Kept};
-ghost use Rattle.replay.specs.Printed.{leftBy};
+ghost use Rattle.replay.specs.Printed.{leftBy, ReadAs};
 use text::feed::Feed;
 use text::feed::Told;
 use trace::Kind;
@@ -39,15 +39,15 @@ pub struct State {
 }
 
 // Does what a line says and prints its answer; the buffer's length afterwards.
-fn reply(words: &mut [u32], used: usize, kind: Kind) -> usize
-    requires { ⌜ Held (now words) used × (lengthIn kind ≤ mostWords) ⌝ }
+fn reply(words: &mut [u32], used: usize, ended: Told, kind: Kind) -> usize
+    requires { ⌜ (Held (now words) used × (lengthIn kind ≤ mostWords)) × ReadAs ended kind ⌝ }
     ensures { λ r. ⌜ Holds (now (words .exit)) r (leftBy kind (take used (now (words .entry)))) ⌝ }
 {
     let mut out = [0u8; report::CHECKED_BYTES];
     let done = answer::line_text(words, used, kind, &mut out);
     let n = done.used;
     let end = done.text;
-    answer::write(&out[..end], kind, &words[..n]);
+    answer::write(&out[..end], ended, kind, &words[..n]);
     n
 }
 
@@ -58,8 +58,8 @@ fn take_line(words: &mut [u32], line: &[u8], used: usize, ended: Told) -> usize
 {
     match ended {
         Told::NoLine => return used,
-        Told::Line(n) => return reply(words, used, trace::parse(&line[0..n])),
-        Told::LongLine => return reply(words, used, Kind::Unreadable),
+        Told::Line(n) => return reply(words, used, ended, trace::parse(&line[0..n])),
+        Told::LongLine => return reply(words, used, ended, Kind::Unreadable),
     }
 }
 

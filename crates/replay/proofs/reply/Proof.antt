@@ -21,8 +21,8 @@ slice-aggregate-write-2 c =
 write-requires : tie.Need-write-requires
 write-requires c κs =
     let done = c .before .before .before .before .before .line-text .ensures in
-    let a = c .before .before .before .before .before .before .before .before .before .args in
-    record { before = take (a .used) (a .words .now); left = done .holds .is; is = done .is }
+    let start = c .before .before .before .before .before .before .before .before .before in
+    (start .pre .1, record { before = take (start .args .used) (start .args .words .now); left = done .holds .is; is = done .is })
 
 returns : tie.Need-returns
 returns c = c .before .before .before .before .before .before .line-text .ensures .holds
