@@ -8,8 +8,11 @@ use Rattle.text.specs.Lines.{Handed}
 use Rattle.meaning.specs.Words.{largestAt}
 use Rattle.meaning.specs.Reading.{isList}
 use Rattle.order_step.specs.Step.{lineOutcome}
+use Rattle.order_step.specs.Printed.{wordsAfter}
 
--- On a list with the largest K, as the program's is, no line is answered 4: every entry has a key.
+-- From a list with the largest K, as the program's is when it is set up, no line is answered 4, whatever lines came before it: every
+-- entry has a key.
 abbrev pub NeverFour : Type 0
 NeverFour =
-    (h : Handed) (ws : List ℕ) → isList ws ≡ true → largestAt ws ≡ mostLargest → lineOutcome h ws .answered .refusal ≡ 4 → ⊥
+    (before : List Handed) (h : Handed) (ws : List ℕ) → isList ws ≡ true → largestAt ws ≡ mostLargest →
+    lineOutcome h (wordsAfter before ws) .answered .refusal ≡ 4 → ⊥
