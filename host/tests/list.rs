@@ -1,4 +1,4 @@
-//! The list through its Rust functions: fourteen steps, units that begin alike, the edges, the texts of the refusals, the methods of
+//! The list through its Rust functions: fourteen steps, units that begin alike, notes for one unit, the edges, the texts of the refusals, the methods of
 //! `List`, and a random comparison with an ordered map.
 
 use mdlist_host::*;
@@ -8,6 +8,11 @@ fn fresh(d: u32, k: u32, c: u32) -> Vec<u32> {
     let mut list = vec![0; words_needed(d, c)];
     assert_eq!(set_up(d, k, c, &mut list), Ok(()));
     list
+}
+
+/// The key of an entry: docs/REFERENCE.md, *Entries*.
+fn entry_key(class: u32, unit: u32, serial: u32) -> u32 {
+    class * 268_435_456 + unit * 4_096 + serial
 }
 
 fn taken(key: u32, value: u32, passed: u32) -> Result<Taken, Refusal> {
@@ -36,17 +41,28 @@ fn fourteen_steps() {
 /// Units 117 and 1117 of one class are both accepted, found, and taken in order: docs/REFERENCE.md, *Entries*.
 #[test]
 fn unit_1117_beside_unit_117() {
-    let key = |class: u32, unit: u32| class * 65_536 + unit;
-    let mut l = fresh(8, 1_048_575, 512);
-    assert_eq!(insert(&mut l, key(1, 117), 41), Ok(0));
-    assert_eq!(insert(&mut l, key(1, 1117), 42), Ok(1));
-    assert_eq!(insert(&mut l, key(0, 117), 43), Ok(0));
-    assert_eq!(insert(&mut l, key(1, 117), 44), Err(Refusal::KeyLive { looked: 1 }));
-    assert_eq!(find(&l, key(1, 1117)).map(|f| f.value), Ok(42));
-    assert_eq!(take(&mut l), taken(117, 43, 1));
-    assert_eq!(take(&mut l), taken(65_653, 41, 1));
-    assert_eq!(take(&mut l), taken(66_653, 42, 1));
+    let mut l = fresh(8, u32::MAX, 512);
+    assert_eq!(insert(&mut l, entry_key(1, 117, 0), 41), Ok(0));
+    assert_eq!(insert(&mut l, entry_key(1, 1117, 0), 42), Ok(1));
+    assert_eq!(insert(&mut l, entry_key(0, 117, 0), 43), Ok(0));
+    assert_eq!(insert(&mut l, entry_key(1, 117, 0), 44), Err(Refusal::KeyLive { looked: 1 }));
+    assert_eq!(find(&l, entry_key(1, 1117, 0)).map(|f| f.value), Ok(42));
+    assert_eq!(take(&mut l), taken(479_232, 43, 1));
+    assert_eq!(take(&mut l), taken(268_914_688, 41, 1));
+    assert_eq!(take(&mut l), taken(273_010_688, 42, 1));
     assert_eq!(take(&mut l), Err(Refusal::NothingLive { above: 0 }));
+}
+
+/// Two notes for one unit in one class are both accepted, and taken in the order of their serials: docs/REFERENCE.md, *Entries*.
+#[test]
+fn two_notes_for_one_unit() {
+    let mut l = fresh(8, u32::MAX, 512);
+    assert!(insert(&mut l, entry_key(1, 117, 4_095), 72).is_ok());
+    assert!(insert(&mut l, entry_key(1, 117, 0), 71).is_ok());
+    assert!(insert(&mut l, entry_key(1, 118, 0), 73).is_ok());
+    assert_eq!(take(&mut l), taken(268_914_688, 71, 1));
+    assert_eq!(take(&mut l), taken(268_918_783, 72, 1));
+    assert_eq!(take(&mut l), taken(268_918_784, 73, 1));
 }
 
 /// The texts that the refusals of real calls show, and their numbers: docs/REFERENCE.md, *Refusals*.

@@ -1,4 +1,4 @@
-//! The order program: entries of a class and a unit in one list of 512 cells.
+//! The order program: entries of a class, a unit and a serial in one list of 512 cells.
 
 use crate::lines::{answer_each, number};
 use crate::operations::{perform, Answer, Call, LINE_NOT_READABLE};
@@ -6,7 +6,7 @@ use crate::settings::exact_length;
 use std::io::{BufRead, Write};
 
 /// The order program 1.
-const SET_UP: Call = Call::SetUp { d: 8, k: 1_048_575, c: 512 };
+const SET_UP: Call = Call::SetUp { d: 8, k: u32::MAX, c: 512 };
 
 pub fn order(input: impl BufRead, output: impl Write) -> std::io::Result<()> {
     let mut words = vec![0; exact_length(8, 512)];
@@ -21,14 +21,14 @@ pub fn order(input: impl BufRead, output: impl Write) -> std::io::Result<()> {
     })
 }
 
-/// "`N class unit value`, `F class unit`, `A class unit` (finish), `T`, `S`"
+/// The order program 1: the five kinds of line.
 fn parse(fields: &[&str]) -> Option<Call> {
     Some(match *fields {
-        ["N", class, unit, value] => {
-            Call::Insert { key: key(class, unit)?, value: number(value, 0..=u32::MAX)? }
+        ["N", class, unit, serial, value] => {
+            Call::Insert { key: key(class, unit, serial)?, value: number(value, 0..=u32::MAX)? }
         }
-        ["F", class, unit] => Call::Find { key: key(class, unit)? },
-        ["A", class, unit] => Call::Finish { key: key(class, unit)? },
+        ["F", class, unit, serial] => Call::Find { key: key(class, unit, serial)? },
+        ["A", class, unit, serial] => Call::Finish { key: key(class, unit, serial)? },
         ["T"] => Call::Take,
         ["S"] => Call::Sweep,
         _ => return None,
@@ -36,6 +36,7 @@ fn parse(fields: &[&str]) -> Option<Call> {
 }
 
 /// Entries 1 and 2.
-fn key(class: &str, unit: &str) -> Option<u32> {
-    Some(number(class, 0..=15)? * 65_536 + number(unit, 1..=65_535)?)
+fn key(class: &str, unit: &str, serial: &str) -> Option<u32> {
+    let (class, unit) = (number(class, 0..=15)?, number(unit, 1..=65_535)?);
+    Some(class << 28 | unit << 12 | number(serial, 0..=4_095)?)
 }

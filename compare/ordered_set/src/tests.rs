@@ -64,9 +64,16 @@ fn fourteen_steps() {
 
 #[test]
 fn printed_order() {
-    let input = "N 1 117 41\nN 1 1117 42\nN 0 117 43\nN 1 117 44\nT\nT\nT\nT\n";
-    let output = "0 65653 0 0\n0 66653 0 1\n0 117 0 0\n5 65653 0 1\n\
-                  0 117 43 1\n0 65653 41 1\n0 66653 42 1\n7 0 0 0\n";
+    let input = "N 1 117 0 41\nN 1 1117 0 42\nN 0 117 0 43\nN 1 117 0 44\nT\nT\nT\nT\n";
+    let output = "0 268914688 0 0\n0 273010688 0 1\n0 479232 0 0\n5 268914688 0 1\n\
+                  0 479232 43 1\n0 268914688 41 1\n0 273010688 42 1\n7 0 0 0\n";
+    assert_eq!(ordered(input.as_bytes()), output);
+}
+
+#[test]
+fn two_notes_for_one_unit() {
+    let input = "N 1 117 2 72\nN 1 117 1 71\nT\nT\nT\n";
+    let output = "0 268914690 0 0\n0 268914689 0 1\n0 268914689 71 1\n0 268914690 72 1\n7 0 0 0\n";
     assert_eq!(ordered(input.as_bytes()), output);
 }
 
@@ -77,8 +84,8 @@ fn order_lines_at_the_ends() {
     assert_eq!(ordered(b"T\n\nT"), "7 0 0 0\n10 0 0 0\n7 0 0 0\n");
     assert_eq!(ordered(&[b'1'; 100_000]), "10 0 0 0\n");
     assert_eq!(
-        ordered(b"N 15 65535 4294967295\nN 16 1 0\nF 0 0"),
-        "0 1048575 0 0\n10 0 0 0\n10 0 0 0\n"
+        ordered(b"N 15 65535 4095 4294967295\nN 16 1 0 0\nF 0 0 0\nN 1 1 4096 0\nN 1 1 0"),
+        "0 4294967295 0 0\n10 0 0 0\n10 0 0 0\n10 0 0 0\n10 0 0 0\n"
     );
 }
 

@@ -16,7 +16,7 @@ use Rattle.text.specs.Answers.{FieldEnd, numberOf}
 use Rattle.text.specs.declared.fields.Numeral.the-variants.{Value}
 use Rattle.text.specs.declared.fields.Numeral.the-variants as numeral
 use Rattle.text.proofs.Numerals.{last-field, next-field, some-field, number-value, number-within}
-use Rattle.lines.specs.Grammar.{isClass, isUnit, isValue, entry, readable, insertFields, entryFields, noFields, kindOf, parsedOf, InRange}
+use Rattle.lines.specs.Grammar.{isClass, isUnit, isValue, entry, readable, insertFields, entryFields, noFields, kindOf, parsedOf, InRange, isSerial, leastSerial, mostSerial}
 use Rattle.lines.specs.Grammar.{leastClass, mostClass, leastUnit, mostUnit, leastValue, mostValue, KindInRange}
 use Rattle.lines.specs.Answers.{fieldsAfter, firstNumber, firstEntry, NumberAfter, EntryAfter}
 use Rattle.lines.specs.declared.Entry.{Entry}
@@ -88,9 +88,13 @@ module _ {line : List ℕ} {at end : ℕ} (least most : ℕ) (more : at < length
 
 -- Entries
 
--- a class, and then a unit
+-- a class, then a unit, and then a serial
+abbrev withSerial : ℕ → ℕ → Option (ℕ × List (List ℕ)) → Option (Entry × List (List ℕ))
+withSerial class unit (some (serial, fields)) = some (record { class = class; unit = unit; serial = serial }, fields)
+withSerial class unit none = none
+
 abbrev withUnit : ℕ → Option (ℕ × List (List ℕ)) → Option (Entry × List (List ℕ))
-withUnit class (some (unit, fields)) = some (record { class = class; unit = unit }, fields)
+withUnit class (some (unit, fields)) = withSerial class unit (firstNumber leastSerial mostSerial fields)
 withUnit class none = none
 
 abbrev withClass : Option (ℕ × List (List ℕ)) → Option (Entry × List (List ℕ))
@@ -105,19 +109,34 @@ entry-steps (class ∷ []) = at-class (isClass class)
     at-class : (t : Bool) → none ≡ withClass (cond t (some (decimalFrom 0 class, [])) none)
     at-class true = refl
     at-class false = refl
-entry-steps (class ∷ unit ∷ fields) = at-class (isClass class)
+entry-steps (class ∷ unit ∷ []) = at-class (isClass class)
   where
-    at-unit :
-        (t : Bool) →
-        cond t (some (entry class unit, fields)) none ≡
-        withUnit (decimalFrom 0 class) (cond t (some (decimalFrom 0 unit, fields)) none)
+    at-unit : (t : Bool) → none ≡ withUnit (decimalFrom 0 class) (cond t (some (decimalFrom 0 unit, [])) none)
     at-unit true = refl
     at-unit false = refl
 
+    at-class : (t : Bool) → none ≡ withClass (cond t (some (decimalFrom 0 class, unit ∷ [])) none)
+    at-class true = at-unit (isUnit unit)
+    at-class false = refl
+entry-steps (class ∷ unit ∷ serial ∷ fields) = at-class (isClass class)
+  where
+    whole : Option (Entry × List (List ℕ))
+    whole = some (entry class unit serial, fields)
+
+    at-serial :
+        (t : Bool) → cond t whole none ≡ withSerial (decimalFrom 0 class) (decimalFrom 0 unit) (cond t (some (decimalFrom 0 serial, fields)) none)
+    at-serial true = refl
+    at-serial false = refl
+
+    at-unit :
+        (t : Bool) → cond (t && isSerial serial) whole none
+        ≡ withUnit (decimalFrom 0 class) (cond t (some (decimalFrom 0 unit, serial ∷ fields)) none)
+    at-unit true = at-serial (isSerial serial)
+    at-unit false = refl
+
     at-class :
-        (t : Bool) →
-        cond (t && isUnit unit) (some (entry class unit, fields)) none ≡
-        withClass (cond t (some (decimalFrom 0 class, unit ∷ fields)) none)
+        (t : Bool) → cond (t && (isUnit unit && isSerial serial)) whole none
+        ≡ withClass (cond t (some (decimalFrom 0 class, unit ∷ serial ∷ fields)) none)
     at-class true = at-unit (isUnit unit)
     at-class false = refl
 
@@ -129,12 +148,18 @@ module _ {line : List ℕ} {at : ℕ} {r : NumberRead} (first : NumberAfter line
     pub unit-none : s ≡ NoNumber → EntryAfter line at NoEntry
     unit-none f = record { is = rw (entry-steps (fieldsAfter line at), ← first .is, e, ← second .is, f) refl; within = omega arith }
 
-    pub entry-read : {unit end : ℕ} → s ≡ Number unit end → EntryAfter line at (Fields (record { class = class; unit = unit }) end)
-    entry-read f =
-        record {
-          is = rw (entry-steps (fieldsAfter line at), ← first .is, e, ← second .is, f) refl;
-          within = rw f at (second .within);
-        }
+    module _ {unit last : ℕ} {u : NumberRead} (f : s ≡ Number unit last) (third : NumberAfter line last leastSerial mostSerial u) where
+      pub serial-none : u ≡ NoNumber → EntryAfter line at NoEntry
+      serial-none g =
+          record { is = rw (entry-steps (fieldsAfter line at), ← first .is, e, ← second .is, f, ← third .is, g) refl; within = omega arith }
+
+      pub entry-read :
+          {serial end : ℕ} → u ≡ Number serial end → EntryAfter line at (Fields (record { class = class; unit = unit; serial = serial }) end)
+      entry-read g =
+          record {
+            is = rw (entry-steps (fieldsAfter line at), ← first .is, e, ← second .is, f, ← third .is, g) refl;
+            within = rw g at (third .within);
+          }
 
 -- Lines
 
@@ -147,15 +172,15 @@ entry-line-steps : (kind : Entry → Kind) (fields : List (List ℕ)) → entryF
 unfolding entryFields firstEntry noFields
 entry-line-steps kind [] = refl
 entry-line-steps kind (class ∷ []) = refl
-entry-line-steps kind (class ∷ unit ∷ []) = at-test (isClass class && isUnit unit)
+entry-line-steps kind (class ∷ unit ∷ []) = refl
+entry-line-steps kind (class ∷ unit ∷ serial ∷ []) = at-test (isClass class && (isUnit unit && isSerial serial))
   where
-    at-test :
-        (t : Bool) → readable t (kind (entry class unit)) ≡ ofEntry kind (cond t (some (entry class unit, [])) none)
+    at-test : (t : Bool) → readable t (kind (entry class unit serial)) ≡ ofEntry kind (cond t (some (entry class unit serial, [])) none)
     at-test true = refl
     at-test false = refl
-entry-line-steps kind (class ∷ unit ∷ further ∷ fields) = at-test (isClass class && isUnit unit)
+entry-line-steps kind (class ∷ unit ∷ serial ∷ further ∷ fields) = at-test (isClass class && (isUnit unit && isSerial serial))
   where
-    at-test : (t : Bool) → Unreadable ≡ ofEntry kind (cond t (some (entry class unit, further ∷ fields)) none)
+    at-test : (t : Bool) → Unreadable ≡ ofEntry kind (cond t (some (entry class unit serial, further ∷ fields)) none)
     at-test true = refl
     at-test false = refl
 
@@ -172,34 +197,36 @@ insert-line-steps : (fields : List (List ℕ)) → insertFields fields ≡ ofIns
 unfolding insertFields firstEntry firstNumber noFields
 insert-line-steps [] = refl
 insert-line-steps (class ∷ []) = refl
-insert-line-steps (class ∷ unit ∷ []) = at-test (isClass class && isUnit unit)
+insert-line-steps (class ∷ unit ∷ []) = refl
+insert-line-steps (class ∷ unit ∷ serial ∷ []) = at-test (isClass class && (isUnit unit && isSerial serial))
   where
-    at-test : (t : Bool) → Unreadable ≡ ofInsert (cond t (some (entry class unit, [])) none)
+    at-test : (t : Bool) → Unreadable ≡ ofInsert (cond t (some (entry class unit serial, [])) none)
     at-test true = refl
     at-test false = refl
-insert-line-steps (class ∷ unit ∷ value ∷ []) = at-entry (isClass class) (isUnit unit)
+insert-line-steps (class ∷ unit ∷ serial ∷ value ∷ []) = at-entry (isClass class) (isUnit unit) (isSerial serial)
   where
     kind : Kind
-    kind = Insert (entry class unit) (decimalFrom 0 value)
+    kind = Insert (entry class unit serial) (decimalFrom 0 value)
 
-    at-value : (t : Bool) → readable t kind ≡ ofValue (entry class unit) (cond t (some (decimalFrom 0 value, [])) none)
+    at-value : (t : Bool) → readable t kind ≡ ofValue (entry class unit serial) (cond t (some (decimalFrom 0 value, [])) none)
     at-value true = refl
     at-value false = refl
 
     at-entry :
-        (t u : Bool) →
-        readable (t && (u && isValue value)) kind ≡ ofInsert (cond (t && u) (some (entry class unit, value ∷ [])) none)
-    at-entry true true = at-value (isValue value)
-    at-entry true false = refl
-    at-entry false u = refl
-insert-line-steps (class ∷ unit ∷ value ∷ further ∷ fields) = at-entry (isClass class && isUnit unit)
+        (t u w : Bool) → readable (t && (u && (w && isValue value))) kind
+        ≡ ofInsert (cond (t && (u && w)) (some (entry class unit serial, value ∷ [])) none)
+    at-entry true true true = at-value (isValue value)
+    at-entry true true false = refl
+    at-entry true false w = refl
+    at-entry false u w = refl
+insert-line-steps (class ∷ unit ∷ serial ∷ value ∷ further ∷ fields) = at-entry (isClass class && (isUnit unit && isSerial serial))
   where
     at-value :
-        (t : Bool) → Unreadable ≡ ofValue (entry class unit) (cond t (some (decimalFrom 0 value, further ∷ fields)) none)
+        (t : Bool) → Unreadable ≡ ofValue (entry class unit serial) (cond t (some (decimalFrom 0 value, further ∷ fields)) none)
     at-value true = refl
     at-value false = refl
 
-    at-entry : (t : Bool) → Unreadable ≡ ofInsert (cond t (some (entry class unit, value ∷ further ∷ fields)) none)
+    at-entry : (t : Bool) → Unreadable ≡ ofInsert (cond t (some (entry class unit serial, value ∷ further ∷ fields)) none)
     at-entry true = at-value (isValue value)
     at-entry false = refl
 
@@ -273,14 +300,14 @@ module _ (line : List ℕ) where
 
 -- Entries in range
 
-entry-in-range : (class unit : List ℕ) → isClass class ≡ true → isUnit unit ≡ true → InRange (entry class unit)
+entry-in-range :
+    (class unit serial : List ℕ) → isClass class ≡ true → isUnit unit ≡ true → isSerial serial ≡ true → InRange (entry class unit serial)
 unfolding numberOf
-entry-in-range class unit c u =
-    let d : numberOf leastClass mostClass class ≡ Value (decimalFrom 0 class) = rw c refl in
-    let e : numberOf leastUnit mostUnit unit ≡ Value (decimalFrom 0 unit) = rw u refl in
-    let p = number-within leastClass mostClass class d in
-    let q = number-within leastUnit mostUnit unit e in
-    record { class-most = p .1; unit-least = q .0; unit-most = q .1 }
+entry-in-range class unit serial c u s =
+    let p = number-within leastClass mostClass class {n = decimalFrom 0 class} (rw c refl) in
+    let q = number-within leastUnit mostUnit unit {n = decimalFrom 0 unit} (rw u refl) in
+    let r = number-within leastSerial mostSerial serial {n = decimalFrom 0 serial} (rw s refl) in
+    record { class-most = p .1; unit-least = q .0; unit-most = q .1; serial-most = r .1 }
 
 abbrev ParsedInRange : Parsed → Type 0
 ParsedInRange (Readable l) = KindInRange (l .kind)
@@ -300,10 +327,12 @@ unfolding insertFields
 insert-fields-in-range [] = tt
 insert-fields-in-range (class ∷ []) = tt
 insert-fields-in-range (class ∷ unit ∷ []) = tt
-insert-fields-in-range (class ∷ unit ∷ value ∷ []) =
-    both-in-range (isClass class) (isUnit unit && isValue value) _ (λ c.
-    both-in-range (isUnit unit) (isValue value) _ (λ u. readable-in-range (isValue value) _ (λ v. entry-in-range class unit c u)))
-insert-fields-in-range (class ∷ unit ∷ value ∷ further ∷ fields) = tt
+insert-fields-in-range (class ∷ unit ∷ serial ∷ []) = tt
+insert-fields-in-range (class ∷ unit ∷ serial ∷ value ∷ []) =
+    both-in-range (isClass class) (isUnit unit && (isSerial serial && isValue value)) _ (λ c.
+    both-in-range (isUnit unit) (isSerial serial && isValue value) _ (λ u.
+    both-in-range (isSerial serial) (isValue value) _ (λ s. readable-in-range (isValue value) _ (λ v. entry-in-range class unit serial c u s))))
+insert-fields-in-range (class ∷ unit ∷ serial ∷ value ∷ further ∷ fields) = tt
 
 entry-fields-in-range :
     (kind : Entry → Kind) → ((e : Entry) → InRange e → KindInRange (kind e)) → (fields : List (List ℕ)) →
@@ -311,10 +340,12 @@ entry-fields-in-range :
 unfolding entryFields
 entry-fields-in-range kind h [] = tt
 entry-fields-in-range kind h (class ∷ []) = tt
-entry-fields-in-range kind h (class ∷ unit ∷ []) =
-    both-in-range (isClass class) (isUnit unit) _ (λ c.
-    readable-in-range (isUnit unit) _ (λ u. h (entry class unit) (entry-in-range class unit c u)))
-entry-fields-in-range kind h (class ∷ unit ∷ further ∷ fields) = tt
+entry-fields-in-range kind h (class ∷ unit ∷ []) = tt
+entry-fields-in-range kind h (class ∷ unit ∷ serial ∷ []) =
+    both-in-range (isClass class) (isUnit unit && isSerial serial) _ (λ c.
+    both-in-range (isUnit unit) (isSerial serial) _ (λ u.
+    readable-in-range (isSerial serial) _ (λ s. h (entry class unit serial) (entry-in-range class unit serial c u s))))
+entry-fields-in-range kind h (class ∷ unit ∷ serial ∷ further ∷ fields) = tt
 
 no-fields-in-range : (kind : Kind) → KindInRange kind → (fields : List (List ℕ)) → ParsedInRange (noFields kind fields)
 unfolding noFields

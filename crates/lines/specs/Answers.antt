@@ -7,7 +7,7 @@ use Prim.Native.Nat.{ℕ, _+_, _≤_}
 use lib.Dec.{ltb}
 use lib.ListN.{length, drop}
 use Rattle.text.specs.Fields.{fieldsOf, decimalFrom, isNumber}
-use Rattle.lines.specs.Grammar.{isClass, isUnit, entry}
+use Rattle.lines.specs.Grammar.{isClass, isUnit, isSerial, entry}
 use Rattle.lines.specs.declared.Entry.{Entry}
 use Rattle.lines.specs.declared.NumberRead.{NumberRead}
 use Rattle.lines.specs.declared.NumberRead.the-variants.{Number, NoNumber}
@@ -23,11 +23,13 @@ unfoldable pub firstNumber : ℕ → ℕ → List (List ℕ) → Option (ℕ × 
 firstNumber least most [] = none
 firstNumber least most (field ∷ fields) = cond (isNumber least most field) (some (decimalFrom 0 field, fields)) none
 
--- the entry that is the first two of some fields, with the fields after it
+-- the entry that is the first three of some fields, with the fields after it
 unfoldable pub firstEntry : List (List ℕ) → Option (Entry × List (List ℕ))
 firstEntry [] = none
 firstEntry (class ∷ []) = none
-firstEntry (class ∷ unit ∷ fields) = cond (isClass class && isUnit unit) (some (entry class unit, fields)) none
+firstEntry (class ∷ unit ∷ []) = none
+firstEntry (class ∷ unit ∷ serial ∷ fields) =
+    cond (isClass class && (isUnit unit && isSerial serial)) (some (entry class unit serial, fields)) none
 
 -- What the code's values mean.
 
@@ -46,7 +48,7 @@ abbrev pub entryIn : List ℕ → EntryRead → Option (Entry × List (List ℕ)
 entryIn line (Fields e end) = some (e, fieldsAfter line end)
 entryIn line NoEntry = none
 
--- where its second field ends
+-- where its third field ends
 abbrev pub entryEnd : EntryRead → ℕ
 entryEnd (Fields e end) = end
 entryEnd NoEntry = 0

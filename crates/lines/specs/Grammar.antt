@@ -1,5 +1,4 @@
--- The grammar of a line: "`N class unit value`, `F class unit`, `A class unit` (finish), `T`, `S`. One space between fields; decimal, no
--- leading zeros; at most 64 bytes before the line feed."
+-- The grammar of a line: The order program 1 to 4.
 use mathlib.Core.Bool.{Bool, cond, _&&_}
 use mathlib.Core.List.{List, [], _∷_}
 use Prim.Native.Nat.{ℕ, _+_, _*_, _≤_}
@@ -14,7 +13,7 @@ use Rattle.lines.specs.declared.Kind.the-variants.{Insert, Find, Finish,
 use Rattle.lines.specs.declared.Parsed.{Parsed}
 use Rattle.lines.specs.declared.Parsed.the-variants.{Readable, Unreadable}
 
--- Entries 1: the ranges of class and unit.
+-- Entries 1: the ranges of class, unit and serial.
 abbrev pub leastClass : ℕ
 leastClass = 0
 
@@ -27,11 +26,20 @@ leastUnit = 1
 abbrev pub mostUnit : ℕ
 mostUnit = 65535
 
+abbrev pub leastSerial : ℕ
+leastSerial = 0
+
+abbrev pub mostSerial : ℕ
+mostSerial = 4095
+
 abbrev pub isClass : List ℕ → Bool
 isClass field = isNumber leastClass mostClass field
 
 abbrev pub isUnit : List ℕ → Bool
 isUnit field = isNumber leastUnit mostUnit field
+
+abbrev pub isSerial : List ℕ → Bool
+isSerial field = isNumber leastSerial mostSerial field
 
 -- Numbers 2: any value
 abbrev pub leastValue : ℕ
@@ -47,6 +55,7 @@ pub record InRange (e : Entry) : Type 0 where
   pub class-most : e .class ≤ mostClass
   pub unit-least : leastUnit ≤ e .unit
   pub unit-most : e .unit ≤ mostUnit
+  pub serial-most : e .serial ≤ mostSerial
 
 -- the entry of a kind of line, where it has one, is in range
 abbrev pub KindInRange : Kind → Type 0
@@ -56,34 +65,40 @@ KindInRange (Finish e) = InRange e
 KindInRange Take = Unit {0}
 KindInRange Sweep = Unit {0}
 
--- Entries 2: the key.
+-- Entries 2: the key. A unit has a key for each serial, a class for each unit from 0 on.
+abbrev pub keysPerUnit : ℕ
+keysPerUnit = 4096
+
 abbrev pub keysPerClass : ℕ
-keysPerClass = 65536
+keysPerClass = 268435456
 
 abbrev pub entryKey : Entry → ℕ
-entryKey e = e .class * keysPerClass + e .unit
+entryKey e = e .class * keysPerClass + e .unit * keysPerUnit + e .serial
 
-abbrev pub entry : List ℕ → List ℕ → Entry
-entry class unit = record { class = decimalFrom 0 class; unit = decimalFrom 0 unit }
+abbrev pub entry : List ℕ → List ℕ → List ℕ → Entry
+entry class unit serial = record { class = decimalFrom 0 class; unit = decimalFrom 0 unit; serial = decimalFrom 0 serial }
 
 abbrev pub readable : Bool → Kind → Parsed
 readable test kind = cond test (Readable (record { kind = kind })) Unreadable
 
--- after `N`: class, unit, value
+-- after `N`: class, unit, serial, value
 unfoldable pub insertFields : List (List ℕ) → Parsed
 insertFields [] = Unreadable
 insertFields (class ∷ []) = Unreadable
 insertFields (class ∷ unit ∷ []) = Unreadable
-insertFields (class ∷ unit ∷ value ∷ []) =
-    readable (isClass class && (isUnit unit && isValue value)) (Insert (entry class unit) (decimalFrom 0 value))
-insertFields (class ∷ unit ∷ value ∷ further ∷ fields) = Unreadable
+insertFields (class ∷ unit ∷ serial ∷ []) = Unreadable
+insertFields (class ∷ unit ∷ serial ∷ value ∷ []) =
+    readable (isClass class && (isUnit unit && (isSerial serial && isValue value))) (Insert (entry class unit serial) (decimalFrom 0 value))
+insertFields (class ∷ unit ∷ serial ∷ value ∷ further ∷ fields) = Unreadable
 
--- after `F` and `A`: class, unit
+-- after `F` and `A`: class, unit, serial
 unfoldable pub entryFields : (Entry → Kind) → List (List ℕ) → Parsed
 entryFields kind [] = Unreadable
 entryFields kind (class ∷ []) = Unreadable
-entryFields kind (class ∷ unit ∷ []) = readable (isClass class && isUnit unit) (kind (entry class unit))
-entryFields kind (class ∷ unit ∷ further ∷ fields) = Unreadable
+entryFields kind (class ∷ unit ∷ []) = Unreadable
+entryFields kind (class ∷ unit ∷ serial ∷ []) =
+    readable (isClass class && (isUnit unit && isSerial serial)) (kind (entry class unit serial))
+entryFields kind (class ∷ unit ∷ serial ∷ further ∷ fields) = Unreadable
 
 -- after `T` and `S`: nothing
 unfoldable pub noFields : Kind → List (List ℕ) → Parsed

@@ -13,14 +13,15 @@ use text::fields::Numeral;
 pub struct Entry {
     pub class: u32,
     pub unit: u32,
+    pub serial: u32,
 }
 
 pub enum Kind {
-    // N class unit value
+    // N class unit serial value
     Insert(Entry, u32),
-    // F class unit
+    // F class unit serial
     Find(Entry),
-    // A class unit
+    // A class unit serial
     Finish(Entry),
     // T
     Take,
@@ -44,7 +45,7 @@ enum NumberRead {
     NoNumber,
 }
 
-// An entry, and where its second field ends; or that the next two fields are none, or missing.
+// An entry, and where its third field ends; or that the next three fields are none, or missing.
 enum EntryRead {
     Fields(Entry, usize),
     NoEntry,
@@ -58,7 +59,13 @@ const LEAST_UNIT: u32 = 1;
 
 const MOST_UNIT: u32 = 65535;
 
-const KEYS_PER_CLASS: u32 = 65536;
+const LEAST_SERIAL: u32 = 0;
+
+const MOST_SERIAL: u32 = 4095;
+
+const KEYS_PER_UNIT: u32 = 4096;
+
+const KEYS_PER_CLASS: u32 = 268435456;
 
 // Numbers 2: any value.
 const LEAST_VALUE: u32 = 0;
@@ -83,7 +90,7 @@ pub fn entry_key(e: Entry) -> u32
     requires { ⌜ InRange e ⌝ }
     ensures { λ r. ⌜ r ≡ entryKey e ⌝ }
 {
-    e.class * KEYS_PER_CLASS + e.unit
+    e.class * KEYS_PER_CLASS + e.unit * KEYS_PER_UNIT + e.serial
 }
 
 // The number from `least` to `most` that is the field after the one that ends at `at`.
@@ -103,24 +110,24 @@ fn number_after(line: &[u8], at: usize, least: u32, most: u32) -> NumberRead
     }
 }
 
-// The entry that is the two fields after the one that ends at `at`: the same for a line of insert, find and finish.
+// The entry that is the three fields after the one that ends at `at`: the same for a line of insert, find and finish.
 fn entry_after(line: &[u8], at: usize) -> EntryRead
     requires { ⌜ at ≤ length (now line) ⌝ }
     ensures { λ r. ⌜ EntryAfter (now (line .entry)) at r ⌝ }
 {
     let first = number_after(line, at, LEAST_CLASS, MOST_CLASS);
-    match first {
-        NumberRead::Number(class, next) => {
-            let second = number_after(line, next, LEAST_UNIT, MOST_UNIT);
-            match second {
-                NumberRead::Number(unit, end) => {
-                    return EntryRead::Fields(Entry { class, unit }, end);
-                }
-                NumberRead::NoNumber => return EntryRead::NoEntry,
-            }
-        }
-        NumberRead::NoNumber => return EntryRead::NoEntry,
-    }
+    let NumberRead::Number(class, next) = first else {
+        return EntryRead::NoEntry;
+    };
+    let second = number_after(line, next, LEAST_UNIT, MOST_UNIT);
+    let NumberRead::Number(unit, last) = second else {
+        return EntryRead::NoEntry;
+    };
+    let third = number_after(line, last, LEAST_SERIAL, MOST_SERIAL);
+    let NumberRead::Number(serial, end) = third else {
+        return EntryRead::NoEntry;
+    };
+    EntryRead::Fields(Entry { class, unit, serial }, end)
 }
 
 // A line of this kind, if it ends at `at`: a further field makes it unreadable, be it an empty one, after a space at the end.
@@ -134,7 +141,7 @@ fn ended(line: &[u8], at: usize, kind: Kind) -> Parsed
     Parsed::Readable(Line { kind })
 }
 
-// After the letter N, which is the line's first byte: class, unit, value.
+// After the letter N, which is the line's first byte: class, unit, serial, value.
 fn insert_line(line: &[u8]) -> Parsed
     requires { ⌜ 1 ≤ length (now line) ⌝ }
     ensures { λ r. ⌜ r ≡ insertFields (fieldsAfter (now (line .entry)) 1) ⌝ }
@@ -154,7 +161,7 @@ fn insert_line(line: &[u8]) -> Parsed
     }
 }
 
-// After the letter F: class, unit.
+// After the letter F: class, unit, serial.
 fn find_line(line: &[u8]) -> Parsed
     requires { ⌜ 1 ≤ length (now line) ⌝ }
     ensures { λ r. ⌜ r ≡ entryFields Find (fieldsAfter (now (line .entry)) 1) ⌝ }
@@ -166,7 +173,7 @@ fn find_line(line: &[u8]) -> Parsed
     }
 }
 
-// After the letter A: class, unit.
+// After the letter A: class, unit, serial.
 fn finish_line(line: &[u8]) -> Parsed
     requires { ⌜ 1 ≤ length (now line) ⌝ }
     ensures { λ r. ⌜ r ≡ entryFields Finish (fieldsAfter (now (line .entry)) 1) ⌝ }

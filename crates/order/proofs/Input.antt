@@ -29,9 +29,9 @@ numbers-accepted :
 unfolding computing
 numbers-accepted ws long = set-up-outcome listDimensions listLargest listCells ws refl long
 
-pub base-of-order-is-6 : BaseOfOrder
+pub base-of-order-is-16 : BaseOfOrder
 unfolding computing
-base-of-order-is-6 = refl
+base-of-order-is-16 = refl
 
 pub set-up-fresh :
     {after : List ℕ} {r : Answer} → Meets (setUpOut listDimensions listLargest listCells (replicate listWords 0)) r after → after ≡ freshWords

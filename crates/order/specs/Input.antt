@@ -18,7 +18,7 @@ abbrev pub listDimensions : ℕ
 listDimensions = 8
 
 abbrev pub listLargest : ℕ
-listLargest = 1048575
+listLargest = 4294967295
 
 abbrev pub listCells : ℕ
 listCells = 512
@@ -32,7 +32,7 @@ freshWords = picture (fresh listDimensions listLargest listCells)
 
 -- .. and its base
 abbrev pub BaseOfOrder : Type 0
-BaseOfOrder = baseOf listDimensions listLargest ≡ 6
+BaseOfOrder = baseOf listDimensions listLargest ≡ 16
 
 -- Bytes are what is printed for these lines, which took the list from some words to the words afterwards.
 pub record TextOf (bytes : List ℕ) (hs : List Handed) (after : List ℕ) : Type 0 where

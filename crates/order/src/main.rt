@@ -1,13 +1,13 @@
 // The order program: reads lines from standard input, asks the list what each line says, and prints one line for each. docs/REFERENCE.md,
 // The order program.
 //
-//     N class unit value    insert
-//     F class unit          find
-//     A class unit          finish
-//     T                     take
-//     S                     sweep
+//     N class unit serial value    insert
+//     F class unit serial          find
+//     A class unit serial          finish
+//     T                            take
+//     S                            sweep
 //
-// The list has D = 8, K = 1,048,575 and C = 512, in an array of 11,277 words. The input comes in parts of any size, and each answer is
+// The list has D = 8, K = 4,294,967,295 and C = 512, in an array of 11,277 words. The input comes in parts of any size, and each answer is
 // written as soon as its line has been read, by one write. A read or a write that fails ends the program with a message on standard error;
 // what was answered until then has been written, and a line begun at a read that fails is not answered.
 //
@@ -24,7 +24,7 @@ use text::feed::Told;
 
 const DIMENSIONS: u32 = 8;
 
-const LARGEST_KEY: u32 = 1048575;
+const LARGEST_KEY: u32 = 4294967295;
 
 const CELLS: u32 = 512;
 

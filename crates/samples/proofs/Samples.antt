@@ -10,7 +10,7 @@ use Rattle.meaning.proofs.Computing.{computing}
 use Rattle.samples.specs.Samples.{joined, larger, smaller, figures, raised, lowered, refusedFrom}
 
 -- the order program's list, fresh: 11,277 words
-pub program-is-list : isList (picture (fresh 8 1048575 512)) ≡ true
+pub program-is-list : isList (picture (fresh 8 4294967295 512)) ≡ true
 unfolding computing
 program-is-list = refl
 

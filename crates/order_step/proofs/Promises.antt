@@ -1,0 +1,118 @@
+-- No line of the program is answered 4: what each call replies follows from the book, an entry's key is from 1 to K, and K stays as it is.
+use mathlib.Core.Path.{_≡_, refl, sym, ap, _∙_}
+use mathlib.Core.Bool.{Bool, true, false, cond, _&&_, _||_}
+use mathlib.Core.List.{List, [], _∷_}
+use Prim.Native.Nat.{ℕ, suc, _≤_}
+use native.Mathlib.Omega.{arith}
+use lib.Dec.{leb, ltb}
+use lib.ListN.{length}
+use borrow.Author.Tests.{le-leb}
+use Rattle.settings.specs.Numbers.{mostLargest}
+use Rattle.text.specs.Lines.{Handed, line, tooLong}
+use Rattle.meaning.specs.Words.{largestAt}
+use Rattle.meaning.specs.Reading.{isList}
+use Rattle.meaning.specs.Calls.{afterCalls}
+use Rattle.meaning.specs.Book.{Pair, Book, bookOf, hasKey, liveIn, inserted, booked, bookedAll}
+use Rattle.meaning.specs.Book.{Reply, keyed, insertReply, takeReply, replyTo}
+use Rattle.meaning.proofs.Promises.{answers-are-booked, calls-are-booked, calls-keep-lists}
+use Rattle.lines.specs.Grammar.{entryKey, parsedOf, KindInRange}
+use Rattle.lines.specs.declared.Kind.{Kind}
+use Rattle.lines.specs.declared.Kind.the-variants.{Insert, Find, Finish, Take, Sweep}
+use Rattle.lines.specs.declared.Parsed.{Parsed}
+use Rattle.lines.specs.declared.Parsed.the-variants.{Readable, Unreadable}
+use Rattle.lines.proofs.Grammar.{read-in-range}
+use Rattle.lines.proofs.Promises.{key-within}
+use Rattle.order_step.specs.Step.{callOf, parsedOutcome, lineOutcome}
+use Rattle.order_step.specs.Printed.{wordsAfter}
+use Rattle.order_step.specs.Promises.{NeverFour}
+
+-- a reply that is not 4
+abbrev NotFour : Reply → Type 0
+NotFour r = r .refusal ≡ 4 → ⊥
+
+either : (t : Bool) (r s : Reply) → NotFour r → NotFour s → NotFour (cond t r s)
+either true r s p q = p
+either false r s p q = q
+
+-- a key from 1 to K
+in-range : (key : ℕ) (k : Book) (r : Reply) → 1 ≤ key → key ≤ k .largest → NotFour r → NotFour (keyed key k r)
+unfolding keyed
+in-range key k r least most p = rw (le-leb 1 key least, le-leb key (k .largest) most) p
+
+-- the call that a kind of line asks for
+kind-reply : (kind : Kind) → KindInRange kind → (long : ℕ) (k : Book) → k .largest ≡ mostLargest → NotFour (replyTo (callOf kind) long k)
+unfolding replyTo insertReply
+kind-reply (Insert e value) i long k top =
+    let w = key-within e i in
+    in-range (entryKey e) k (insertReply (entryKey e) k) (omega arith) (omega arith)
+    (either (liveIn (entryKey e) k) _ _ (λ q. omega arith)
+    (either (hasKey (entryKey e) (k .standing) || ltb (suc (length (k .standing))) (k .cells)) _ _ (λ q. omega arith) (λ q. omega arith)))
+kind-reply (Find e) i long k top =
+    let w = key-within e i in
+    in-range (entryKey e) k _ (omega arith) (omega arith) (either (liveIn (entryKey e) k) _ _ (λ q. omega arith) (λ q. omega arith))
+kind-reply (Finish e) i long k top =
+    let w = key-within e i in
+    in-range (entryKey e) k _ (omega arith) (omega arith) (either (hasKey (entryKey e) (k .standing)) _ _ (λ q. omega arith) (λ q. omega arith))
+kind-reply Take i long k top = at (k .pairs)
+  where
+    at : (pairs : List Pair) → NotFour (takeReply pairs)
+    at [] q = omega arith
+    at (p ∷ pairs) q = omega arith
+kind-reply Sweep i long k top = λ q. omega arith
+
+-- one line on a list with the largest K
+line-not-four : (h : Handed) (ws : List ℕ) → isList ws ≡ true → largestAt ws ≡ mostLargest → lineOutcome h ws .answered .refusal ≡ 4 → ⊥
+unfolding lineOutcome
+line-not-four tooLong ws list top = λ q. omega arith
+line-not-four (line bytes) ws list top = at (parsedOf bytes) refl
+  where
+    at : (p : Parsed) → parsedOf bytes ≡ p → parsedOutcome p ws .answered .refusal ≡ 4 → ⊥
+    at (Readable l) reads q =
+        kind-reply (l .kind) (read-in-range bytes reads) (length ws) (bookOf ws) top
+        (ap (λ (r : Reply). r .refusal) (sym (answers-are-booked (callOf (l .kind)) ws list)) ∙ q)
+    at Unreadable reads q = omega arith
+
+-- K stays as it is
+either-largest : (t : Bool) (j k : Book) (K : ℕ) → j .largest ≡ K → k .largest ≡ K → cond t j k .largest ≡ K
+either-largest true j k K p q = p
+either-largest false j k K p q = q
+
+inserted-largest : (key value : ℕ) (k : Book) → inserted key value k .largest ≡ k .largest
+unfolding inserted
+inserted-largest key value k =
+    either-largest (liveIn key k) _ _ (k .largest) refl
+    (either-largest (hasKey key (k .standing)) _ _ (k .largest) refl
+    (either-largest (ltb (suc (length (k .standing))) (k .cells)) _ _ (k .largest) refl refl))
+
+kind-largest : (kind : Kind) (long : ℕ) (k : Book) → booked (callOf kind) long k .largest ≡ k .largest
+unfolding booked
+kind-largest (Insert e value) long k =
+    either-largest (leb 1 (entryKey e) && leb (entryKey e) (k .largest)) _ _ (k .largest) (inserted-largest (entryKey e) value k) refl
+kind-largest (Find e) long k = refl
+kind-largest (Finish e) long k = refl
+kind-largest Take long k = refl
+kind-largest Sweep long k = refl
+
+record Kept (ws us : List ℕ) : Type 0 where
+  list : isList us ≡ true
+  largest : largestAt us ≡ largestAt ws
+
+line-keeps : (h : Handed) (ws : List ℕ) → isList ws ≡ true → Kept ws (lineOutcome h ws .left)
+unfolding lineOutcome bookedAll afterCalls
+line-keeps tooLong ws list = record { list = list; largest = refl }
+line-keeps (line bytes) ws list = at (parsedOf bytes)
+  where
+    at : (p : Parsed) → Kept ws (parsedOutcome p ws .left)
+    at (Readable l) =
+        let call = callOf (l .kind) in
+        record {
+          list = calls-keep-lists call ws list;
+          largest = ap (λ (k : Book). k .largest) (calls-are-booked (call ∷ []) ws list) ∙ kind-largest (l .kind) (length ws) (bookOf ws)
+        }
+    at Unreadable = record { list = list; largest = refl }
+
+pub never-four : NeverFour
+unfolding wordsAfter
+never-four [] h ws list top = line-not-four h ws list top
+never-four (first ∷ before) h ws list top =
+    let kept = line-keeps first ws list in never-four before h (lineOutcome first ws .left) (kept .list) (kept .largest ∙ top)
