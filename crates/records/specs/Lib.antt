@@ -1,0 +1,4 @@
+-- Records of the logger's export: RFC 4180's grammar, its reading byte by byte, and what is promised of the two.
+pub mod Grammar
+pub mod Reading
+pub mod Promises
