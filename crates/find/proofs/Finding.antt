@@ -61,7 +61,7 @@ module _ {ws : List ℕ} {s : Settings} (h : Listed ws s) (key : ℕ) (least : 1
       answer 0 key value (f .looked) ≡ findOut ws key .answered
   find-live e {m} {value} reads live valued =
       on-listed (λ t ws s. key ≤ s .largest → f ≡ foundOf t key → m ≡ markAt ws (f .c) → value ≡ valueAt ws (f .c) →
-          answer 0 key value (f .looked) ≡ findOut ws key .answered)
+      answer 0 key value (f .looked) ≡ findOut ws key .answered)
       (λ t v l q r w.
       let (x, a) = found-standing v least q e in
       ap₂ (answer 0 key) (w ∙ value-read v a) (a .looked)

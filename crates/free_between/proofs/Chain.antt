@@ -47,8 +47,10 @@ alike-below {D} {cells} a i h = a .same i (all-each (λ c e. index-above D c 1 i
 
 -- the same store in both
 alike-set : {D : ℕ} {cells us ws : List ℕ} → Alike D cells us ws → (i v : ℕ) → Alike D cells (set us i v) (set ws i v)
-alike-set {D} {cells} {us} {ws} a i v = record { size = length-set us i v ∙ a .size ∙ sym (length-set ws i v);
-    same = λ k h. at k h (ℕ-discrete k i) (decLt i (length us)) }
+alike-set {D} {cells} {us} {ws} a i v = record {
+  size = length-set us i v ∙ a .size ∙ sym (length-set ws i v);
+  same = λ k h. at k h (ℕ-discrete k i) (decLt i (length us));
+}
   where
     at : (k : ℕ) → All (λ c. k ≡ wordIndex D c 1 → ⊥) cells → Dec (k ≡ i) → Dec (i < length us) → getD (set us i v) k 0 ≡ getD (set ws i v) k 0
     at k h (yes e) (yes l) =
@@ -84,7 +86,7 @@ alike-cell : {D : ℕ} {cells us ws : List ℕ} → Alike D cells us ws → (x :
 unfolding freeCell
 alike-cell {D} {cells} {us} {ws} a x =
     alike-set (subst (λ v. Alike D cells (sets us (wordIndex D x 0) (freeWords D (firstFreeAt us))) (sets ws (wordIndex D x 0) (freeWords D v)))
-        (alike-below a 4 (omega arith))
+    (alike-below a 4 (omega arith))
     (alike-sets a (wordIndex D x 0) (freeWords D (firstFreeAt us)))) 4 x
 
 -- a cell that becomes free has the same value word too
@@ -176,37 +178,37 @@ chained-in s ws (x ∷ y ∷ cells) apart below chained =
 -- The front dropped, with the cells between the head and cell x chained
 
 module _ {D C : ℕ} {ws : List ℕ} (exact : Exact D C ws) (path : List ℕ) {x number z : ℕ} {between : List ℕ} (f : Dropping D C x number z between)
-    where
-  abbrev takenWords : List ℕ
-  takenWords = takeLinks D (chainValues D ws between) x path z (number - z)
+  where
+    abbrev takenWords : List ℕ
+    takenWords = takeLinks D (chainValues D ws between) x path z (number - z)
 
-  below : All (λ y. y < C) between
-  below = all-map (λ y r. r .1) between (f .range)
+    below : All (λ y. y < C) between
+    below = all-map (λ y r. r .1) between (f .range)
 
-  -- links are no value words
-  stays-chained : Chained D (relinkHead D takenWords x z) between
-  stays-chained =
-      let inside = f .inside in
-      let least = f .least in
-      chained-same D (relinkHead D takenWords x z) (chainValues D ws between) between
-      (all-map (λ c r.
-      relinkHead-cell D takenWords x z inside c 1 (omega arith) (λ e. let above = r .0 in omega arith)
-      ∙ takeLinks-other D (chainValues D ws between) x path z (number - z) (omega arith) c 1 (omega arith) (λ e i l u g. omega arith)) between (f .range))
-      (chain-chained exact between (f .distinct) below)
+    -- links are no value words
+    stays-chained : Chained D (relinkHead D takenWords x z) between
+    stays-chained =
+        let inside = f .inside in
+        let least = f .least in
+        chained-same D (relinkHead D takenWords x z) (chainValues D ws between) between
+        (all-map (λ c r.
+        relinkHead-cell D takenWords x z inside c 1 (omega arith) (λ e. let above = r .0 in omega arith)
+        ∙ takeLinks-other D (chainValues D ws between) x path z (number - z) (omega arith) c 1 (omega arith) (λ e i l u g. omega arith)) between (f .range))
+        (chain-chained exact between (f .distinct) below)
 
-  drops-chained :
-      writePath (freeChained D (relinkHead D takenWords x z) (firstNumber between) (length between)) (onward D (replicate D 0) z x)
-      ≡ dropFront D ws x number path z between
-  unfolding dropFront
-  drops-chained =
-      let inside = f .inside in
-      let least = f .least in
-      let chained = exact-chained exact between in
-      ap (λ ts. writePath ts (onward D (replicate D 0) z x))
-      (freeChained-is D (relinkHead D takenWords x z) between (f .distinct) stays-chained
-      ∙ freeAll-alike (exact-relinked (exact-taken chained x path z (number - z)) x z) (exact-relinked (exact-taken exact x path z (number - z)) x z)
-      between below
-      (alike-relinked (alike-taken (chain-alike D ws between) x path z (number - z) (omega arith)) x z))
+    drops-chained :
+        writePath (freeChained D (relinkHead D takenWords x z) (firstNumber between) (length between)) (onward D (replicate D 0) z x)
+        ≡ dropFront D ws x number path z between
+    unfolding dropFront
+    drops-chained =
+        let inside = f .inside in
+        let least = f .least in
+        let chained = exact-chained exact between in
+        ap (λ ts. writePath ts (onward D (replicate D 0) z x))
+        (freeChained-is D (relinkHead D takenWords x z) between (f .distinct) stays-chained
+        ∙ freeAll-alike (exact-relinked (exact-taken chained x path z (number - z)) x z) (exact-relinked (exact-taken exact x path z (number - z)) x z)
+        between below
+        (alike-relinked (alike-taken (chain-alike D ws between) x path z (number - z) (omega arith)) x z))
 
 -- What may be dropped
 

@@ -35,9 +35,10 @@ pub key-order : KeyOrder
 key-order e f i j = (before e f i j, key-below e f i j)
 
 pub plain-order : PlainOrder
-plain-order e f i j s =
-    ((λ h. omega (arith, i .unit-most, i .serial-most, j .unit-most, j .serial-most)),
-    (λ h. omega (arith, i .unit-most, i .serial-most, j .unit-most, j .serial-most)))
+plain-order e f i j s = (
+  (λ h. omega (arith, i .unit-most, i .serial-most, j .unit-most, j .serial-most)),
+  (λ h. omega (arith, i .unit-most, i .serial-most, j .unit-most, j .serial-most)),
+)
 
 pub key-tells-entry : KeyTellsEntry
 key-tells-entry e f i j k =

@@ -127,7 +127,14 @@ fn entry_after(line: &[u8], at: usize) -> EntryRead
     let NumberRead::Number(serial, end) = third else {
         return EntryRead::NoEntry;
     };
-    EntryRead::Fields(Entry { class, unit, serial }, end)
+    EntryRead::Fields(
+        Entry {
+            class,
+            unit,
+            serial,
+        },
+        end,
+    )
 }
 
 // A line of this kind, if it ends at `at`: a further field makes it unreadable, be it an empty one, after a space at the end.

@@ -52,8 +52,12 @@ live-pairs s v = ap (λ t. pairsIn (t .row)) (read-of-picture s v)
 
 pub book-of-picture : (s : State) → Sound s → bookOf (picture s) ≡ bookIn s
 book-of-picture s v =
-    λ i. record { largest = picture-largest s i; cells = picture-cells s i; pairs = pairsIn (read-of-picture s v i .row);
-        standing = keysIn (read-of-picture s v i .row) }
+    λ i. record {
+      largest = picture-largest s i;
+      cells = picture-cells s i;
+      pairs = pairsIn (read-of-picture s v i .row);
+      standing = keysIn (read-of-picture s v i .row);
+    }
 
 calls-booked : (calls : List Call) (s : State) → Sound s → bookOf (afterCalls calls (picture s)) ≡ bookedAll calls (length (picture s)) (bookIn s)
 unfolding afterCalls bookedAll
@@ -73,12 +77,17 @@ calls-are-booked calls =
 
 -- what a take's outcome makes of the takes from there on
 takes-by : (n : ℕ) (ws : List ℕ) (o : Outcome (List ℕ)) → takeOut ws ≡ o →
-    takes (suc n) ws ≡ elim (eqb (o .answered .refusal) 0) [ true ↦ record { key = o .answered .key; value = o .answered .value } ∷ takes n (o .left)
-        | false ↦ [] ]
+    takes (suc n) ws ≡ elim (eqb (o .answered .refusal) 0) [
+      | true ↦ record { key = o .answered .key; value = o .answered .value } ∷ takes n (o .left)
+      | false ↦ []
+    ]
 unfolding takes
 takes-by n ws o e =
-    ap {B = List Pair} (λ p. elim (eqb (p .answered .refusal) 0) [ true ↦ record { key = p .answered .key; value = p .answered .value } ∷ takes n
-        (p .left) | false ↦ [] ]) e
+    ap {B = List Pair} (λ p. elim (eqb (p .answered .refusal) 0) [
+      | true ↦ record { key = p .answered .key; value = p .answered .value } ∷ takes n
+          (p .left)
+      | false ↦ []
+    ]) e
 
 pub takes-none : (n : ℕ) (s : State) → Sound s → fromLive (s .row) ≡ [] → takes (suc n) (picture s) ≡ []
 takes-none n s v e = takes-by n (picture s) (refused (nothingLive (keysAbove (positionKey s) (s .row))) (picture s)) (take-outcome-none s v e)
@@ -87,7 +96,7 @@ pub takes-first : (n : ℕ) (s : State) → Sound s → (x : Node) (later : List
     takes (suc n) (picture s) ≡ pair x ∷ takes n (picture (taken s x))
 takes-first n s v x later e =
     takes-by n (picture s) (accepted (x .key) (x .value) (keysPassed (positionKey s) (x .key) (s .row)) (picture (taken s x)))
-        (take-outcome-first s v x later e)
+    (take-outcome-first s v x later e)
 
 takes-pairs : (n : ℕ) (s : State) → Sound s → length (pairsIn (s .row)) ≤ n → takes n (picture s) ≡ pairsIn (s .row)
 unfolding takes
@@ -140,4 +149,4 @@ set-up-list D K C ws accepted = at (inRange D K C) refl (ℕ-discrete (length ws
 pub lists-stay-lists : ListsStayLists
 lists-stay-lists ws f =
     ap isList (f .left) ∙ calls-after-keep (f .calls) (outcome (SetUp (f .D) (f .K) (f .C)) (f .lent) .left)
-        (set-up-list (f .D) (f .K) (f .C) (f .lent) (f .accepted))
+    (set-up-list (f .D) (f .K) (f .C) (f .lent) (f .accepted))

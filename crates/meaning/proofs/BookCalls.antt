@@ -253,7 +253,7 @@ unfolding outcome
 insert-booked key value s v =
     key-cases s key
     (λ n. still (Insert key value) s v (ap (λ o. o .left) (insert-outcome-bad-key s v key value n))
-        (booked-untried key value (length (picture s)) (bookIn s) n))
+    (booked-untried key value (length (picture s)) (bookIn s) n))
     (λ l h e. free-cases s (insert-full-booked s v key value l h e) (insert-new-booked s v key value l h e))
     (λ l h x e. live-cases x (insert-live-booked s v key value l h x e) (insert-dead-booked s v key value l h x e))
 

@@ -94,13 +94,13 @@ module _ (s : State) (v : Sound s) (key : ℕ) where
       (λ n. answering (insert-outcome-bad-key s v key value n) ∙ sym (keyed-bad key (bookIn s) _ n))
       (λ l h e. free-cases s
       (λ full. answering (insert-outcome-full s v key value l h e full) ∙ sym (keyed-good key (bookIn s) _ l h
-          ∙ rw (lives none e, stands none e, le-ltb (suc (length (keysIn (s .row)))) (s .settings .cells) (omega (arith, room s v))) refl))
+      ∙ rw (lives none e, stands none e, le-ltb (suc (length (keysIn (s .row)))) (s .settings .cells) (omega (arith, room s v))) refl))
       (λ space. answering (insert-outcome-new s v key value l h e space) ∙ sym (keyed-good key (bookIn s) _ l h
-          ∙ rw (lives none e, stands none e, lt-ltb (suc (length (keysIn (s .row)))) (s .settings .cells) (omega (arith, room s v))) refl)))
+      ∙ rw (lives none e, stands none e, lt-ltb (suc (length (keysIn (s .row)))) (s .settings .cells) (omega (arith, room s v))) refl)))
       (λ l h x e. live-cases x
       (λ q. answering (insert-outcome-live s v key value l h x e q) ∙ sym (keyed-good key (bookIn s) _ l h ∙ rw (lives (some x) e ∙ q) refl))
       (λ q. answering (insert-outcome-dead s v key value l h x e q) ∙ sym (keyed-good key (bookIn s) _ l h
-          ∙ rw (lives (some x) e ∙ q, stands (some x) e) refl)))
+      ∙ rw (lives (some x) e ∙ q, stands (some x) e) refl)))
 
   find-reply : Replied (Find key) s
   unfolding outcome replyTo
@@ -110,7 +110,7 @@ module _ (s : State) (v : Sound s) (key : ℕ) where
       (λ l h e. answering (find-outcome-absent s v key l h e) ∙ sym (keyed-good key (bookIn s) _ l h ∙ rw (lives none e) refl))
       (λ l h x e. live-cases x
       (λ q. answering (find-outcome-live s v key l h x e q) ∙ sym (keyed-good key (bookIn s) _ l h
-          ∙ rw (lives (some x) e ∙ q, pair-value key x (s .row) e q) refl))
+      ∙ rw (lives (some x) e ∙ q, pair-value key x (s .row) e q) refl))
       (λ q. answering (find-outcome-dead s v key l h x e q) ∙ sym (keyed-good key (bookIn s) _ l h ∙ rw (lives (some x) e ∙ q) refl)))
 
   finish-reply : Replied (Finish key) s

@@ -163,7 +163,7 @@ key-lives low key (x ∷ row) a = at (ℕ-discrete (x .key) key) (key-lives (x .
 
     at : Dec (x .key ≡ key) → hasKey key (map (λ p. p .key) (pairsIn row)) ≡ isLive (nodeAt key row) →
         hasKey key (map (λ p. p .key) (map pair (cond (x .live) (x ∷ those (λ y. y .live) row) (those (λ y. y .live) row))))
-            ≡ isLive (cond (eqb (x .key) key) (some x) (nodeAt key row))
+        ≡ isLive (cond (eqb (x .key) key) (some x) (nodeAt key row))
     at (yes e) more =
         subst (λ k. hasKey k (map (λ p. p .key) (pairsIn (x ∷ row))) ≡ x .live) e (here (x .live))
         ∙ sym (ap (λ t. isLive (cond t (some x) (nodeAt key row))) (eq-eqb (x .key) key e))

@@ -77,7 +77,7 @@ module _ (s : State) (v : Sound s) where
           let here : Placed s x p = record { found = e } in
           let cell : p .node .cell < s .settings .cells = rw (placed-cell here) h in
           rw (place-link v here d l) (link-among (λ c. c < s .settings .cells) (s .settings .base) (s .settings .dimensions) p d cell-none cell
-              (later-within x p here))
+          (later-within x p here))
 
   pub linkRead-within : (x d : ℕ) → x < s .settings .cells → d < s .settings .dimensions → linkRead (picture s) x d < s .settings .cells
   unfolding linkRead

@@ -122,10 +122,10 @@ module _ (f : Node → Node) (keeping : Keeping f) where
   linkBy-changed b D beforeOwes owes q d = λ i.
       cond (beforeOwes && between (q .beforeDimension) (q .dimension) d)
       ((ap (λ k. firstSharing b D k d (f (q .node) ∷ map f (q .later))) (keeping .key (q .before))
-          ∙ sharing-changed b D (q .before .key) d (q .node ∷ q .later)) i)
+      ∙ sharing-changed b D (q .before .key) d (q .node ∷ q .later)) i)
       (cond (owes && between (cond owes (q .dimension) 0) (cond owes (shared b D (keeping .key (q .node) i) (first-key (q .later) i)) 0) d) 0
       (cond (leb (q .dimension) d) ((ap (λ k. firstSharing b D k d (map f (q .later))) (keeping .key (q .node))
-          ∙ sharing-changed b D (q .node .key) d (q .later)) i) 0))
+      ∙ sharing-changed b D (q .node .key) d (q .later)) i) 0))
 
   -- the words of a changed place are those of the place, with the debts after the change
   wordsBy-changed : (b D value : ℕ) (live beforeOwes owes : Bool) (q : Place) →
@@ -187,7 +187,7 @@ module _ (s : State) (f : Node → Node) (keeping : Keeping f) (position : ℕ) 
       placed-word (changedState s f position) (changed-placed here) j h k
       ∙ ap (λ ws. getD ws j 0)
       (wordsBy-changed f keeping (s .settings .base) (s .settings .dimensions) (f (q .node) .value) (f (q .node) .live) (f (q .before) .owes)
-          (f (q .node) .owes) q)
+      (f (q .node) .owes) q)
 
   -- a free cell's, the header and the path are as before
   pub changed-free : (x : ℕ) → placeOf x (placesOf s (s .row)) ≡ none → (j : ℕ) → x < s .settings .cells → j < cellWords (s .settings .dimensions) →

@@ -85,7 +85,7 @@ module _ (ws : List ℕ) (a : AList ws) where
           let e = same (y .cell) (t .standing) in
           let least-known = a .path d h .least (y .cell) (record { standing = t .standing; shares = omega arith }) in
           let least-met = has (λ z. keyAt ws (y .cell) ≤ keyAt ws z)
-              (all-zip (λ z u f r. let i = t .key in let j = u .key in let l = f r in omega arith) (headNode ∷ standingRow ws) all-shown all) in
+          (all-zip (λ z u f r. let i = t .key in let j = u .key in let l = f r in omega arith) (headNode ∷ standingRow ws) all-shown all) in
           a .distinct (y .cell) word (t .standing) (a .path d h .sharing .standing) (omega arith)
       at (nowhere all) = absurd (has (λ z. ⊥) all)
 

@@ -53,7 +53,7 @@ module _ (ws : List ℕ) (a : AList ws) where
   larger-key x d y sx l =
       let shares = sym (shared-is x y sx (l .standing)) ∙ l .shares in
       coordinate-larger (baseAt ws) (dimensionsAt ws) (keyAt ws x) (keyAt ws y) d base-is-positive (key-below x sx) (key-below y (l .standing))
-          (omega arith) (l .larger)
+      (omega arith) (l .larger)
 
   pub larger-at : (x d y : ℕ) → Standing ws x → Standing ws y → keyAt ws x < keyAt ws y →
       shared (baseAt ws) (dimensionsAt ws) (keyAt ws x) (keyAt ws y) ≡ d → LargerAt ws x d y

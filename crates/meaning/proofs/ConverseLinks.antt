@@ -85,7 +85,7 @@ module _ (ws : List ℕ) (a : AList ws) where
   pub high-shown : (p : Place) → PlaceShown ws p → high (baseAt ws) (dimensionsAt ws) p ≡ highAt ws (p .node .cell)
   high-shown p q =
       owing-cases (p .node .owes) (shared (baseAt ws) (dimensionsAt ws) (p .node .key) (firstOf (p .later) .key)) (highAt ws (p .node .cell))
-          (λ o. debt-at p q o .high)
+      (λ o. debt-at p q o .high)
       (λ o. a .owes-nothing (p .node .cell) (q .here .shown .standing) (q .here .shown .unowing o) .1)
 
   -- Links as they stand
@@ -110,7 +110,7 @@ module _ (ws : List ℕ) (a : AList ws) where
   owing-before p d n (one s e) w q =
       let m = a .debts n (w .standing) (w .owes) in
       let same = next-larger-of-one ws a n (p .before .cell) (p .node .cell) (w .standing) (s .shown .standing) (subst (NextLarger ws n) q (m .owed))
-          (above-next-larger (s .shown) (s .above)) in
+      (above-next-larger (s .shown) (s .above)) in
       let v = subst (λ i. Owing ws i d) same w in
       let o = owes-shown (p .before) (s .shown) (v .owes) in
       let t = debt-shown ws a (p .before) (p .beforeDimension) (p .node ∷ p .later) s o in

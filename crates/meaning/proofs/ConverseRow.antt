@@ -162,7 +162,7 @@ module _ (ws : List ℕ) (a : AList ws) where
       row-cases (Asc 0) c n (omega arith) (λ f. more)
       (λ st. put-ascends 0 (nodeIn ws c) rest (a .keys c st pos .0)
       (all-map (λ y s e. let q = a .distinct c (y .cell) st (s .0 .standing) (e ∙ s .0 .key) in let k = s .1 in omega arith) rest
-          (row-shown (suc c) n (omega arith)))
+      (row-shown (suc c) n (omega arith)))
       more)
 
   -- each standing one of the n cells is there once

@@ -85,7 +85,7 @@ module _ (ws : List ℕ) (a : AList ws) where
       let least = a .count .0 in
       all-append P (map (λ x. x .cell) (standingRow ws)) chain
       (all-mapped P (λ x. x .cell) (standingRow ws) (all-map (λ x s. (s .1, s .0 .standing .cell)) (standingRow ws)
-          (row-shown ws a 1 (cellsAt ws - 1) (omega arith))))
+      (row-shown ws a 1 (cellsAt ws - 1) (omega arith))))
       (all-map (λ c h. let f = a .free-chain .no-other c h in (free-positive c f, f .cell)) chain (all-occur chain))
 
   -- a standing cell is the head or in the row

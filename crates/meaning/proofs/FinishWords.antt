@@ -96,7 +96,7 @@ module _ {s : State} (v : Sound s) {n : ℕ} {p : Place} (here : Placed s n p) w
   node-kept {x} {q} there unowing =
       onCell-cases (λ y. y .owes ≡ q .node .owes) n paid (q .node)
       (λ e. let same : x ≡ n = sym (placed-cell there) ∙ e in sym (ap (λ r. r .node .owes) (placed-once (subst (λ z. Placed s z q) same there) here)
-          ∙ unowing same))
+      ∙ unowing same))
       (λ ne. refl)
 
   before-kept : {x : ℕ} {q : Place} → Placed s x q → (NextIn s p q → p .node .owes ≡ false) → onCell n paid (q .before) .owes ≡ q .before .owes
@@ -135,7 +135,7 @@ module _ {s : State} (v : Sound s) {n : ℕ} {p : Place} (here : Placed s n p) w
   paid-nothing : p .node .owes ≡ false → picture after ≡ picture s
   paid-nothing unowing =
       words-equal (picture-exact after) (picture-exact s) (changed-header s (onCell n paid) (paid-keeping n) (s .position))
-          (changed-path s (onCell n paid) (paid-keeping n))
+      (changed-path s (onCell n paid) (paid-keeping n))
       (λ x j h k. at x j h k (placeOf x (placesOf s (s .row))) refl)
     where
       at : (x j : ℕ) → x < s .settings .cells → j < cellWords D → (o : Option Place) → placeOf x (placesOf s (s .row)) ≡ o →

@@ -59,7 +59,7 @@ module _ (b D : ℕ) where
   unfolding link
   link-same p q d e f g h =
       cond-same (linkDue p d) (linkDue q d) (dueLink b D p d) (cond (linkOwing b D p d) 0 (settledLink b D p d)) (dueLink b D q d)
-          (cond (linkOwing b D q d) 0 (settledLink b D q d)) e f
+      (cond (linkOwing b D q d) 0 (settledLink b D q d)) e f
       (λ undue. cond-same (linkOwing b D p d) (linkOwing b D q d) 0 (settledLink b D p d) 0 (settledLink b D q d) g (λ y. refl) h)
 
   -- after a node that owes nothing
@@ -147,7 +147,7 @@ module _ (b D : ℕ) where
   sharing-next pos key d z rest h a l =
       sharing-skips b D key d (z ∷ []) rest (λ e. omega arith, tt)
       ∙ sharing-alike b D key (z .key) d rest (all-map (λ u k. let m = ultra b D key (z .key) (u .key) pos (omega arith) (omega arith) in
-          (λ e. omega arith, λ e. omega arith)) rest (asc-above (z .key) rest a))
+      (λ e. omega arith, λ e. omega arith)) rest (asc-above (z .key) rest a))
 
 -- The new node and what comes behind it
 
@@ -219,7 +219,7 @@ module _ (b D : ℕ) (pos : 0 < b) where
               unsettled (ap (λ t. cond t (firstSharing b D key d (p .later)) 0) (lt-leb e d h)) ∙ sym (no-link (λ m n. omega (arith, h, m, n)))
           split (no h) (yes l) g =
               link-undue b D p d un ∙ ap (λ t. cond t 0 (settledLink b D p d)) (owned (omega arith) l (omega arith))
-                  ∙ sym (no-link (λ m n. omega (arith, l, n)))
+              ∙ sym (no-link (λ m n. omega (arith, l, n)))
           split (no h) (no l) (yes g) =
               let m : e ≤ q = omega arith in
               link-undue b D p d un
@@ -229,7 +229,7 @@ module _ (b D : ℕ) (pos : 0 < b) where
               ∙ sym (ap (λ t. cond t (z .cell) 0) (and-both (leb e q) (eqb d q) (le-leb e q m) (eq-eqb d q g)))
           split (no h) (no l) (no g) =
               unsettled (sought (omega arith) ∙ sharing-above b D pos key d z rest (let h = a .0 in omega arith) (a .1) (omega arith))
-                  ∙ sym (no-link (λ m n. g n))
+              ∙ sym (no-link (λ m n. g n))
 
   -- The next larger node z: before x stood it came after a and had dimension min p q, now it comes after x and has dimension q.
   pub link-of-next :
@@ -327,7 +327,7 @@ module _ (b D : ℕ) (pos : 0 < b) where
         links = λ d h.
             link-same b D (place e) (place f) d
             (and-same (z .owes) (between e (shared b D (z .key) (u .key)) d) (between f (shared b D (z .key) (u .key)) d)
-                (λ o. ap (λ m. between m (shared b D (z .key) (u .key)) d) (same o)))
+            (λ o. ap (λ m. between m (shared b D (z .key) (u .key)) d) (same o)))
             (λ y. refl) refl (λ y. refl);
       })
       (both-itself b D n (placeOf c behind))
@@ -375,7 +375,7 @@ module _ (b D : ℕ) (pos : 0 < b) where
             let two = both (leb f d) (ltb d e) (one .1) in
             sharing-put b D (w .key) d (y ∷ front) x post (clear (one .0) d (leb-true f d (two .0))))
             (and-same (y .owes) (between (low now) (high b D now) d) (between (low before) (high b D before) d)
-                (λ o. ap (λ m. between (low now) m d) high-same))
+            (λ o. ap (λ m. between (low now) m d) high-same))
             (λ t. cond-same (leb e d) (leb e d) (firstSharing b D (y .key) d (front ++ x ∷ post)) 0 (firstSharing b D (y .key) d (front ++ post)) 0 refl
             (λ h. sharing-put b D (y .key) d front x post (λ g. other (settled-above b D now d (leb-true e d h) ∙ g))) (λ h. refl));
       }
@@ -396,7 +396,7 @@ module _ (b D : ℕ) (pos : 0 < b) where
       All (λ p. p .node .owes ≡ true → (d : ℕ) → settledLink b D p d ≡ x .cell → ⊥) (placesFrom b D w f y e (pre ++ x ∷ post)) →
       x .owes ≡ newOwes b D (x .key) (dimensionAfter b D y pre (x .key)) post → NextUnowing b D (x .key) (dimensionAfter b D y pre (x .key)) post →
       (c : ℕ) → (x .cell ≡ c → ⊥) → OnBoth (Kept b D (x .cell)) (placeOf c (placesFrom b D w f y e (pre ++ x ∷ post)))
-          (placeOf c (placesFrom b D w f y e (pre ++ post)))
+      (placeOf c (placesFrom b D w f y e (pre ++ post)))
   unfolding placesAfter lastFrom
   kept-from w f y e [] x post asc un clear led own next c other =
       both-step b D (x .cell) c (placeAfter w f y e (x ∷ post)) (placeAfter w f y e post)
@@ -441,7 +441,7 @@ module _ (s : State) (pre : List Node) (x : Node) (post : List Node) (pos : 0 < 
       (c : ℕ) → (x .cell ≡ c → ⊥) →
       OnBoth (Kept (s .settings .base) (s .settings .dimensions) (x .cell))
       (placeOf c (places (s .settings .base) (s .settings .dimensions) (pre ++ x ∷ post)))
-          (placeOf c (places (s .settings .base) (s .settings .dimensions) (pre ++ post)))
+      (placeOf c (places (s .settings .base) (s .settings .dimensions) (pre ++ post)))
   unfolding places
   kept-places c other =
       kept-from (s .settings .base) (s .settings .dimensions) pos headNode 0 headNode 0 pre x post a (clear .last)
@@ -450,7 +450,7 @@ module _ (s : State) (pre : List Node) (x : Node) (post : List Node) (pos : 0 < 
   -- link p of the parent leads to x
   pub link-of-parent :
       (p : Place) → placeOf (parentAfter (s .settings .base) (s .settings .dimensions) headNode pre (x .key))
-          (places (s .settings .base) (s .settings .dimensions) (pre ++ x ∷ post)) ≡ some p →
+      (places (s .settings .base) (s .settings .dimensions) (pre ++ x ∷ post)) ≡ some p →
       link (s .settings .base) (s .settings .dimensions) p (dimensionAfter (s .settings .base) (s .settings .dimensions) headNode pre (x .key)) ≡ x .cell
   unfolding places
   link-of-parent p found =
@@ -458,7 +458,7 @@ module _ (s : State) (pre : List Node) (x : Node) (post : List Node) (pos : 0 < 
       (link-above b D t d unowing (h .low)
       ∙ ap (firstSharing b D (t .node .key) d) (h .later-is)
       ∙ subst (λ m. shared b D (m .key) (x .key) < shared b D (t .node .key) (m .key) →
-          firstSharing b D (t .node .key) (shared b D (m .key) (x .key)) (h .between ++ x ∷ post) ≡ x .cell) (h .last-is)
+      firstSharing b D (t .node .key) (shared b D (m .key) (x .key)) (h .between ++ x ∷ post) ≡ x .cell) (h .last-is)
       (link-leads b D pos deep (t .node) (h .between) x post (subst (Asc (t .node .key)) (h .later-is) ascends)) (h .shares))
     where
       b : ℕ
@@ -497,9 +497,9 @@ module _ (s : State) (pre : List Node) (x : Node) (post : List Node) (pos : 0 < 
           × ((t .node .cell ≡ parentAfter b D headNode pre (x .key) → t .node .owes ≡ false) × Asc (t .node .key) (t .later))
       fact =
           subst (Told (λ q. (q .node .cell ≡ parentAfter b D headNode pre (x .key) → q .node .owes ≡ false) × Asc (q .node .key) (q .later))
-              (parentAfter b D headNode pre (x .key))) (at .1)
+          (parentAfter b D headNode pre (x .key))) (at .1)
           (told (λ q. (q .node .cell ≡ parentAfter b D headNode pre (x .key) → q .node .owes ≡ false) × Asc (q .node .key) (q .later))
-              (parentAfter b D headNode pre (x .key)) (places b D row)
+          (parentAfter b D headNode pre (x .key)) (places b D row)
           (all-zip (λ q f g. (f, g)) (places b D row)
           (all-places (λ y. y .cell ≡ parentAfter b D headNode pre (x .key) → y .owes ≡ false) b D row (clear .parent .0) (clear .parent .1))
           (places-ascend b D row a)))
@@ -515,7 +515,7 @@ module _ (s : State) (pre : List Node) (x : Node) (post : List Node) (pos : 0 < 
       (c d : ℕ) (p q : Place) → placeOf c (places (s .settings .base) (s .settings .dimensions) (pre ++ x ∷ post)) ≡ some p →
       placeOf c (places (s .settings .base) (s .settings .dimensions) (pre ++ post)) ≡ some q → (x .cell ≡ c → ⊥) →
       (c ≡ parentAfter (s .settings .base) (s .settings .dimensions) headNode pre (x .key) →
-          d ≡ dimensionAfter (s .settings .base) (s .settings .dimensions) headNode pre (x .key) → ⊥) →
+      d ≡ dimensionAfter (s .settings .base) (s .settings .dimensions) headNode pre (x .key) → ⊥) →
       link (s .settings .base) (s .settings .dimensions) p d ≡ link (s .settings .base) (s .settings .dimensions) q d
   link-of-other c d p q now before other elsewhere =
       let b = s .settings .base in
@@ -523,7 +523,7 @@ module _ (s : State) (pre : List Node) (x : Node) (post : List Node) (pos : 0 < 
       let kept = subst₂ (OnBoth (Kept b D (x .cell))) now before (kept-places c other) in
       let unique =
       subst (Told (λ r. (m : ℕ) → settledLink b D r m ≡ x .cell → (r .node .cell ≡ parentAfter b D headNode pre (x .key))
-          × (m ≡ dimensionAfter b D headNode pre (x .key))) c) now
+      × (m ≡ dimensionAfter b D headNode pre (x .key))) c) now
       (told (λ r. (m : ℕ) → settledLink b D r m ≡ x .cell → (r .node .cell ≡ parentAfter b D headNode pre (x .key))
-          × (m ≡ dimensionAfter b D headNode pre (x .key))) c (places b D (pre ++ x ∷ post)) (parent-unique s pre x post pos deep a o)) in
+      × (m ≡ dimensionAfter b D headNode pre (x .key))) c (places b D (pre ++ x ∷ post)) (parent-unique s pre x post pos deep a o)) in
       kept .links d (λ leads. let u = unique .1 d leads in elsewhere (sym (unique .0) ∙ u .0) (u .1))

@@ -100,15 +100,17 @@ module _ (s : State) (v : Sound s) (key value : ℕ) (positive : 0 < key) (g : G
       Placed (withNew s (g .pre) (newNode (t .n) key value (slotOwes t)) (g .post) position) (t .n)
       (newPlace (s .settings .base) (s .settings .dimensions) (g .pre) (newNode (t .n) key value (slotOwes t)) (g .post))
   unfolding places
-  put-new = record { found = place-at b D headNode 0 headNode 0 (g .pre) x (g .post)
-      (all-left (λ z. z .cell ≡ t .n → ⊥) (headNode ∷ g .pre) (g .post)
-      (subst (λ r. Without (t .n) (headNode ∷ r)) (g .splits) (slot-new s v key positive g f t i))) }
+  put-new = record {
+    found = place-at b D headNode 0 headNode 0 (g .pre) x (g .post)
+        (all-left (λ z. z .cell ≡ t .n → ⊥) (headNode ∷ g .pre) (g .post)
+        (subst (λ r. Without (t .n) (headNode ∷ r)) (g .splits) (slot-new s v key positive g f t i)));
+  }
 
   -- c becomes link q of n, and no other link leads anywhere
   pub put-link :
       (d : ℕ) → d < s .settings .dimensions →
       link (s .settings .base) (s .settings .dimensions) (newPlace (s .settings .base) (s .settings .dimensions) (g .pre)
-          (newNode (t .n) key value (slotOwes t)) (g .post)) d
+      (newNode (t .n) key value (slotOwes t)) (g .post)) d
       ≡ getD (slotLinks (s .settings .dimensions) t) d 0
   put-link d h =
       link-of-new b D pos new d (clear .last) (asc-last headNode (g .pre) (x ∷ g .post) (w .ascends) .1) (clear .own)
@@ -124,7 +126,7 @@ module _ (s : State) (v : Sound s) (key value : ℕ) (positive : 0 < key) (g : G
   pub put-new-words :
       newWords (s .settings .base) (s .settings .dimensions) key value t
       ≡ standingWords (s .settings .base) (s .settings .dimensions) (newPlace (s .settings .base) (s .settings .dimensions) (g .pre)
-          (newNode (t .n) key value (slotOwes t)) (g .post))
+      (newNode (t .n) key value (slotOwes t)) (g .post))
   unfolding newWords standingWords
   put-new-words = same-words (held (slotOwes t) refl) (ap (λ p. cond (slotOwes t) p 0) (i .p-is)) (high-is (slotOwes t) refl) new-links
     where
@@ -179,7 +181,7 @@ module _ (s : State) (v : Sound s) (key value : ℕ) (positive : 0 < key) (g : G
   -- a cell that is not the new one, but for link p of the parent
   pub put-elsewhere :
       (c j : ℕ) → c < s .settings .cells → j < cellWords (s .settings .dimensions) → (t .n ≡ c → ⊥) →
-          (c ≡ t .parent → j ≡ linkField (s .settings .dimensions) (t .p) → ⊥) →
+      (c ≡ t .parent → j ≡ linkField (s .settings .dimensions) (t .p) → ⊥) →
       wordAt (picture (withNew s (g .pre) (newNode (t .n) key value (slotOwes t)) (g .post) position)) c j ≡ wordAt (picture s) c j
   unfolding picture
   put-elsewhere c j below h other elsewhere = at (placeOf c (placesOf now (now .row))) (placeOf c (placesOf s (s .row))) refl refl (both-found c other)
@@ -272,10 +274,10 @@ module _ (s : State) (v : Sound s) (key value : ℕ) (positive : 0 < key) (g : G
           ∙ sym (store-other D written (t .parent) (linkField D (t .p)) (t .n) (t .n) j number h (λ q r. slot-apart s v key positive g f t i q)
           ∙ ap (λ k. getD written (wordIndex D (t .n) k) 0) (sym (zero-add j))
           ∙ cell-sets-inside off-exact (t .n) 0 (newWords b D key value t) (slot-below s v key positive g f t i) (omega (arith, newWords-length)) j
-              (omega (arith, newWords-length))))
+          (omega (arith, newWords-length))))
       at (no ne) (yes m) (yes n) =
           subst₂ (λ y k. getD (picture now) (wordIndex D y k) 0 ≡ getD (store D written (t .parent) (linkField D (t .p)) (t .n)) (wordIndex D y k) 0)
-              (sym m) (sym n)
+          (sym m) (sym n)
           (put-parent ∙ sym (store-same written-exact (t .parent) (linkField D (t .p)) (t .n) (subst (λ y. y < s .settings .cells) m below) number))
       at (no ne) (yes m) (no n) = elsewhere ne (λ e q. n q)
       at (no ne) (no m) n = elsewhere ne (λ e q. m e)
@@ -283,7 +285,7 @@ module _ (s : State) (v : Sound s) (key value : ℕ) (positive : 0 < key) (g : G
   pub put-words :
       picture (withNew s (g .pre) (newNode (t .n) key value (slotOwes t)) (g .post) position)
       ≡ writePath (writeNew (s .settings .base) (s .settings .dimensions) (picture s) key value t)
-          (path (withNew s (g .pre) (newNode (t .n) key value (slotOwes t)) (g .post) position))
+      (path (withNew s (g .pre) (newNode (t .n) key value (slotOwes t)) (g .post) position))
   put-words =
       let exact = exact-set written-exact (wordIndex D (t .parent) (linkField D (t .p))) (t .n) in
       let ws = writeNew b D (picture s) key value t in

@@ -154,7 +154,7 @@ first-next (n ∷ free) = ap (λ t. cond t (firstNumber free) (nextFree n free))
 -- a settled link leads from a node's parent to it, and the link's number is the node's dimension
 pub parent-leads : (s : State) → Sound s → (pre : List Node) (x : Node) (post : List Node) → s .row ≡ pre ++ x ∷ post →
     Settled (picture s) (parentAfter (s .settings .base) (s .settings .dimensions) headNode pre (x .key))
-        (dimensionAfter (s .settings .base) (s .settings .dimensions) headNode pre (x .key)) (x .cell)
+    (dimensionAfter (s .settings .base) (s .settings .dimensions) headNode pre (x .key)) (x .cell)
 unfolding places
 parent-leads s v pre x post split =
     let ascends = subst (Asc 0) split (v .ascends) in
@@ -162,9 +162,9 @@ parent-leads s v pre x post split =
     first-place b D (base-positive s v) (dimensions-positive s v) d headNode 0 headNode 0 pre (x ∷ post) (asc-left 0 pre (x ∷ post) ascends)
     (apart-left (headNode ∷ pre) (x ∷ post) (subst (λ r. Apart (headNode ∷ r)) split (sound-apart s v)))
     (shared-less b D (lastFrom headNode pre .key) (x .key) (dimensions-positive s v)
-        (let h = asc-last headNode pre (x ∷ post) ascends .0 in omega arith)) (λ q. omega arith) in
+    (let h = asc-last headNode pre (x ∷ post) ascends .0 in omega arith)) (λ q. omega arith) in
     let here : Placed s (parentAfter b D headNode pre (x .key)) p = record
-        { found = ap (λ r. placeOf (parentAfter b D headNode pre (x .key)) (places b D r)) split ∙ found } in
+    { found = ap (λ r. placeOf (parentAfter b D headNode pre (x .key)) (places b D r)) split ∙ found } in
     subst (Settled (picture s) (parentAfter b D headNode pre (x .key)) d) (leads p is (placed-ascends v here)) (place-settled v here d)
   where
     b : ℕ
@@ -185,7 +185,7 @@ parent-leads s v pre x post split =
         ap (λ r. cond (leb (p .dimension) d) (firstSharing b D (p .node .key) d r) 0) (is .later-is)
         ∙ ap (λ n. cond (leb (p .dimension) n) (firstSharing b D (p .node .key) n (is .between ++ x ∷ post)) 0) (sym number)
         ∙ settled-leads b D (base-positive s v) (dimensions-positive s v) (p .node) (p .dimension) (is .between) x post
-            (subst (Asc (p .node .key)) (is .later-is) up) (omega (arith, more, number, last)) (omega (arith, low, number))
+        (subst (Asc (p .node .key)) (is .later-is) up) (omega (arith, more, number, last)) (omega (arith, low, number))
 
 -- The slot in a state in order
 
@@ -227,7 +227,7 @@ module _ (s : State) (v : Sound s) (key : ℕ) (positive : 0 < key) (g : Gap key
   pub slot-next : wordAt (picture s) (t .n) 0 ≡ firstNumber (drop 1 (s .free))
   slot-next =
       free-cell-first s (t .n) slot-below (subst (λ c. placeOf c (placesOf s (s .row)) ≡ none) (sym (i .n-is))
-          (first-free-all (λ c. placeOf c (placesOf s (s .row)) ≡ none) (s .free) f (free-found s v)))
+      (first-free-all (λ c. placeOf c (placesOf s (s .row)) ≡ none) (s .free) f (free-found s v)))
       ∙ ap (λ c. nextFree c (s .free)) (i .n-is) ∙ first-next (s .free)
 
   -- c stands, or is 0, the head
@@ -314,6 +314,6 @@ module _ (s : State) (v : Sound s) (key : ℕ) (positive : 0 < key) (g : Gap key
           next =
               subst (λ p. NextUnowing b D key p (g .post)) (i .p-is)
               (next-unowing (g .post) held-by (all-right (λ y. y .cell ≡ t .c → y .owes ≡ false) (g .pre) (g .post)
-                  (subst (All (λ y. y .cell ≡ t .c → y .owes ≡ false)) (g .splits) c-paid)));
+              (subst (All (λ y. y .cell ≡ t .c → y .owes ≡ false)) (g .splits) c-paid)));
           own = slot-owes ∙ ap (λ p. newOwes b D key p (g .post)) (i .p-is);
         }

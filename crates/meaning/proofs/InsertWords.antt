@@ -87,7 +87,7 @@ module _ (s : State) (v : Sound s) (key value : ℕ) (positive : 0 < key) (g : G
 
   pub both-words :
       cond (eqb (t .c) 0) (finishWords (s .settings .dimensions) (picture s) (t .parent))
-          (finishWords (s .settings .dimensions) (finishWords (s .settings .dimensions) (picture s) (t .parent)) (t .c))
+      (finishWords (s .settings .dimensions) (finishWords (s .settings .dimensions) (picture s) (t .parent)) (t .c))
       ≡ picture (bothPaid s t)
   both-words = at (ℕ-discrete (t .c) 0)
     where
@@ -123,7 +123,7 @@ module _ (s : State) (v : Sound s) (key value : ℕ) (positive : 0 < key) (g : G
   c-unowing =
       all-mapped (λ y. y .cell ≡ t .c → y .owes ≡ false) (onCell (t .c) paid) (finished (t .parent) (s .row))
       (all-each (λ y. onCell-cases (λ z. z .cell ≡ t .c → z .owes ≡ false) (t .c) paid y (λ here e. refl) (λ other e. absurd (other e)))
-          (finished (t .parent) (s .row)))
+      (finished (t .parent) (s .row)))
 
   parent-unowing : All (λ y. y .cell ≡ t .parent → y .owes ≡ false) (two .row)
   unfolding finished
@@ -202,7 +202,7 @@ module _ (s : State) (v : Sound s) (key value : ℕ) (positive : 0 < key) (g : G
     where
       at : Dec (t .c ≡ t .parent) → (x ≡ t .c → 3 ≤ j → j < fieldsBeforeCoordinates → ⊥) ×
           ((d : ℕ) → lowAt (picture one) (t .c) ≤ d → d < highAt (picture one) (t .c) → j ≡ linkField D d →
-              (x ≡ t .c → ⊥) × (x ≡ owedAt (picture one) (t .c) → ⊥))
+          (x ≡ t .c → ⊥) × (x ≡ owedAt (picture one) (t .c) → ⊥))
       at (yes e) = absurd (omega (arith, o, ap (owedAt (picture one)) e, finish-own s v (t .parent) parent-stands .0))
       at (no ne) =
           let same = finish-others s v (t .parent) parent-stands (t .c) ne in
@@ -241,7 +241,7 @@ module _ (s : State) (v : Sound s) (key value : ℕ) (positive : 0 < key) (g : G
     new-word j h =
         place-word now-sound here j h
         ∙ ap (λ ws. getD ws j 0) (sym (put-new-words two two-sound key value positive two-gap f t two-slot parent-unowing c-unowing
-            (added s key value t .position) now-sound))
+        (added s key value t .position) now-sound))
 
     new-link : (d : ℕ) → d < D → linkAt (picture now) (t .n) d ≡ getD (slotLinks D t) d 0
     new-link d h = place-link now-sound here d h ∙ put-link two two-sound key value positive two-gap f t two-slot parent-unowing c-unowing
@@ -254,8 +254,12 @@ module _ (s : State) (v : Sound s) (key value : ℕ) (positive : 0 < key) (g : G
 
     owes-as-paid : (x : ℕ) → x < s .settings .cells → (x ≡ t .n → ⊥) → OwesSame (picture two) (picture now) x
     unfolding picture
-    owes-as-paid x below not-n = (elsewhere x 3 below (omega arith) not-n (λ e q. omega arith), elsewhere x 4 below (omega arith) not-n
-        (λ e q. omega arith), elsewhere x 5 below (omega arith) not-n (λ e q. omega arith))
+    owes-as-paid x below not-n = (
+      elsewhere x 3 below (omega arith) not-n (λ e q. omega arith),
+      elsewhere x 4 below (omega arith) not-n
+          (λ e q. omega arith),
+      elsewhere x 5 below (omega arith) not-n (λ e q. omega arith),
+    )
 
     nothing-as-paid : (x : ℕ) → x < s .settings .cells → (x ≡ t .n → ⊥) → OwesNothing (picture two) x → OwesNothing (picture now) x
     nothing-as-paid x below not-n paid = let same = owes-as-paid x below not-n in (same .0 ∙ paid .0, same .1 ∙ paid .1, same .2 ∙ paid .2)
@@ -310,14 +314,14 @@ module _ (s : State) (v : Sound s) (key value : ℕ) (positive : 0 < key) (g : G
           let inside = picture-owing s v (t .parent) parent-stands o .high in
           let paid = finish-finished s v (t .parent) parent-stands o in (
             (λ off. link-as-paid (t .parent) d parent-standing (omega arith) (λ e. off)
-            ∙ finish-unmoved one one-sound (t .c) c-stands (t .parent) j (omega arith)
-            (c-unmoved (t .parent) j (spared (picture s) (t .c) (t .parent) j (λ m. (apart m .not-c, apart m .not-owed))))
-            ∙ paid .given d l h),
+                ∙ finish-unmoved one one-sound (t .c) c-stands (t .parent) j (omega arith)
+                (c-unmoved (t .parent) j (spared (picture s) (t .c) (t .parent) j (λ m. (apart m .not-c, apart m .not-owed))))
+                ∙ paid .given d l h),
             link-as-paid from d (owed-next (picture s) sentences (t .parent) parent-standing o .standing) (omega arith)
-            (λ e. absurd (owed-other (picture s) sentences (t .parent) parent-standing o e))
-            ∙ finish-unmoved one one-sound (t .c) c-stands from j (omega arith)
-            (c-unmoved from j (spared (picture s) (t .c) from j (λ m. (apart m .owed-not-c o, apart m .owed-not-owed o))))
-            ∙ paid .cleared d l h,
+                (λ e. absurd (owed-other (picture s) sentences (t .parent) parent-standing o e))
+                ∙ finish-unmoved one one-sound (t .c) c-stands from j (omega arith)
+                (c-unmoved from j (spared (picture s) (t .c) from j (λ m. (apart m .owed-not-c o, apart m .owed-not-owed o))))
+                ∙ paid .cleared d l h,
           )
 
       -- finishing the parent leaves them to c
@@ -335,11 +339,11 @@ module _ (s : State) (v : Sound s) (key value : ℕ) (positive : 0 < key) (g : G
           let inside = picture-owing one one-sound (t .c) c-stands owes .high in
           let paid = finish-finished one one-sound (t .c) c-stands owes in (
             link-as-paid (t .c) d c-standing (omega arith) (λ e. absurd (a .not-c (sym e)))
-            ∙ paid .given d (omega arith) (omega arith) ∙ ap (λ x. linkAt (picture one) x d) owed-same
-            ∙ finish-unmoved s v (t .parent) parent-stands from j (omega arith)
-            (spared (picture s) (t .parent) from j (λ m. ((λ e. a .not-owed (sym e)), (λ e. a .owed-not-owed m (sym e))))),
+                ∙ paid .given d (omega arith) (omega arith) ∙ ap (λ x. linkAt (picture one) x d) owed-same
+                ∙ finish-unmoved s v (t .parent) parent-stands from j (omega arith)
+                (spared (picture s) (t .parent) from j (λ m. ((λ e. a .not-owed (sym e)), (λ e. a .owed-not-owed m (sym e))))),
             link-as-paid from d (owed-next (picture s) sentences (t .c) c-standing o .standing) (omega arith) (λ e. absurd (a .not-owed (sym e)))
-            ∙ ap (λ x. linkAt (picture two) x d) (sym owed-same) ∙ paid .cleared d (omega arith) (omega arith),
+                ∙ ap (λ x. linkAt (picture two) x d) (sym owed-same) ∙ paid .cleared d (omega arith) (omega arith),
           )
 
     now-inserted : Settled (picture s) (t .parent) (t .p) (t .c) → ((t .c ≡ 0 → ⊥) → t .q ≡ shared b D key (keyAt (picture s) (t .c))) →
@@ -424,7 +428,7 @@ module _ (s : State) (v : Sound s) (key value : ℕ) (positive : 1 ≤ key) (mos
   slot-held =
       let (q, here) = slot-parent-placed s v key positive around f (slotFor s key) slot in
       subst (Settled (picture s) (slotFor s key .parent) (slotFor s key .p))
-          (sym (ap (settledLinkAt (s .settings .base) (s .settings .dimensions) (slotFor s key .p)) (here .found)))
+      (sym (ap (settledLinkAt (s .settings .base) (s .settings .dimensions) (slotFor s key .p)) (here .found)))
       (place-settled v here (slotFor s key .p))
 
   slot-shared : (slotFor s key .c ≡ 0 → ⊥) → slotFor s key .q ≡ shared (s .settings .base) (s .settings .dimensions) key (keyAt (picture s) (slotFor s key .c))
@@ -432,7 +436,7 @@ module _ (s : State) (v : Sound s) (key value : ℕ) (positive : 1 ≤ key) (mos
   slot-shared held =
       let (q, here) = slot-c-placed s v key positive around f (slotFor s key) slot in
       ap (shared (s .settings .base) (s .settings .dimensions) key) (sym (keyOf-other (slotFor s key .c) headNode (s .row) (λ e. held (sym e)))
-          ∙ placed-keyOf here ∙ sym (place-key v here))
+      ∙ placed-keyOf here ∙ sym (place-key v here))
 
   -- which words change, and which cells owe
   pub added-inserted : Inserted (picture s) (picture (added s key value (slotFor s key))) key value (slotFor s key)

@@ -125,17 +125,20 @@ module _ (s : State) (x : Node) (value : ℕ) (v : Sound s) (pre post : List Nod
   revived-apart : Apart (headNode ∷ (map revive pre ++ revive x ∷ map revive post))
   revived-apart =
       let o = sound-apart s v in
-      subst (λ r. Apart (headNode ∷ r)) revived-row (without-changed revive revived-keeping 0 (s .row) (o .0), apart-changed revive revived-keeping
-          (s .row) (o .1))
+      subst (λ r. Apart (headNode ∷ r)) revived-row (
+        without-changed revive revived-keeping 0 (s .row) (o .0),
+        apart-changed revive revived-keeping
+            (s .row) (o .1),
+      )
 
   revived-lowered : Lowered s (x .key) (positionAfter s (x .key) (x .cell) (map revive (s .row))) (map revive (s .row))
   revived-lowered =
       subst (λ r. Lowered s (x .key) (positionAfter s (x .key) (x .cell) r) r) (sym revived-row)
       (subst₂ (λ i c. Lowered s i (positionAfter s i c (map revive pre ++ revive x ∷ map revive post)) (map revive pre ++ revive x ∷ map revive post))
-          (revived-keeping .key x) (revived-keeping .cell x)
+      (revived-keeping .key x) (revived-keeping .cell x)
       (position-lowers s (base-positive s v) (dimensions-positive s v) (map revive pre) (revive x) (map revive post) revived-ascends revived-apart
       (subst (λ r. 0 < occurrences (s .position) (0 ∷ map (λ y. y .cell) r)) revived-row
-          (subst (λ cs. 0 < occurrences (s .position) (0 ∷ cs)) (sym (cells-changed revive revived-keeping (s .row))) (v .position)))
+      (subst (λ cs. 0 < occurrences (s .position) (0 ∷ cs)) (sym (cells-changed revive revived-keeping (s .row))) (v .position)))
       (ap (λ r. keyOf (s .position) (headNode ∷ r)) (sym revived-row) ∙ keyOf-head-changed revive revived-keeping (s .position) (s .row))))
 
   revived-sound-at : Sound (revived s x value)
@@ -148,10 +151,10 @@ module _ (s : State) (x : Node) (value : ℕ) (v : Sound s) (pre post : List Nod
       changed-sound s revive p v revived-keeping
       (λ y h. onCell-cases (λ z. z .owes ≡ false) (x .cell) (revivedNode value) y (λ here. h) (λ other. h))
       (all-map (λ y h. onCell-cases (λ z. z .live ≡ false → z .value ≡ 0) (x .cell) (revivedNode value) y
-          (λ here l. absurd (let z : _≡_ {A = ℕ} 0 1 = cc in omega arith)) (λ other. h)) (s .row) (v .values))
+      (λ here l. absurd (let z : _≡_ {A = ℕ} 0 1 = cc in omega arith)) (λ other. h)) (s .row) (v .values))
       (subst (λ cs. 0 < occurrences p (0 ∷ cs)) (cells-changed revive revived-keeping (s .row)) (revived-lowered .stands))
       (all-zip (λ y only dead l. onCell-cases (λ z. z .live ≡ false) (x .cell) (revivedNode value) y
-          (λ here. absurd (let q = only here in omega arith)) (λ other. dead (omega arith))) (s .row) same-cell (v .dead))
+      (λ here. absurd (let q = only here in omega arith)) (λ other. dead (omega arith))) (s .row) same-cell (v .dead))
 
   -- the parent is that of the settled shape before the call
   pub revived-parent : parentIn s (x .cell) (map (onCell (x .cell) (revivedNode value)) (s .row))
@@ -179,8 +182,16 @@ moved-all P front back c free a =
 moved-occurrences : (n : ℕ) (front back : List ℕ) (c : ℕ) (free : List ℕ) →
     occurrences n ((front ++ c ∷ back) ++ free) ≡ occurrences n ((front ++ back) ++ (c ∷ free))
 moved-occurrences n front back c free =
-    omega (arith, occurrences-append n (front ++ c ∷ back) free, occurrences-append n front (c ∷ back), occurrences-append n (c ∷ [])
-        back, occurrences-append n (front ++ back) (c ∷ free), occurrences-append n front back, occurrences-append n (c ∷ []) free)
+    omega (
+      arith,
+      occurrences-append n (front ++ c ∷ back) free,
+      occurrences-append n front (c ∷ back),
+      occurrences-append n (c ∷ [])
+          back,
+      occurrences-append n (front ++ back) (c ∷ free),
+      occurrences-append n front back,
+      occurrences-append n (c ∷ []) free,
+    )
 
 moved-length : (front back : List ℕ) (c : ℕ) (free : List ℕ) → length ((front ++ c ∷ back) ++ free) ≡ length ((front ++ back) ++ (c ∷ free))
 moved-length front back c free =
@@ -202,8 +213,11 @@ module _ (b D : ℕ) where
   unfolding placesAfter
   debts-behind y x e f [] same a = tt
   debts-behind y x e f (z ∷ post) same a = (
-    λ h. let d = a .0 h in record { later = d .later; unowing = d .unowing;
-        lower = subst (λ i. i < shared b D (z .key) (firstOf post .key)) (same h) (d .lower) },
+    λ h. let d = a .0 h in record {
+      later = d .later;
+      unowing = d .unowing;
+      lower = subst (λ i. i < shared b D (z .key) (firstOf post .key)) (same h) (d .lower);
+    },
     debts-any z (shared b D (y .key) (z .key)) (shared b D (x .key) (z .key)) post (a .1),
   )
 
@@ -211,29 +225,43 @@ module _ (b D : ℕ) where
   -- if it owes, shares as much with x as with the one before.
   debts-put :
       (w : Node) (f : ℕ) (y : Node) (e : ℕ) (pre : List Node) (x : Node) (post : List Node) → lastFrom y pre .owes ≡ false →
-      (x .owes ≡ true → Debt b D (record { node = x; dimension = dimensionAfter b D y pre (x .key); before = lastFrom y pre;
-          beforeDimension = dimensionFrom b D y e pre; later = post })) →
+      (x .owes ≡ true → Debt b D (record {
+        node = x;
+        dimension = dimensionAfter b D y pre (x .key);
+        before = lastFrom y pre;
+        beforeDimension = dimensionFrom b D y e pre;
+        later = post;
+      })) →
       (firstOf post .owes ≡ true → dimensionAfter b D y pre (firstOf post .key) ≡ shared b D (x .key) (firstOf post .key)) →
       All (λ n. n .node .owes ≡ true → Debt b D n) (placesFrom b D w f y e (pre ++ post)) →
-          All (λ n. n .node .owes ≡ true → Debt b D n) (placesFrom b D w f y e (pre ++ x ∷ post))
+      All (λ n. n .node .owes ≡ true → Debt b D n) (placesFrom b D w f y e (pre ++ x ∷ post))
   unfolding placesAfter lastFrom dimensionFrom
-  debts-put w f y e [] x post un own same a = (λ h. absurd (let z : _≡_ {A = ℕ} 0 1 = cc in omega arith),
-      (own, debts-behind y x e (shared b D (y .key) (x .key)) post same (a .1)))
-  debts-put w f y e (z ∷ pre) x post un own same a = (λ h. let d = a .0 h in
-      record { later = omega arith; unowing = d .unowing; lower = d .lower }, debts-put y e z (shared b D (y .key) (z .key)) pre x post un own same
-      (a .1))
+  debts-put w f y e [] x post un own same a = (
+    λ h. absurd (let z : _≡_ {A = ℕ} 0 1 = cc in omega arith),
+    (own, debts-behind y x e (shared b D (y .key) (x .key)) post same (a .1)),
+  )
+  debts-put w f y e (z ∷ pre) x post un own same a = (
+    λ h. let d = a .0 h in
+        record { later = omega arith; unowing = d .unowing; lower = d .lower },
+    debts-put y e z (shared b D (y .key) (z .key)) pre x post un own same
+        (a .1),
+  )
 
 -- a state in order with a node more, in the first free cell, and another position
 pub put-sound :
     (s : State) (x : Node) (free : List ℕ) (p : ℕ) → Sound s → 0 < x .key → x .key ≤ s .settings .largest → (g : Gap (x .key) (s .row)) →
-        s .free ≡ x .cell ∷ free →
+    s .free ≡ x .cell ∷ free →
     (x .live ≡ false → x .value ≡ 0) → lastFrom headNode (g .pre) .owes ≡ false →
     (x .owes ≡ true → Debt (s .settings .base) (s .settings .dimensions)
-        (record { node = x; dimension = dimensionAfter (s .settings .base) (s .settings .dimensions) headNode (g .pre) (x .key);
-        before = lastFrom headNode (g .pre); beforeDimension = dimensionFrom (s .settings .base) (s .settings .dimensions) headNode 0 (g .pre);
-        later = g .post })) →
+    (record {
+      node = x;
+      dimension = dimensionAfter (s .settings .base) (s .settings .dimensions) headNode (g .pre) (x .key);
+      before = lastFrom headNode (g .pre);
+      beforeDimension = dimensionFrom (s .settings .base) (s .settings .dimensions) headNode 0 (g .pre);
+      later = g .post;
+    })) →
     (firstOf (g .post) .owes ≡ true → dimensionAfter (s .settings .base) (s .settings .dimensions) headNode (g .pre) (firstOf (g .post) .key)
-        ≡ shared (s .settings .base) (s .settings .dimensions) (x .key) (firstOf (g .post) .key)) →
+    ≡ shared (s .settings .base) (s .settings .dimensions) (x .key) (firstOf (g .post) .key)) →
     Lowered s (x .key) p (g .pre ++ x ∷ g .post) → Sound (record { settings = s .settings; row = g .pre ++ x ∷ g .post; free = free; position = p })
 unfolding places
 put-sound s x free p v h most g first value un own same lowered =
@@ -318,7 +346,7 @@ slot-not-first b D key p (x ∷ post) h n = at (decLe p (shared b D key (x .key)
 
 debt-last :
     (b D : ℕ) (w : Node) (f : ℕ) (y : Node) (e : ℕ) (pre post : List Node) →
-        All (λ n. n .node .owes ≡ true → Debt b D n) (placesFrom b D w f y e (pre ++ post)) →
+    All (λ n. n .node .owes ≡ true → Debt b D n) (placesFrom b D w f y e (pre ++ post)) →
     lastFrom y pre .owes ≡ true → (0 < length post) × (dimensionFrom b D y e pre < dimensionAfter b D y pre (firstOf post .key))
 unfolding placesAfter lastFrom dimensionFrom
 debt-last b D w f y e [] post a h = let d = a .0 h in (d .later, d .lower)
@@ -335,14 +363,14 @@ owing-parent s v key h g owes =
     let D = s .settings .dimensions in
     let A = lastFrom headNode (g .pre) in
     let t = debt-last b D headNode 0 headNode 0 (g .pre) (g .post) (subst (λ r. All (λ n. n .node .owes ≡ true → Debt b D n) (places b D r))
-        (g .splits) (v .debts)) owes in
+    (g .splits) (v .debts)) owes in
     let low = gap-last h g in
     let high = first-has (λ y. key < y .key) (g .post) (g .above) (t .0) in
     let u = ultra b D (A .key) key (firstOf (g .post) .key) (base-positive s v) (omega arith) (omega arith) in
     let l = t .1 in
     let m = shared-less b D (A .key) key (dimensions-positive s v) (omega arith) in
     last-first b D (base-positive s v) (dimensions-positive s v) (shared b D (A .key) key) headNode 0 (g .pre)
-        (asc-left 0 (g .pre) (g .post) (subst (Asc 0) (g .splits) (v .ascends))) m (omega arith)
+    (asc-left 0 (g .pre) (g .post) (subst (Asc 0) (g .splits) (v .ascends))) m (omega arith)
 
 -- The row with one node more
 
@@ -443,8 +471,13 @@ module _ (s : State) (v : Sound s) (key value : ℕ) (positive : 0 < key) (g : G
           absurd (p .1 (sym (i .parent-is ∙ owing-parent s v key positive g (p .0))))
 
   -- x owes to c, whose debt is finished
-  new-debt : x .owes ≡ true → Debt b D (record { node = x; dimension = dimensionAfter b D headNode front key; before = lastFrom headNode front;
-      beforeDimension = dimensionFrom b D headNode 0 front; later = back })
+  new-debt : x .owes ≡ true → Debt b D (record {
+    node = x;
+    dimension = dimensionAfter b D headNode front key;
+    before = lastFrom headNode front;
+    beforeDimension = dimensionFrom b D headNode 0 front;
+    later = back;
+  })
   unfolding finished
   new-debt owes =
       let two = both (not (eqb (t .c) 0)) (ltb (t .p) (t .q)) owes in
@@ -465,7 +498,7 @@ module _ (s : State) (v : Sound s) (key value : ℕ) (positive : 0 < key) (g : G
       let c = paid-owes (t .c) (onCell (t .parent) paid (firstOf (g .post))) (sym (ap (λ y. y .owes) next-paid) ∙ owes) in
       let stands = first-owes (g .post) (paid-owes (t .parent) (firstOf (g .post)) (c .0) .0) in
       let less = slot-not-first b D key (dimensionAfter b D headNode (g .pre) key) (g .post) stands
-          (λ e. c .1 (paid-keeping (t .parent) .cell (firstOf (g .post)) ∙ e ∙ sym (i .c-is))) in
+      (λ e. c .1 (paid-keeping (t .parent) .cell (firstOf (g .post)) ∙ e ∙ sym (i .c-is))) in
       let low = gap-last positive g in
       let high = first-has (λ y. key < y .key) (g .post) (g .above) stands in
       let u = ultra b D (lastFrom headNode (g .pre) .key) key (firstOf (g .post) .key) (base-positive s v) (omega arith) (omega arith) in
@@ -480,8 +513,8 @@ module _ (s : State) (v : Sound s) (key value : ℕ) (positive : 0 < key) (g : G
   position-old : x .cell ≡ s .position → ⊥
   position-old e =
       let absent = none-occurs (x .cell) (map (λ y. y .cell) (headNode ∷ settled .row))
-          (all-mapped (λ c. x .cell ≡ c → ⊥) (λ y. y .cell) (headNode ∷ settled .row)
-          (all-map (λ y n m. n (sym m)) (headNode ∷ settled .row) new-cell)) in
+      (all-mapped (λ c. x .cell ≡ c → ⊥) (λ y. y .cell) (headNode ∷ settled .row)
+      (all-map (λ y n m. n (sym m)) (headNode ∷ settled .row) new-cell)) in
       let stands = subst (λ c. 0 < occurrences c (map (λ y. y .cell) (headNode ∷ settled .row))) (sym e) (settled-sound .position) in
       omega arith
 
@@ -503,8 +536,12 @@ module _ (s : State) (v : Sound s) (key value : ℕ) (positive : 0 < key) (g : G
       let stands = subst (λ r. 0 < occurrences (s .position) (0 ∷ map (λ y. y .cell) r)) settled-row (settled-sound .position) in
       let l = position-lowers s (base-positive s v) (dimensions-positive s v) front x back new-ascends new-apart (omega arith)
       (keyOf-put (s .position) x (headNode ∷ front) back position-old ∙ ap (λ r. keyOf (s .position) (headNode ∷ r)) (sym settled-row) ∙ both-position s t) in
-      record { stands = l .stands; below = l .below; least = subst (λ k. keyOf (positionAfter s key (t .n) (front ++ x ∷ back))
-          (headNode ∷ (front ++ x ∷ back)) ≤ k) (sym (both-position s t)) (l .least) }
+      record {
+        stands = l .stands;
+        below = l .below;
+        least = subst (λ k. keyOf (positionAfter s key (t .n) (front ++ x ∷ back))
+            (headNode ∷ (front ++ x ∷ back)) ≤ k) (sym (both-position s t)) (l .least);
+      }
 
   pub added-row :
       added s key value t .row

@@ -143,9 +143,11 @@ changed-sound s f p v k paying values position dead =
 -- where no node owes, there is no debt
 pub unowing-debts : (b D : ℕ) (row : List Node) → All (λ x. x .owes ≡ false) row → All (λ n. n .node .owes ≡ true → Debt b D n) (places b D row)
 unfolding places
-unowing-debts b D row a =
-    (λ e. none headNode (headPlace row) refl e, all-map (λ n h e. none (n .node) n h e) (placesAfter b D headNode 0 row)
-        (places-nodes (λ x. x .owes ≡ false) b D headNode 0 row a))
+unowing-debts b D row a = (
+  λ e. none headNode (headPlace row) refl e,
+  all-map (λ n h e. none (n .node) n h e) (placesAfter b D headNode 0 row)
+      (places-nodes (λ x. x .owes ≡ false) b D headNode 0 row a),
+)
   where
     none : (x : Node) (n : Place) → x .owes ≡ false → x .owes ≡ true → Debt b D n
     none x n p q = absurd (let z : _≡_ {A = ℕ} 0 1 = cc in omega arith)

@@ -113,7 +113,7 @@ swept-stands row =
 pub swept-dead : (row : List Node) → Asc 0 row → All (λ x. x .key ≤ lastOf (deadFront row) .key → x .live ≡ false) (keptBy row)
 swept-dead row a =
     last-cases (λ z last. Asc 0 (last ++ later) → All (λ x. x .key ≤ z .key → x .live ≡ false) (last ++ later)) (λ x. x .live ≡ false) (deadFront row)
-        (deadFront-dead row)
+    (deadFront-dead row)
     (λ up. all-map (λ x h l. absurd (omega arith)) later (asc-above 0 later up))
     (λ z q up. (λ l. q, all-map (λ x h l. absurd (omega arith)) later (asc-above (z .key) later (up .1))))
     (kept-asc 0 row a)
@@ -141,5 +141,5 @@ swept-sound s v =
       dead =
           all-mapped (λ x. x .key ≤ keyOf position (headNode ∷ map paid kept) → x .live ≡ false) paid kept
           (subst (λ k. All (λ x. x .key ≤ k → x .live ≡ false) kept) (sym (keyOf-head-changed paid paid-all-keeping position kept ∙ swept-key s v))
-              (swept-dead (s .row) (v .ascends)));
+          (swept-dead (s .row) (v .ascends)));
     }

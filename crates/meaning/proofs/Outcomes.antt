@@ -69,7 +69,7 @@ places-owed s v =
     let D = s .settings .dimensions in
     all-zip (λ p debt later.
     owed-marked (picture s) (p .node .owes) (firstOf (p .later)) (λ o. first-has (λ x. markAt (picture s) (x .cell) ≡ mark (x .live)) (p .later) later
-        (debt o .later)))
+    (debt o .later)))
     (places b D (s .row)) (v .debts) (places-later (λ x. markAt (picture s) (x .cell) ≡ mark (x .live)) b D (s .row) (row-mark-read s v))
 
 -- Refusal 9 comes of no cell of the picture of a state in order
@@ -194,7 +194,7 @@ insert-outcome-full s v key value l h e full =
 
 pub insert-outcome-new : (s : State) → Sound s → (key value : ℕ) → 1 ≤ key → key ≤ s .settings .largest →
     nodeAt key (s .row) ≡ none → 0 < length (s .free) → insertOut (picture s) key value
-        ≡ accepted key 0 (looked s key) (picture (added s key value (slotFor s key)))
+    ≡ accepted key 0 (looked s key) (picture (added s key value (slotFor s key)))
 unfolding insertAt insertNew
 insert-outcome-new s v key value l h e room =
     insert-outcome s v key value l h ∙ ap (insertAt (picture s) s key value) e

@@ -104,8 +104,13 @@ apart-at y (z ∷ pre) x post o = (λ e. all-right (λ t. t .cell ≡ y .cell �
 pub place-at :
     (b D : ℕ) (w : Node) (f : ℕ) (y : Node) (e : ℕ) (pre : List Node) (x : Node) (post : List Node) → Without (x .cell) (y ∷ pre) →
     placeOf (x .cell) (placesFrom b D w f y e (pre ++ x ∷ post)) ≡ some
-        (record { node = x; dimension = dimensionAfter b D y pre (x .key); before = lastFrom y pre; beforeDimension = dimensionFrom b D y e pre;
-        later = post })
+    (record {
+      node = x;
+      dimension = dimensionAfter b D y pre (x .key);
+      before = lastFrom y pre;
+      beforeDimension = dimensionFrom b D y e pre;
+      later = post;
+    })
 unfolding placeOf placesAfter lastFrom dimensionFrom
 place-at b D w f y e [] x post o = rw (ne-eqb (y .cell) (x .cell) (o .0), eq-eqb (x .cell) (x .cell) refl) refl
 place-at b D w f y e (z ∷ pre) x post o = rw (ne-eqb (y .cell) (x .cell) (o .0)) (place-at b D y e z (shared b D (y .key) (z .key)) pre x post (o .1))
@@ -237,7 +242,7 @@ module _ (b D : ℕ) where
           ≤ lastFrom z pre .key
       at (yes g) ih =
           let other : y .cell ≡ firstWith b D key n (z ∷ pre) → ⊥ = first-among (λ c. y .cell ≡ c → ⊥) key n z pre h (λ e. o .0 .0 (sym e))
-              (all-map (λ x k e. k (sym e)) pre (o .0 .1)) in
+          (all-map (λ x k e. k (sym e)) pre (o .0 .1)) in
           rw (first-skips key n y (z ∷ pre) g, ne-eqb (y .cell) (firstWith b D key n (z ∷ pre)) other) ih
       at (no g) ih =
           let l : n ≤ shared b D (y .key) key = omega arith in
@@ -264,7 +269,7 @@ module _ (b D : ℕ) (pos : 0 < b) (deep : 0 < D) where
   -- y has a link to a later x, if y shares more with the node before x than x does
   pub link-leads :
       (y : Node) (pre : List Node) (x : Node) (post : List Node) → Asc (y .key) (pre ++ x ∷ post) →
-          dimensionAfter b D y pre (x .key) < shared b D (y .key) (lastFrom y pre .key) →
+      dimensionAfter b D y pre (x .key) < shared b D (y .key) (lastFrom y pre .key) →
       firstSharing b D (y .key) (dimensionAfter b D y pre (x .key)) (pre ++ x ∷ post) ≡ x .cell
   link-leads y pre x post a h =
       let A = lastFrom y pre in
@@ -272,13 +277,13 @@ module _ (b D : ℕ) (pos : 0 < b) (deep : 0 < D) where
       let r = asc-last y pre (x ∷ post) a .0 in
       let u = ultra b D (y .key) (A .key) (x .key) pos l (omega arith) in
       sharing-skips b D (y .key) (shared b D (A .key) (x .key)) pre (x ∷ post)
-          (all-map (λ z g. omega arith) pre (near y pre (asc-left (y .key) pre (x ∷ post) a)))
+      (all-map (λ z g. omega arith) pre (near y pre (asc-left (y .key) pre (x ∷ post) a)))
       ∙ sharing-hits b D (y .key) (shared b D (A .key) (x .key)) x post (omega arith)
 
   -- and then only this one, and else none
   pub link-from :
       (y : Node) (d : ℕ) (pre : List Node) (x : Node) (post : List Node) → Asc (y .key) (pre ++ x ∷ post) → (x .cell ≡ 0 → ⊥) →
-          Without (x .cell) (pre ++ post) →
+      Without (x .cell) (pre ++ post) →
       firstSharing b D (y .key) d (pre ++ x ∷ post) ≡ x .cell → (d ≡ dimensionAfter b D y pre (x .key)) × (d < shared b D (y .key) (lastFrom y pre .key))
   link-from y d pre x post a nz w e =
       let A = lastFrom y pre in
@@ -301,9 +306,9 @@ module _ (b D : ℕ) (pos : 0 < b) (deep : 0 < D) where
 
   pub settled-from :
       (e : ℕ) (y : Node) (d : ℕ) (pre : List Node) (x : Node) (post : List Node) → Asc (y .key) (pre ++ x ∷ post) → (x .cell ≡ 0 → ⊥) →
-          Without (x .cell) (pre ++ post) →
+      Without (x .cell) (pre ++ post) →
       cond (leb e d) (firstSharing b D (y .key) d (pre ++ x ∷ post)) 0 ≡ x .cell →
-          (e ≤ d) × (d ≡ dimensionAfter b D y pre (x .key)) × (d < shared b D (y .key) (lastFrom y pre .key))
+      (e ≤ d) × (d ≡ dimensionAfter b D y pre (x .key)) × (d < shared b D (y .key) (lastFrom y pre .key))
   settled-from e y d pre x post a nz w q = at (decLe e d) q
     where
       at : Dec (e ≤ d) → cond (leb e d) (firstSharing b D (y .key) d (pre ++ x ∷ post)) 0 ≡ x .cell →
@@ -332,14 +337,14 @@ module _ (b D : ℕ) (pos : 0 < b) (deep : 0 < D) where
   -- The first that shares enough has dimension at most x's, since the one before it shares too little: so its link leads to x.
   leads-first :
       (w : Node) (f : ℕ) (y : Node) (e : ℕ) (pre : List Node) (x : Node) (post : List Node) → Asc (y .key) (pre ++ x ∷ post) → (x .cell ≡ 0 → ⊥) →
-          Without (x .cell) (pre ++ post) →
+      Without (x .cell) (pre ++ post) →
       (dimensionAfter b D y pre (x .key) < shared b D (y .key) (lastFrom y pre .key) → e ≤ dimensionAfter b D y pre (x .key)) →
       leadsTo b D (dimensionAfter b D y pre (x .key)) (x .cell) (placesFrom b D w f y e (pre ++ x ∷ post)) ≡ parentAfter b D y pre (x .key)
   unfolding placesAfter lastFrom
   leads-first w f y e [] x post a nz o i =
       let l = last-shares b D deep y [] x post a in
       leads-here (x .cell) (shared b D (y .key) (x .key)) (record { node = y; dimension = e; before = w; beforeDimension = f; later = x ∷ post })
-          (placesAfter b D y e (x ∷ post)) (settled-leads y e [] x post a l (i l))
+      (placesAfter b D y e (x ∷ post)) (settled-leads y e [] x post a l (i l))
       ∙ sym (first-hits b D (y .key) (suc (shared b D (y .key) (x .key))) y [] l)
   leads-first w f y e (z ∷ pre) x post a nz o i =
       at (decLt d (shared b D (y .key) (A .key))) (leads-first y e z (shared b D (y .key) (z .key)) pre x post (a .1) nz (o .1))
@@ -363,7 +368,7 @@ module _ (b D : ℕ) (pos : 0 < b) (deep : 0 < D) where
           let g = last-least z pre (asc-left (z .key) pre (x ∷ post) (a .1)) in
           let u = ultra b D (y .key) (z .key) (A .key) pos (omega arith) g in
           leads-step (x .cell) d (firstWith b D (A .key) (suc d) (y ∷ z ∷ pre)) p (placesAfter b D y e (p .later))
-              (λ q. let t = settled-from e y d (z ∷ pre) x post a nz o q in h (t .2))
+          (λ q. let t = settled-from e y d (z ∷ pre) x post a nz o q in h (t .2))
           (ih (λ k. omega arith) ∙ sym (first-skips b D (A .key) (suc d) y (z ∷ pre) (omega arith)))
 
   -- No other link leads to x
@@ -373,18 +378,24 @@ module _ (b D : ℕ) (pos : 0 < b) (deep : 0 < D) where
       All (λ p. (d : ℕ) → settledLink b D p d ≡ c → ⊥) (placesAfter b D y e later)
   unfolding placesAfter
   behind-links y e c [] nz o = tt
-  behind-links y e c (z ∷ later) nz o = (λ d q. settled-without (shared b D (y .key) (z .key)) (z .key) d c later nz (o .1) q, behind-links z
-      (shared b D (y .key) (z .key)) c later nz (o .1))
+  behind-links y e c (z ∷ later) nz o = (
+    λ d q. settled-without (shared b D (y .key) (z .key)) (z .key) d c later nz (o .1) q,
+    behind-links z
+        (shared b D (y .key) (z .key)) c later nz (o .1),
+  )
 
   -- after a node that shares more with the one before x than x does, dimensions up to x are larger than x's
   deep-links :
       (y : Node) (e : ℕ) (pre : List Node) (x : Node) (post : List Node) → Asc (y .key) (pre ++ x ∷ post) → (x .cell ≡ 0 → ⊥) →
-          Without (x .cell) (pre ++ post) →
+      Without (x .cell) (pre ++ post) →
       dimensionAfter b D y pre (x .key) < shared b D (y .key) (lastFrom y pre .key) →
-          All (λ p. (d : ℕ) → settledLink b D p d ≡ x .cell → ⊥) (placesAfter b D y e (pre ++ x ∷ post))
+      All (λ p. (d : ℕ) → settledLink b D p d ≡ x .cell → ⊥) (placesAfter b D y e (pre ++ x ∷ post))
   unfolding placesAfter lastFrom
-  deep-links y e [] x post a nz o h = (λ d q. settled-without (shared b D (y .key) (x .key)) (x .key) d (x .cell) post nz o q, behind-links x
-      (shared b D (y .key) (x .key)) (x .cell) post nz o)
+  deep-links y e [] x post a nz o h = (
+    λ d q. settled-without (shared b D (y .key) (x .key)) (x .key) d (x .cell) post nz o q,
+    behind-links x
+        (shared b D (y .key) (x .key)) (x .cell) post nz o,
+  )
   deep-links y e (z ∷ pre) x post a nz o h =
       let l = a .0 in
       let g = last-least z pre (asc-left (z .key) pre (x ∷ post) (a .1)) in
@@ -395,9 +406,9 @@ module _ (b D : ℕ) (pos : 0 < b) (deep : 0 < D) where
 
   unique-from :
       (w : Node) (f : ℕ) (y : Node) (e : ℕ) (pre : List Node) (x : Node) (post : List Node) → Asc (y .key) (pre ++ x ∷ post) → (x .cell ≡ 0 → ⊥) →
-          Without (x .cell) (pre ++ post) →
+      Without (x .cell) (pre ++ post) →
       All (λ p. (d : ℕ) → settledLink b D p d ≡ x .cell → (p .node .cell ≡ parentAfter b D y pre (x .key)) × (d ≡ dimensionAfter b D y pre (x .key)))
-          (placesFrom b D w f y e (pre ++ x ∷ post))
+      (placesFrom b D w f y e (pre ++ x ∷ post))
   unfolding placesAfter lastFrom
   unique-from w f y e [] x post a nz o =
       let l = last-shares b D deep y [] x post a in (
@@ -436,13 +447,16 @@ module _ (b D : ℕ) (pos : 0 < b) (deep : 0 < D) where
       (d : ℕ) (w : Node) (f : ℕ) (y : Node) (e : ℕ) (pre later : List Node) → Asc (y .key) pre → Apart (y ∷ pre) → d < D →
       (d < shared b D (y .key) (lastFrom y pre .key) → e ≤ d) →
       (p : Place) × (placeOf (firstWith b D (lastFrom y pre .key) (suc d) (y ∷ pre)) (placesFrom b D w f y e (pre ++ later)) ≡ some p)
-          × ParentPlace b D d (lastFrom y pre) later p
+      × ParentPlace b D d (lastFrom y pre) later p
   unfolding placeOf placesAfter lastFrom
   first-place d w f y e [] later a o h i =
       let l : d < shared b D (y .key) (y .key) = omega (arith, shared-same b D (y .key)) in
-      let p : Place = record { node = y; dimension = e; before = w; beforeDimension = f; later = later } in
-      (p, rw (first-hits b D (y .key) (suc d) y [] l, eq-eqb (y .cell) (y .cell) refl)
-          refl, record { between = []; later-is = refl; last-is = refl; ascends = tt; low = i l; shares = l })
+      let p : Place = record { node = y; dimension = e; before = w; beforeDimension = f; later = later } in (
+        p,
+        rw (first-hits b D (y .key) (suc d) y [] l, eq-eqb (y .cell) (y .cell) refl)
+            refl,
+        record { between = []; later-is = refl; last-is = refl; ascends = tt; low = i l; shares = l },
+      )
   first-place d w f y e (z ∷ pre) later a o h i =
       at (decLt d (shared b D (y .key) (A .key))) (first-place d y e z (shared b D (y .key) (z .key)) pre later (a .1) (o .1) h)
     where
@@ -457,8 +471,12 @@ module _ (b D : ℕ) (pos : 0 < b) (deep : 0 < D) where
 
       at : Dec (d < shared b D (y .key) (A .key)) → ((d < shared b D (z .key) (A .key) → shared b D (y .key) (z .key) ≤ d) →
           Stands (z ∷ pre) (placesAfter b D y e (y-place .later))) → Stands (y ∷ z ∷ pre) (y-place ∷ placesAfter b D y e (y-place .later))
-      at (yes l) ih = (y-place, rw (first-hits b D (A .key) (suc d) y (z ∷ pre) l, eq-eqb (y .cell) (y .cell) refl)
-          refl, record { between = z ∷ pre; later-is = refl; last-is = refl; ascends = a; low = i l; shares = l })
+      at (yes l) ih = (
+        y-place,
+        rw (first-hits b D (A .key) (suc d) y (z ∷ pre) l, eq-eqb (y .cell) (y .cell) refl)
+            refl,
+        record { between = z ∷ pre; later-is = refl; last-is = refl; ascends = a; low = i l; shares = l },
+      )
       at (no l) ih =
           let k = a .0 in
           let g = last-least z pre (a .1) in
@@ -466,7 +484,7 @@ module _ (b D : ℕ) (pos : 0 < b) (deep : 0 < D) where
           let t = ih (λ m. omega arith) in
           let q : suc d ≤ shared b D (A .key) (A .key) = omega (arith, shared-same b D (A .key)) in
           let other : y .cell ≡ firstWith b D (A .key) (suc d) (z ∷ pre) → ⊥ =
-              first-among b D (λ c. y .cell ≡ c → ⊥) (A .key) (suc d) z pre q (λ r. o .0 .0 (sym r)) (all-map (λ x n r. n (sym r)) pre (o .0 .1)) in
+          first-among b D (λ c. y .cell ≡ c → ⊥) (A .key) (suc d) z pre q (λ r. o .0 .0 (sym r)) (all-map (λ x n r. n (sym r)) pre (o .0 .1)) in
           let m : shared b D (y .key) (A .key) < suc d = omega arith in
           (t .0, rw (first-skips b D (A .key) (suc d) y (z ∷ pre) m, ne-eqb (y .cell) (firstWith b D (A .key) (suc d) (z ∷ pre)) other) (t .1), t .2)
 
@@ -510,7 +528,7 @@ module _ (s : State) (pre : List Node) (x : Node) (post : List Node) (pos : 0 < 
   pub parent-unique :
       All (λ p. (d : ℕ) → settledLink (s .settings .base) (s .settings .dimensions) p d ≡ x .cell →
       (p .node .cell ≡ parentAfter (s .settings .base) (s .settings .dimensions) headNode pre (x .key))
-          × (d ≡ dimensionAfter (s .settings .base) (s .settings .dimensions) headNode pre (x .key)))
+      × (d ≡ dimensionAfter (s .settings .base) (s .settings .dimensions) headNode pre (x .key)))
       (places (s .settings .base) (s .settings .dimensions) (pre ++ x ∷ post))
   unfolding places
   parent-unique =

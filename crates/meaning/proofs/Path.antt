@@ -174,7 +174,7 @@ module _ (b D : ℕ) (pos : 0 < b) (deep : 0 < D) where
       settled-above b D p d (at .low)
       ∙ ap (firstSharing b D (p .node .key) d) (at .later-is)
       ∙ sharing-skips b D (p .node .key) d (at .between) later (all-map (λ z h e. omega arith) (at .between)
-          (near b D pos deep (p .node) (at .between) (at .ascends)))
+      (near b D pos deep (p .node) (at .between) (at .ascends)))
 
   pub parent-shares :
       (d : ℕ) (a : Node) (later : List Node) (p : Place) → ParentPlace b D d a later p → (key : ℕ) → a .key ≤ key →

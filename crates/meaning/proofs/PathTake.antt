@@ -150,5 +150,5 @@ taken-path s x later v e =
     let keeping = dead-keeping (x .cell) in
     path-is (taken s x)
     ∙ ap (pathFor b D (map (onCell (x .cell) deadNode) (s .row))) (keyOf-head-changed (onCell (x .cell) deadNode) keeping (x .cell) (s .row)
-        ∙ taken-key s x later v e)
+    ∙ taken-key s x later v e)
     ∙ pathFor-changed (onCell (x .cell) deadNode) keeping b D (s .row) (x .key)

@@ -32,8 +32,13 @@ pub wordsOf-length : (b D c : ℕ) (free : List ℕ) (x : Option Place) → leng
 unfolding standingWords freeWords wordsOf
 wordsOf-length b D c free none = omega (arith, length-replicate {A = ℕ} (cellWords D - 1) 0)
 wordsOf-length b D c free (some x) =
-    omega (arith, length-append (coordinates b D (x .node .key)) (map (link b D x) (numbersFrom 0 D)), coordinates-length b D
-        (x .node .key), made-length (link b D x) 0 D)
+    omega (
+      arith,
+      length-append (coordinates b D (x .node .key)) (map (link b D x) (numbersFrom 0 D)),
+      coordinates-length b D
+          (x .node .key),
+      made-length (link b D x) 0 D,
+    )
 
 -- the words of cell c in the picture of a state
 abbrev pub shownWords : State → ℕ → List ℕ

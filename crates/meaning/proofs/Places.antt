@@ -155,8 +155,13 @@ pub record Keeping (f : Node → Node) : Type 0 where
 
 -- a place with its nodes changed: dimensions stay
 abbrev pub changedPlace : (Node → Node) → Place → Place
-changedPlace f n = record { node = f (n .node); dimension = n .dimension; before = f (n .before); beforeDimension = n .beforeDimension;
-    later = map f (n .later) }
+changedPlace f n = record {
+  node = f (n .node);
+  dimension = n .dimension;
+  before = f (n .before);
+  beforeDimension = n .beforeDimension;
+  later = map f (n .later);
+}
 
 pub cells-changed : (f : Node → Node) → Keeping f → (row : List Node) → map (λ x. x .cell) (map f row) ≡ map (λ x. x .cell) row
 cells-changed f k [] = refl
@@ -190,15 +195,20 @@ unfolding placesAfter
 placesAfter-changed f k b D a e [] = refl
 placesAfter-changed f k b D a e (x ∷ row) =
     ap {B = List Place} (λ d. record { node = f x; dimension = d; before = f a; beforeDimension = e; later = map f row } ∷ placesAfter b D (f x) d
-        (map f row)) (ap₂ (shared b D) (k .key a) (k .key x))
-    ∙ ap {B = List Place} (λ r. record { node = f x; dimension = shared b D (a .key) (x .key); before = f a; beforeDimension = e;
-        later = map f row } ∷ r) (placesAfter-changed f k b D x (shared b D (a .key) (x .key)) row)
+    (map f row)) (ap₂ (shared b D) (k .key a) (k .key x))
+    ∙ ap {B = List Place} (λ r. record {
+      node = f x;
+      dimension = shared b D (a .key) (x .key);
+      before = f a;
+      beforeDimension = e;
+      later = map f row;
+    } ∷ r) (placesAfter-changed f k b D x (shared b D (a .key) (x .key)) row)
 
 pub places-changed : (f : Node → Node) → Keeping f → (b D : ℕ) (row : List Node) → places b D (map f row) ≡ map (changedPlace f) (places b D row)
 unfolding places
 places-changed f k b D row =
     ap {B = List Place} (λ h. record { node = h; dimension = 0; before = h; beforeDimension = 0; later = map f row } ∷ placesAfter b D h 0
-        (map f row)) (sym (k .head))
+    (map f row)) (sym (k .head))
     ∙ ap {B = List Place} (λ r. changedPlace f (headPlace row) ∷ r) (placesAfter-changed f k b D headNode 0 row)
 
 -- a change of the node of one cell

@@ -62,7 +62,7 @@ walk-is-rule =
     on-lists
     (λ ws. (k : ℕ) → 1 ≤ k → k ≤ largestAt ws → map (keyAt ws) (walk ws k) ≡ rule (baseAt ws) (dimensionsAt ws) (standingKeys ws) k)
     (λ s v k h l. walks.walk-is-rule s v k h l ∙ ap (λ t. rule (s .settings .base) (s .settings .dimensions) (map (λ x. x .key) (t .row)) k)
-        (sym (read-of-picture s v)))
+    (sym (read-of-picture s v)))
 
 pub walk-once : WalkOnce
 unfolding picture
@@ -113,9 +113,11 @@ shape-by-keys-alone ws vs e f d l same settled settled′ x y sx sy k i h =
 pub order-is-lexicographic : OrderIsLexicographic
 order-is-lexicographic ws e x y hx hy =
     let k = list-keys ws e in
-    let a = k .1 in
-    (lexicographic (baseAt ws) (dimensionsAt ws) x y (k .0) (omega arith) (omega arith), coordinates-determine (baseAt ws) (dimensionsAt ws) x y
-        (k .0) (omega arith) (omega arith))
+    let a = k .1 in (
+      lexicographic (baseAt ws) (dimensionsAt ws) x y (k .0) (omega arith) (omega arith),
+      coordinates-determine (baseAt ws) (dimensionsAt ws) x y
+          (k .0) (omega arith) (omega arith),
+    )
 
 pub one-outcome : OneOutcome
 one-outcome Lent o r s one other m n = (m .answered ∙ sym (n .answered), m .left ∙ sym (n .left))
@@ -174,8 +176,11 @@ looked-is-walk ws fresh =
     (λ ws. (key value : ℕ)
     → (answersLooked (insertOut ws key value .answered .refusal) ≡ true → Looks ws key (insertOut ws key value .answered .count))
     × (answersLooked (findOut ws key .answered .refusal) ≡ true → Looks ws key (findOut ws key .answered .count)))
-    (λ s v key value. (λ e. looks s v key (insertOut (picture s) key value) (insert-counts s v key value e), λ e. looks s v key
-        (findOut (picture s) key) (find-counts s v key e)))
+    (λ s v key value. (
+      λ e. looks s v key (insertOut (picture s) key value) (insert-counts s v key value e),
+      λ e. looks s v key
+          (findOut (picture s) key) (find-counts s v key e),
+    ))
     ws
     (book.lists-stay-lists ws fresh)
 

@@ -137,8 +137,12 @@ module _ (b D k : ℕ) (pos : 0 < b) (some : 0 < D) (kfits : k < b ^ D) where
       go (no n) (no s) =
           let u = ultra b D a k x pos h (omega arith) in
           let turned = shared-sym b D k x in
-          rw (lt-ltb a k (omega arith), ne-eqb (shared b D a k) (shared b D a x) (λ e. omega arith), lt-leb (shared b D a k) (shared b D x k)
-              (omega arith)) refl
+          rw (
+            lt-ltb a k (omega arith),
+            ne-eqb (shared b D a k) (shared b D a x) (λ e. omega arith),
+            lt-leb (shared b D a k) (shared b D x k)
+                (omega arith),
+          ) refl
 
   -- no later key shares more with k than the least key above k does
   later-share-less : (x : ℕ) (row : List Node) → k < x → Asc x row → every (λ z. leb (shared b D z k) (shared b D x k)) (keys row) ≡ true
@@ -163,7 +167,7 @@ module _ (b D k : ℕ) (pos : 0 < b) (some : 0 < D) (kfits : k < b ^ D) where
   unfolding every
   most-above a x row h asc =
       rw (le-leb (shared b D (x .key) k) (shared b D (x .key) k) (omega arith), later-share-less (x .key) row h asc)
-          (and-true (leb (shared b D a k) (shared b D (x .key) k)))
+      (and-true (leb (shared b D a k) (shared b D (x .key) k)))
 
   -- not counted yet, from a key a on: a key up to k is not one above k
   fresh-before : (y a : ℕ) (x : Node) (row : List Node) → x .key ≤ k → k < y →

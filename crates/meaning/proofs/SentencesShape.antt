@@ -103,7 +103,7 @@ module _ {s : State} (v : Sound s) where
   placed-compared {p = p} here there =
       placed-has there (λ q. Compared p q)
       (placed-has here (λ p. All (λ q. Compared p q) (placesOf s (s .row)))
-          (places-compared (s .settings .base) (s .settings .dimensions) (s .row) (v .ascends)))
+      (places-compared (s .settings .base) (s .settings .dimensions) (s .row) (v .ascends)))
 
   -- Neighbours
 

@@ -55,9 +55,9 @@ new-uses-first s v key value h l a f =
     let sound = added-sound s key value v h l a f in
     let found =
     all-at (λ x. nodeAt (x .key) (added s key value t .row) ≡ some x) (finished (t .c) (finished (t .parent) (g .pre))) e
-        (finished (t .c) (finished (t .parent) (g .post)))
+    (finished (t .c) (finished (t .parent) (g .post)))
     (subst (All (λ x. nodeAt (x .key) (added s key value t .row) ≡ some x)) (added-row s v key value h g f t i)
-        (node-found 0 (added s key value t .row) (sound .ascends))) in
+    (node-found 0 (added s key value t .row) (sound .ascends))) in
     (e, found, i .n-is)
 
 -- an outcome that is a refusal is not accepted
@@ -73,7 +73,7 @@ new-accepted s v key value a z =
     (λ h l b.
     free-cases s
     (λ f. absurd (refused-not (insertOut (picture s) key value) (refused (noFreeCell key (looked s key)) (picture s)) 5
-        (insert-outcome-full s v key value h l b f) refl z))
+    (insert-outcome-full s v key value h l b f) refl z))
     (λ f. (h, l, f)))
     (λ h l x b. absurd (let q : _≡_ {A = ℕ} 0 1 = cc in omega arith))
 

@@ -45,8 +45,13 @@ gap key low (y ∷ row) a e = at (decLt key (y .key)) (ℕ-discrete (y .key) key
   where
     at : Dec (key < y .key) → Dec (y .key ≡ key) → cond (eqb (y .key) key) (some y) (nodeAt key row) ≡ none → (nodeAt key row ≡ none → Gap key row) →
         Gap key (y ∷ row)
-    at (yes h) eq q ih = record { pre = []; post = y ∷ row; splits = refl; below = tt;
-        above = (h, all-map (λ z l. omega arith) row (asc-above (y .key) row (a .1))) }
+    at (yes h) eq q ih = record {
+      pre = [];
+      post = y ∷ row;
+      splits = refl;
+      below = tt;
+      above = (h, all-map (λ z l. omega arith) row (asc-above (y .key) row (a .1)));
+    }
     at (no h) (yes eq) q ih = absurd (let r : _≡_ {A = Option Node} (some y) none = rw (eq-eqb (y .key) key eq) at q in
         let z : _≡_ {A = ℕ} 0 1 = cc in omega arith)
     at (no h) (no ne) q ih =
@@ -78,8 +83,11 @@ asc-put low x (y ∷ pre) post h a l g = (a .0, asc-put (y .key) x pre post (l .
 pub apart-put : (y : Node) (x : Node) (pre post : List Node) → Apart (y ∷ (pre ++ post)) → Without (x .cell) (y ∷ (pre ++ post)) → Apart (y ∷ (pre ++ x ∷ post))
 apart-put y x [] post o w = ((λ e. w .0 (sym e), o .0), (w .1, o .1))
 apart-put y x (z ∷ pre) post o w = (
-  (o .0 .0, all-append (λ t. t .cell ≡ y .cell → ⊥) pre (x ∷ post) (all-left (λ t. t .cell ≡ y .cell → ⊥) pre post (o .0 .1))
-      (λ e. w .0 (sym e), all-right (λ t. t .cell ≡ y .cell → ⊥) pre post (o .0 .1))),
+  (
+    o .0 .0,
+    all-append (λ t. t .cell ≡ y .cell → ⊥) pre (x ∷ post) (all-left (λ t. t .cell ≡ y .cell → ⊥) pre post (o .0 .1))
+        (λ e. w .0 (sym e), all-right (λ t. t .cell ≡ y .cell → ⊥) pre post (o .0 .1)),
+  ),
   apart-put z x pre post (o .1) (w .1),
 )
 
@@ -158,14 +166,14 @@ module _ (b D : ℕ) (pos : 0 < b) (deep : 0 < D) where
       rw (le-leb (p .dimension) (shared b D (a .key) key) (h .low))
       (ap (firstSharing b D (p .node .key) (shared b D (a .key) key)) (h .later-is)
       ∙ subst (λ z. z .key < key → shared b D (z .key) key < shared b D (p .node .key) (z .key) →
-          firstSharing b D (p .node .key) (shared b D (z .key) key) (h .between ++ post) ≡ cellAfter b D key (shared b D (z .key) key) post)
-          (h .last-is)
+      firstSharing b D (p .node .key) (shared b D (z .key) key) (h .between ++ post) ≡ cellAfter b D key (shared b D (z .key) key) post)
+      (h .last-is)
       (λ m n. slot-held (p .node) (h .between) post key (h .ascends) m g n) l (h .shares))
 
   pub slot-c :
       (key : ℕ) (pre post : List Node) → 0 < key → Asc 0 pre → Apart (headNode ∷ pre) → All (λ y. y .key < key) pre → Asc key post →
       settledLinkAt b D (dimensionAfter b D headNode pre key) (placeOf (parentAfter b D headNode pre key) (places b D (pre ++ post)))
-          ≡ cellAfter b D key (dimensionAfter b D headNode pre key) post
+      ≡ cellAfter b D key (dimensionAfter b D headNode pre key) post
   unfolding settledLinkAt places
   slot-c key pre post h a o l g =
       let A = lastFrom headNode pre in
@@ -184,7 +192,7 @@ slot-key b D key p pre (x ∷ post) o n = at (decLe p (shared b D key (x .key)))
         keyOf (cond (leb p (shared b D key (x .key))) (x .cell) 0) (pre ++ x ∷ post) ≡ x .key
     at (yes h) m =
         let absent = none-occurs (x .cell) (map (λ z. z .cell) pre) (all-mapped (λ c. x .cell ≡ c → ⊥) (λ z. z .cell) pre
-            (all-map (λ z n e. n (sym e)) pre (apart-before pre x post o))) in
+        (all-map (λ z n e. n (sym e)) pre (apart-before pre x post o))) in
         rw (le-leb p (shared b D key (x .key)) h) (keyOf-first (x .cell) pre x post absent refl)
     at (no h) m = absurd (m (rw (lt-leb p (shared b D key (x .key)) (omega arith)) refl))
 
@@ -200,8 +208,13 @@ pub record SlotIs (s : State) (key : ℕ) (pre post : List Node) (t : Slot) : Ty
 pub slot-is : (s : State) → Sound s → (key : ℕ) → 0 < key → (g : Gap key (s .row)) → 0 < length (s .free) → SlotIs s key (g .pre) (g .post) (slotFor s key)
 unfolding slotFor dimensionAt places
 slot-is s v key h g f =
-    record { n-is = refl; p-is = p-is; parent-is = parent; c-is = c-is;
-        q-is = λ ne. ap (shared b D key) (ap₂ keyOf c-is (g .splits) ∙ slot-key b D key p (g .pre) (g .post) (o .1) (λ e. ne (c-is ∙ e))) }
+    record {
+      n-is = refl;
+      p-is = p-is;
+      parent-is = parent;
+      c-is = c-is;
+      q-is = λ ne. ap (shared b D key) (ap₂ keyOf c-is (g .splits) ∙ slot-key b D key p (g .pre) (g .post) (o .1) (λ e. ne (c-is ∙ e)));
+    }
   where
     b : ℕ
     b = s .settings .base
@@ -246,7 +259,7 @@ slot-is s v key h g f =
         ap₂ (λ d c. settledLinkAt b D d (placeOf c (places b D (s .row)))) p-is parent
         ∙ ap (λ r. settledLinkAt b D p (placeOf (parentAfter b D headNode (g .pre) key) (places b D r))) (g .splits)
         ∙ slot-c b D pos deep key (g .pre) (g .post) h (asc-left 0 (g .pre) (g .post) a) (apart-left (headNode ∷ g .pre) (g .post) o) (g .below)
-            (gap-above key (lastFrom headNode (g .pre) .key) (g .post) (asc-last headNode (g .pre) (g .post) a) (g .above))
+        (gap-above key (lastFrom headNode (g .pre) .key) (g .post) (asc-last headNode (g .pre) (g .post) a) (g .above))
 
 -- Changed nodes: a change that keeps cells and keys keeps what is said above
 

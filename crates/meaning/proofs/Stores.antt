@@ -227,8 +227,11 @@ pub moveLinks-field : (D : ℕ) (ws : List ℕ) (n c d k : ℕ) → d + k ≤ D 
     ((m : ℕ) → d ≤ m → m < d + k → j ≡ linkField D m → ⊥) → wordIn D (moveLinks D ws n c d k) x j ≡ wordIn D ws x j
 moveLinks-field D ws n c d k fit x j h other =
     moveLinks-kept D ws n c d k (wordIndex D x j)
-    (λ m l u. (λ e. other m l u (index-apart D x n j (linkField D m) h (omega arith) e .1), λ e. other m l u
-        (index-apart D x c j (linkField D m) h (omega arith) e .1)))
+    (λ m l u. (
+      λ e. other m l u (index-apart D x n j (linkField D m) h (omega arith) e .1),
+      λ e. other m l u
+          (index-apart D x c j (linkField D m) h (omega arith) e .1),
+    ))
 
 -- the words after one link has moved
 abbrev movedLink : ℕ → List ℕ → ℕ → ℕ → ℕ → List ℕ
@@ -354,7 +357,7 @@ module _ {D C : ℕ} {ws : List ℕ} (exact : Exact D C ws) (n : ℕ) (debt : Ow
   finishWords-debt k h =
       finished-as (wordIndex D n (3 + k)) 0
       (cell-sets-inside (exact-moved exact n (owedAt ws n) (lowAt ws n) (highAt ws n - lowAt ws n)) n 3 (0 ∷ 0 ∷ 0 ∷ []) (debt .cell) (omega arith)
-          k h ∙ zeros-at k)
+      k h ∙ zeros-at k)
 
   -- links low to high-1 of n are those that stood in the owed cell
   pub finishWords-given : (i : ℕ) → lowAt ws n ≤ i → i < highAt ws n →

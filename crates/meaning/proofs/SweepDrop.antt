@@ -82,7 +82,7 @@ before-links b D value live p q e j h = at (decLt j fieldsBeforeCoordinates)
 unowing-word : (s : State) → Sound s → All (λ x. x .owes ≡ false) (s .row) → {x : ℕ} {p : Place} → Placed s x p → (j : ℕ) →
     j < cellWords (s .settings .dimensions) →
     wordIn (s .settings .dimensions) (picture s) x j ≡ getD (wordsBy (s .settings .base) (s .settings .dimensions) (p .node .value) (p .node .live)
-        false false p) j 0
+    false false p) j 0
 unowing-word s v unowing {x} {p} here j h =
     let nothing = placed-has here Unowing (unowing-places (s .settings .base) (s .settings .dimensions) (s .row) unowing) in
     placed-word s here j (placed-below v here) h
@@ -171,8 +171,13 @@ reached s front x = dimensionAfter (s .settings .base) (s .settings .dimensions)
 -- x's place before and after
 abbrev placeBefore : State → List Node → Node → List Node → Place
 placeBefore s front x later =
-    record { node = x; dimension = reached s front x; before = lastFrom headNode front;
-        beforeDimension = dimensionFrom (s .settings .base) (s .settings .dimensions) headNode 0 front; later = later }
+    record {
+      node = x;
+      dimension = reached s front x;
+      before = lastFrom headNode front;
+      beforeDimension = dimensionFrom (s .settings .base) (s .settings .dimensions) headNode 0 front;
+      later = later;
+    }
 
 abbrev placeAfter : State → Node → List Node → Place
 placeAfter s x later = record { node = x; dimension = zeros s x; before = headNode; beforeDimension = 0; later = later }
@@ -260,14 +265,14 @@ module _ (s : State) (front : List Node) (x : Node) (later : List Node) (v : Sou
       at (no l) =
           first-skips (s .settings .base) (s .settings .dimensions) (x .key) (suc d) headNode (x ∷ later) (omega arith)
           ∙ first-hits (s .settings .base) (s .settings .dimensions) (x .key) (suc d) x later
-              (omega (arith, shared-same (s .settings .base) (s .settings .dimensions) (x .key)))
+          (omega (arith, shared-same (s .settings .base) (s .settings .dimensions) (x .key)))
           ∙ sym (dropFront-path-position exact pathBefore dropping d (omega arith) h)
 
   -- A cell that is neither the head nor the new position, and is not freed
 
   found-before : (y : ℕ) → (y ≡ 0 → ⊥) → (y ≡ x .cell → ⊥) → All (λ c. y ≡ c → ⊥) (map (λ z. z .cell) front) →
       placeOf y (placesOf (fronted s front x later) (fronted s front x later .row))
-          ≡ placeOf y (placesAfter (s .settings .base) (s .settings .dimensions) x (reached s front x) later)
+      ≡ placeOf y (placesAfter (s .settings .base) (s .settings .dimensions) x (reached s front x) later)
   unfolding places
   found-before y not-head not-x a =
       let b = s .settings .base in
@@ -277,7 +282,7 @@ module _ (s : State) (front : List Node) (x : Node) (later : List Node) (v : Sou
 
   found-after : (y : ℕ) → (y ≡ 0 → ⊥) → (y ≡ x .cell → ⊥) →
       placeOf y (placesOf (dropped s front x later) (dropped s front x later .row))
-          ≡ placeOf y (placesAfter (s .settings .base) (s .settings .dimensions) x (zeros s x) later)
+      ≡ placeOf y (placesAfter (s .settings .base) (s .settings .dimensions) x (zeros s x) later)
   unfolding places lastFrom
   found-after y not-head not-x =
       let b = s .settings .base in
@@ -314,7 +319,7 @@ module _ (s : State) (front : List Node) (x : Node) (later : List Node) (v : Sou
       let chain = reverseAux freed (s .free) in
       let met : 0 < occurrences y chain = omega (arith, within, occurrences-reverseAux y freed (s .free)) in
       let unfound = occurs-has (λ c. placeOf c (placesOf (dropped s front x later) (dropped s front x later .row)) ≡ none) y chain met
-          (free-found (dropped s front x later) w) in
+      (free-found (dropped s front x later) w) in
       picture-place (dropped s front x later) y j h k
       ∙ ap (λ o. getD (wordsOf b D chain y o) j 0) unfound
       ∙ sym (occurs-has (λ c. (i : ℕ) → i < cellWords D → wordIn D (written s front x later) c i ≡ getD (freeWords D (nextFree c chain)) i 0) y freed within
@@ -352,7 +357,7 @@ module _ (s : State) (front : List Node) (x : Node) (later : List Node) (v : Sou
           ∙ kept (λ i g u e. omega arith)
       at (no l) (yes m) =
           let link = path-shifts (s .settings .base) (s .settings .dimensions) pos deep front x later d (v .ascends)
-              (sound-apart (fronted s front x later) v) h in
+          (sound-apart (fronted s front x later) v) h in
           settled-above (s .settings .base) (s .settings .dimensions) (placeAfter s x later) d (omega arith)
           ∙ sym (link .leads)
           ∙ sym (unowing-link (fronted s front x later) v unowing (record { found = link .found }) d h)

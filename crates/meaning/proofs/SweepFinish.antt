@@ -51,7 +51,7 @@ finish-cell s v x below = at (decLt 0 (occurrences x (0 ∷ cells)))
         let apart = subst (All (λ c. x ≡ c → ⊥)) (sym (places-cells (s .settings .base) (s .settings .dimensions) (s .row))) others in
         let unfound : placeOf x (placesOf s (s .row)) ≡ none =
         place-none x (placesOf s (s .row)) (all-map (λ p ne e. ne (sym e)) (placesOf s (s .row))
-            (all-of-map (λ c. x ≡ c → ⊥) (λ p. p .node .cell) (placesOf s (s .row)) apart)) in
+        (all-of-map (λ c. x ≡ c → ⊥) (λ p. p .node .cell) (placesOf s (s .row)) apart)) in
         finishWords-none (s .settings .dimensions) (picture s) x (free-cell-rest s x below unfound 3 (omega arith) (omega arith))
         ∙ ap (λ row. picture (withRow s row)) (sym (finished-none x (s .row) (all-of-map (λ c. x ≡ c → ⊥) (λ y. y .cell) (s .row) (others .1))))
 
@@ -110,7 +110,7 @@ finish-all s v =
     finish-from s v 1 (s .settings .cells - 1) (omega arith)
     ∙ ap (λ row. picture (withRow s row))
     (finished-all 1 (s .settings .cells - 1) (s .row) (all-map (λ y r. let above = r .0 in let below = r .1 in
-        (λ l. absurd (omega arith), omega arith)) (s .row) (row-range s v)))
+    (λ l. absurd (omega arith), omega arith)) (s .row) (row-range s v)))
 
 -- the state then is in order, and no node owes
 pub paid-sound : (s : State) → Sound s → Sound (withRow s (map paid (s .row)))

@@ -47,7 +47,7 @@ module _ (b D : ℕ) (pos : 0 < b) (front : List Node) (x : Node) (later : List 
 -- settled link d of the cell on x's path at d leads to the first later node that shares just d with x
 pub path-shifts :
     (b D : ℕ) → 0 < b → 0 < D → (front : List Node) (x : Node) (later : List Node) (d : ℕ) → Asc 0 (front ++ x ∷ later) →
-        Apart (headNode ∷ (front ++ x ∷ later)) → d < D →
+    Apart (headNode ∷ (front ++ x ∷ later)) → d < D →
     PathLink b D (front ++ x ∷ later) (x .key) d (firstSharing b D (x .key) d later)
 path-shifts b D pos deep front x later d asc apart h =
     let upTo = front ++ x ∷ [] in
@@ -62,7 +62,7 @@ path-shifts b D pos deep front x later d asc apart h =
     alike p at =
         sharing-alike b D (p .node .key) (x .key) d later
         (all-map (λ y k. let shares = at .shares in let u = parent-shares b D pos deep d x later p at (y .key) (omega arith) in
-            (λ e. omega arith, λ e. omega arith))
+        (λ e. omega arith, λ e. omega arith))
         later (asc-larger 0 front x later asc))
 
 -- Leading zeros: what a key shares with the head, coordinate by coordinate

@@ -119,7 +119,7 @@ module _ {s : State} (v : Sound s) where
   kept-above : All (λ y. target s .key ≤ y .key) (keptBy (s .row))
   kept-above =
       last-cases (λ z last. Asc 0 (last ++ later) → All (λ y. z .key ≤ y .key) (last ++ later)) (λ x. x .live ≡ false) (deadFront (s .row))
-          (deadFront-dead (s .row))
+      (deadFront-dead (s .row))
       (λ up. all-map (λ y h. omega arith) later (asc-above 0 later up))
       (λ z q up. (omega arith, all-map (λ y h. omega arith) later (asc-above (z .key) later (up .1))))
       (kept-asc 0 (s .row) (v .ascends))
@@ -250,15 +250,18 @@ module _ {s : State} (v : Sound s) where
 
   words-kept : (x : ℕ) → Standing (picture s) x → (x ≡ 0) ⊎ (keyAt (picture s) (positionAt (picture (swept s))) ≤ keyAt (picture s) x) →
       (keyAt (picture (swept s)) x ≡ keyAt (picture s) x) × ((valueAt (picture (swept s)) x ≡ valueAt (picture s) x)
-          × (markAt (picture (swept s)) x ≡ markAt (picture s) x))
+      × (markAt (picture (swept s)) x ≡ markAt (picture s) x))
   words-kept x stands rest =
       let (p, here) = cell-standing s x stands in
       let stays =
       placed-node here (λ y. (y .cell ≡ 0) ⊎ (target s .key ≤ y .key) → Stays (picture (swept s)) y) (λ r. head-stays) kept-all-stay (is p here rest) in
       let cell = sym (placed-cell here) in (
         ap (keyAt (picture (swept s))) cell ∙ stays .key ∙ sym (place-key v here),
-        (ap (valueAt (picture (swept s))) cell ∙ stays .value ∙ sym (place-value v here), ap (markAt (picture (swept s))) cell ∙ stays .same
-            ∙ sym (place-mark v here)),
+        (
+          ap (valueAt (picture (swept s))) cell ∙ stays .value ∙ sym (place-value v here),
+          ap (markAt (picture (swept s))) cell ∙ stays .same
+              ∙ sym (place-mark v here),
+        ),
       )
     where
       is : (p : Place) → Placed s x p → (x ≡ 0) ⊎ (keyAt (picture s) (positionAt (picture (swept s))) ≤ keyAt (picture s) x) →

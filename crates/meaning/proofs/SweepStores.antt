@@ -109,7 +109,7 @@ module _ {D C : ℕ} {ws : List ℕ} (exact : Exact D C ws) (some : 0 < C) (x z 
   relinkHead-above d h k =
       let there : linkField D d ≡ linkField D z + suc (d - suc z) = omega arith in
       ap (λ j. wordIn D (relinkHead D ws x z) 0 j) there ∙ relinked (suc (d - suc z)) (omega arith)
-          ∙ getD-replicate {A = ℕ} (D - suc z) (d - suc z) 0 0 (omega arith)
+      ∙ getD-replicate {A = ℕ} (D - suc z) (d - suc z) 0 0 (omega arith)
 
 -- A cell that becomes free
 
@@ -330,7 +330,7 @@ module _ {D C : ℕ} {ws : List ℕ} (exact : Exact D C ws) {x number z : ℕ} {
   -- each freed cell
   pub dropFront-freed : (free : List ℕ) → firstFreeAt ws ≡ firstNumber free →
       All (λ y. (j : ℕ) → j < cellWords D → wordIn D (dropFront D ws x number path z between) y j
-          ≡ getD (freeWords D (nextFree y (reverseAux between free))) j 0) between
+      ≡ getD (freeWords D (nextFree y (reverseAux between free))) j 0) between
   unfolding dropFront
   dropFront-freed free e =
       all-map (λ y own j h. path-sets-word D (freeAll D relinkedWords between) (onward D (replicate D 0) z x) head-path y j ∙ own j h) between

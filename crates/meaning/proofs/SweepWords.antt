@@ -55,9 +55,13 @@ unowing-after : (s : State) → All (λ x. x .owes ≡ false) (s .row) → (last
 unfolding swept
 unowing-after s unowing ne =
     let kept = paid-unowing (keptBy (s .row)) (kept-all (λ y. y .owes ≡ false) (s .row) unowing)
-        ∙ ap (λ last. last ++ fromLive (s .row)) (last-alone (deadFront (s .row)) ne) in
-    ap {B = State} (λ row. record { settings = s .settings; row = row; free = reverseAux (map (λ y. y .cell) (freedBy (s .row))) (s .free);
-        position = lastOf (deadFront (s .row)) .cell }) kept
+    ∙ ap (λ last. last ++ fromLive (s .row)) (last-alone (deadFront (s .row)) ne) in
+    ap {B = State} (λ row. record {
+      settings = s .settings;
+      row = row;
+      free = reverseAux (map (λ y. y .cell) (freedBy (s .row))) (s .free);
+      position = lastOf (deadFront (s .row)) .cell;
+    }) kept
 
 module _ (s : State) (v : Sound s) (unowing : All (λ x. x .owes ≡ false) (s .row)) (ne : lastOf (deadFront (s .row)) .cell ≡ 0 → ⊥) where
   sound-before : Sound (fronted s (freedBy (s .row)) (lastOf (deadFront (s .row))) (fromLive (s .row)))
@@ -89,7 +93,7 @@ module _ (s : State) (v : Sound s) (unowing : All (λ x. x .owes ≡ false) (s .
       ap picture (unowing-after s unowing ne)
       ∙ dropped-words s (freedBy (s .row)) x (fromLive (s .row)) sound-before sound-after unowing-before
       ∙ ap₂ (λ row number. dropFront (s .settings .dimensions) (picture (withRow s row)) (x .cell) number
-          (pathFor (s .settings .base) (s .settings .dimensions) row (x .key)) (sweptZeros s) cells)
+      (pathFor (s .settings .base) (s .settings .dimensions) row (x .key)) (sweptZeros s) cells)
       (sym (swept-front (s .row) ne)) (sym number-is)
 
 -- Paid nodes
@@ -168,7 +172,7 @@ front-none s v e = at (deadFront (s .row)) (front-all s v) e
           e,
           all-at (λ y. 0 < y .cell) (dropLast (x ∷ front)) (lastOf (x ∷ front)) []
               (subst (All (λ y. 0 < y .cell)) (sym (last-split (x ∷ front)) ∙ ap (λ last. dropLast (x ∷ front) ++ last) (lastAlone-is x front))
-                  (all-map (λ y h. h .1) (x ∷ front) a)),
+              (all-map (λ y h. h .1) (x ∷ front) a)),
         ))
 
 -- then all keys are above the position's, so the position is the head
@@ -190,8 +194,12 @@ position-none s v e = at (position-cases s v)
     at (inl head) = head
     at (inr found) =
         let above = keys-above (positionKey s) (s .row) (v .ascends) (v .dead) e in
-        absurd (omega (arith, all-at (λ x. positionKey s < x .key) (found .front) (found .node) (found .later)
-            (subst (All (λ x. positionKey s < x .key)) (found .split) above), position-node s v found))
+        absurd (omega (
+          arith,
+          all-at (λ x. positionKey s < x .key) (found .front) (found .node) (found .later)
+              (subst (All (λ x. positionKey s < x .key)) (found .split) above),
+          position-node s v found,
+        ))
 
 -- all is paid, and nothing else changes
 pub swept-stays : (s : State) → Sound s → lastOf (deadFront (s .row)) .cell ≡ 0 → swept s ≡ withRow s (map paid (s .row))
@@ -199,8 +207,8 @@ unfolding swept freedBy lastAlone
 swept-stays s v e =
     let none = front-none s v e in
     let row : map paid (keptBy (s .row)) ≡ map paid (s .row) = ap (map paid)
-        (sym (swept-split (s .row) ∙ ap (λ front. dropLast front ++ keptBy (s .row)) none)) in
+    (sym (swept-split (s .row) ∙ ap (λ front. dropLast front ++ keptBy (s .row)) none)) in
     let free : reverseAux (map (λ x. x .cell) (freedBy (s .row))) (s .free) ≡ s .free =
-        ap (λ front. reverseAux (map (λ x. x .cell) (dropLast front)) (s .free)) none in
+    ap (λ front. reverseAux (map (λ x. x .cell) (dropLast front)) (s .free)) none in
     let position : lastOf (deadFront (s .row)) .cell ≡ s .position = e ∙ sym (position-none s v none) in
     λ i. record { settings = s .settings; row = row i; free = free i; position = position i }

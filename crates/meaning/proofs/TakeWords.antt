@@ -57,7 +57,7 @@ module _ {s : State} (v : Sound s) {c : ℕ} {p : Place} (here : Placed s c p) (
   written-word {x} {q} there j h =
       changed-word s (onCell c g) keeping position there j (placed-below v there) h
       ∙ ap₂ (λ led owes. getD (wordsBy b D (onCell c g (q .node) .value) (onCell c g (q .node) .live) led owes q) j 0) (owes-kept (q .before))
-          (owes-kept (q .node))
+      (owes-kept (q .node))
 
   -- another cell's words stay
   other-kept : (x j : ℕ) → x < s .settings .cells → j < cellWords D → (x ≡ c → ⊥) → wordIn D (picture after) x j ≡ wordIn D (picture s) x j
@@ -68,7 +68,7 @@ module _ {s : State} (v : Sound s) {c : ℕ} {p : Place} (here : Placed s c p) (
       at (some q) e =
           let there : Placed s x q = record { found = e } in
           let same : onCell c g (q .node) ≡ q .node = onCell-cases (λ z. z ≡ q .node) c g (q .node) (λ f. absurd (ne (sym (placed-cell there) ∙ f)))
-              (λ f. refl) in
+          (λ f. refl) in
           written-word there j k
           ∙ ap (λ y. getD (wordsBy b D (y .value) (y .live) (q .before .owes) (q .node .owes) q) j 0) same
           ∙ sym (placed-word s there j h k)
@@ -79,7 +79,7 @@ module _ {s : State} (v : Sound s) {c : ℕ} {p : Place} (here : Placed s c p) (
       let new : onCell c g (p .node) ≡ g (p .node) = onCell-cases (λ z. z ≡ g (p .node)) c g (p .node) (λ e. refl) (λ ne. absurd (ne (placed-cell here))) in
       written-word here j h
       ∙ ap₂ (λ a m. getD (wordsBy b D a m (p .before .owes) (p .node .owes) p) j 0) (ap (λ y. y .value) new ∙ values (p .node))
-          (ap (λ y. y .live) new ∙ marks (p .node))
+      (ap (λ y. y .live) new ∙ marks (p .node))
 
   own-written : (j : ℕ) → j < cellWords D → wordIn D (picture after) c j ≡ wordIn D (writeNode D (picture s) c value (mark live)) c j
   unfolding wordsBy
@@ -136,7 +136,7 @@ revived-path s x value v e h =
     let (pre, post, split) = node-split (x .key) x (s .row) e in
     let keeping = revived-keeping s x value v pre post split in
     path-unmoved (revived s x value) s refl (rw (lt-leb (x .key) (positionKey s) h) refl)
-        (cells-changed (onCell (x .cell) (revivedNode value)) keeping (s .row)) (keys-changed (onCell (x .cell) (revivedNode value)) keeping (s .row))
+    (cells-changed (onCell (x .cell) (revivedNode value)) keeping (s .row)) (keys-changed (onCell (x .cell) (revivedNode value)) keeping (s .row))
 
 pub revived-words-above : (s : State) (x : Node) (value : ℕ) → Sound s → nodeAt (x .key) (s .row) ≡ some x → positionKey s < x .key →
     picture (revived s x value) ≡ writeNode (s .settings .dimensions) (picture s) (x .cell) value 1

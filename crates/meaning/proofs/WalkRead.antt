@@ -88,7 +88,7 @@ module _ (s : State) where
 
   held : (p : Place) → p .node .cell < s .settings .cells →
       placeOf (p .node .cell) (places (s .settings .base) (s .settings .dimensions) (s .row)) ≡ some p →
-          Held (picture s) (s .settings .base) (s .settings .dimensions) p
+      Held (picture s) (s .settings .base) (s .settings .dimensions) p
   unfolding standingWords
   held p h found =
       let b = s .settings .base in
@@ -114,7 +114,7 @@ module _ (s : State) where
       let standing = places (s .settings .base) (s .settings .dimensions) (s .row) in
       all-zip held standing
       (all-places (λ x. x .cell < C) (s .settings .base) (s .settings .dimensions) (s .row) (let h = v .ranges .cells-least in omega arith)
-          (all-map (λ x h. h .1) (s .row) (row-range s v)))
+      (all-map (λ x h. h .1) (s .row) (row-range s v)))
       (place-found s v)
 
 -- Links as they stand.

@@ -149,7 +149,7 @@ take-taken s v z = go (fromLive (s .row)) refl
           marked =
               marked-words s (path (taken s x)) (place-standing v (here .placed))
               (at-live (λ y. keyAt (picture s) (y .cell) ≡ y .key) (s .row) x later e (row-key-read s v)
-                  ∙ ap (λ (p : Outcome (List ℕ)). p .answered .key) (sym o))
+              ∙ ap (λ (p : Outcome (List ℕ)). p .answered .key) (sym o))
               (path-length (taken s x)) (ap (λ (p : Outcome (List ℕ)). p .left) o ∙ taken-words s x later v e);
           live = place-mark v (here .placed) ∙ ap (λ (y : Node). mark (y .live)) (here .node) ∙ ap mark (fromLive-live (s .row) x later e);
           least = λ y stands live. subst (λ (k : ℕ). k ≤ keyAt (picture s) y) (ap (λ (p : Outcome (List ℕ)). p .answered .key) (sym o))
@@ -173,7 +173,7 @@ parent-found s v c t e =
     let parent : positionAt (picture s) ≡ parentAfter b D headNode (t .front) (x .key) =
     e ∙ ap₂ (parentIn s) (sym (t .cell)) (t .split)
     ∙ parent-is s (t .front) x (t .later) (base-positive s v) (dimensions-positive s v) (subst (Asc 0) (t .split) (v .ascends))
-        (subst (λ (r : List Node). Apart (headNode ∷ r)) (t .split) (sound-apart s v)) in
+    (subst (λ (r : List Node). Apart (headNode ∷ r)) (t .split) (sound-apart s v)) in
     record {
       standing = position-standing v;
       number = d;
@@ -190,7 +190,7 @@ revived-leaves s x value v a dead =
     let here = node-has (HasPlace s) (x .key) x (s .row) a (row-placed v) in
     let lowered : x .key ≤ keyAt (picture s) (positionAt (picture s)) → positionAt (picture after) ≡ parentIn after (x .cell) (after .row) =
     λ low. position-is sound ∙ ap (λ t. cond t (parentIn s (x .cell) (after .row)) (s .position))
-        (le-leb (x .key) (positionKey s) (subst (λ (n : ℕ). x .key ≤ n) (position-key-is v) low)) in
+    (le-leb (x .key) (positionKey s) (subst (λ (n : ℕ). x .key ≤ n) (position-key-is v) low)) in
     record {
       cell = x .cell;
       marked =
@@ -223,7 +223,7 @@ revive-revived s v key value stands z =
     (λ h l a. absurd (stands a))
     (λ h l x a. live-cases x
     (λ q. absurd (refused-not (insertOut (picture s) key value) (refused (keyLive key (looked s key)) (picture s)) 4
-        (insert-outcome-live s v key value h l x a q) refl z))
+    (insert-outcome-live s v key value h l x a q) refl z))
     (λ q.
     let k = node-key key x (s .row) a in
     let o = ap (λ (p : Outcome (List ℕ)). p .left) (insert-outcome-dead s v key value h l x a q) in
@@ -235,7 +235,7 @@ unfolding outcome
 revive-writes =
     on-read-lists
     (λ s ws. (key value : ℕ) → (nodeAt key (s .row) ≡ none → ⊥) → insertOut ws key value .answered .refusal ≡ 0 →
-        Revived ws (insertOut ws key value .left) key value)
+    Revived ws (insertOut ws key value .left) key value)
     revive-revived
 
 insert-inserted : (s : State) → Sound s → (key value : ℕ) → nodeAt key (s .row) ≡ none → insertOut (picture s) key value .answered .refusal ≡ 0 →
@@ -243,14 +243,14 @@ insert-inserted : (s : State) → Sound s → (key value : ℕ) → nodeAt key (
 insert-inserted s v key value a z =
     let (h, l, f) = new-accepted s v key value a z in
     subst (λ (us : List ℕ). Inserted (picture s) us key value (slotFor s key))
-        (ap (λ (p : Outcome (List ℕ)). p .left) (sym (insert-outcome-new s v key value h l a f))) (added-inserted s v key value h l a f)
+    (ap (λ (p : Outcome (List ℕ)). p .left) (sym (insert-outcome-new s v key value h l a f))) (added-inserted s v key value h l a f)
 
 pub insert-writes : InsertWrites
 unfolding outcome
 insert-writes =
     on-read-lists
     (λ s ws. (key value : ℕ) → nodeAt key (s .row) ≡ none → insertOut ws key value .answered .refusal ≡ 0 →
-        Inserted ws (insertOut ws key value .left) key value (slotFor s key))
+    Inserted ws (insertOut ws key value .left) key value (slotFor s key))
     insert-inserted
 
 -- the cell of a standing key is one of the row's
@@ -264,7 +264,7 @@ finish-finishes s v key z =
     (λ n. absurd (refused-not (finishOut (picture s) key) (refused badKey (picture s)) 3 (finish-outcome-bad-key s v key n) refl z))
     (λ h l a. absurd (refused-not (finishOut (picture s) key) (refused (keyNotStanding key) (picture s)) 7 (finish-outcome-absent s v key h l a) refl z))
     (λ h l x a. subst (λ (p : Outcome (List ℕ)). Finishes (picture s) (p .left) key (p .answered .count))
-        (sym (finish-outcome-standing s v key h l x a)) (done x a))
+    (sym (finish-outcome-standing s v key h l x a)) (done x a))
   where
     done : (x : Node) → nodeAt key (s .row) ≡ some x → Finishes (picture s) (picture (withRow s (finished (x .cell) (s .row)))) key
         (linksMoved s (placeOf (x .cell) (placesOf s (s .row))))

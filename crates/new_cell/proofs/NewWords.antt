@@ -50,7 +50,7 @@ six-written D ws n key value mark owed low high =
 
 pub owing-written : (D : ℕ) (ws : List ℕ) (n key value : ℕ) (f : Found) → f .p < f .q →
     sets (store D (store D (store D ws n 0 key) n 1 value) n 2 1) (wordIndex D n 3) (f .c ∷ f .p ∷ f .q ∷ [])
-        ≡ sets ws (wordIndex D n 0) (fieldWords key value f)
+    ≡ sets ws (wordIndex D n 0) (fieldWords key value f)
 owing-written D ws n key value f h = rw (lt-ltb (f .p) (f .q) h) (six-written D ws n key value 1 (f .c) (f .p) (f .q))
 
 pub settled-written : (D : ℕ) (ws : List ℕ) (n key value : ℕ) (f : Found) → f .q ≤ f .p →

@@ -107,7 +107,7 @@ line-keeps (line bytes) ws list = at (parsedOf bytes)
         let call = callOf (l .kind) in
         record {
           list = calls-keep-lists call ws list;
-          largest = ap (λ (k : Book). k .largest) (calls-are-booked (call ∷ []) ws list) ∙ kind-largest (l .kind) (length ws) (bookOf ws)
+          largest = ap (λ (k : Book). k .largest) (calls-are-booked (call ∷ []) ws list) ∙ kind-largest (l .kind) (length ws) (bookOf ws);
         }
     at Unreadable = record { list = list; largest = refl }
 

@@ -51,8 +51,13 @@ unfolding saidFrom stepOn isText afterField
 fields-read (last {bytes} {value} field) rest f ends =
     rw (field-read field rest f, ends, front-fields value [] [], append-nil value) refl
 fields-read (more {bytes} {value} {rest = others} {values} field on) rest f ends =
-    rw (append-assoc bytes (comma ∷ others) rest, field-read field (comma ∷ (others ++ rest)) (record { plain = refl; quoted = refl }),
-      fields-read on rest f ends, front-fields value [] values, append-nil value) refl
+    rw (
+      append-assoc bytes (comma ∷ others) rest,
+      field-read field (comma ∷ (others ++ rest)) (record { plain = refl; quoted = refl }),
+      fields-read on rest f ends,
+      front-fields value [] values,
+      append-nil value,
+    ) refl
 
 pub accepts : {bytes : List ℕ} {values : List (List ℕ)} → Record bytes values → saidBy bytes ≡ fields values
 unfolding saidBy saidFrom stepOn isText afterField

@@ -83,7 +83,10 @@ fn stands_in_quotes(byte: u8) -> bool
 fn broken() -> Step
     ensures { λ r. ⌜ r ≡ to Broken NoPart ⌝ }
 {
-    Step { stand: Stand::Broken, adds: Adds::NoPart }
+    Step {
+        stand: Stand::Broken,
+        adds: Adds::NoPart,
+    }
 }
 
 // A byte right after a field.
@@ -91,10 +94,16 @@ fn after_field(byte: u8) -> Step
     ensures { λ r. ⌜ r ≡ afterField byte ⌝ }
 {
     if byte == COMMA {
-        return Step { stand: Stand::AtField, adds: Adds::AField };
+        return Step {
+            stand: Stand::AtField,
+            adds: Adds::AField,
+        };
     }
     if byte == CARRIAGE_RETURN {
-        return Step { stand: Stand::AtReturn, adds: Adds::NoPart };
+        return Step {
+            stand: Stand::AtReturn,
+            adds: Adds::NoPart,
+        };
     }
     broken()
 }
@@ -103,7 +112,10 @@ fn at_field(byte: u8) -> Step
     ensures { λ r. ⌜ r ≡ stepOn AtField byte ⌝ }
 {
     if byte == QUOTE {
-        return Step { stand: Stand::InQuotes, adds: Adds::NoPart };
+        return Step {
+            stand: Stand::InQuotes,
+            adds: Adds::NoPart,
+        };
     }
     in_plain(byte)
 }
@@ -113,7 +125,10 @@ fn in_plain(byte: u8) -> Step
 {
     let text = is_text(byte);
     if text {
-        return Step { stand: Stand::InPlain, adds: Adds::ItsByte };
+        return Step {
+            stand: Stand::InPlain,
+            adds: Adds::ItsByte,
+        };
     }
     after_field(byte)
 }
@@ -122,11 +137,17 @@ fn in_quotes(byte: u8) -> Step
     ensures { λ r. ⌜ r ≡ stepOn InQuotes byte ⌝ }
 {
     if byte == QUOTE {
-        return Step { stand: Stand::AtQuote, adds: Adds::NoPart };
+        return Step {
+            stand: Stand::AtQuote,
+            adds: Adds::NoPart,
+        };
     }
     let itself = stands_in_quotes(byte);
     if itself {
-        return Step { stand: Stand::InQuotes, adds: Adds::ItsByte };
+        return Step {
+            stand: Stand::InQuotes,
+            adds: Adds::ItsByte,
+        };
     }
     broken()
 }
@@ -135,7 +156,10 @@ fn at_quote(byte: u8) -> Step
     ensures { λ r. ⌜ r ≡ stepOn AtQuote byte ⌝ }
 {
     if byte == QUOTE {
-        return Step { stand: Stand::InQuotes, adds: Adds::ItsByte };
+        return Step {
+            stand: Stand::InQuotes,
+            adds: Adds::ItsByte,
+        };
     }
     after_field(byte)
 }
@@ -144,7 +168,10 @@ fn at_return(byte: u8) -> Step
     ensures { λ r. ⌜ r ≡ stepOn AtReturn byte ⌝ }
 {
     if byte == LINE_FEED {
-        return Step { stand: Stand::Closed, adds: Adds::NoPart };
+        return Step {
+            stand: Stand::Closed,
+            adds: Adds::NoPart,
+        };
     }
     broken()
 }

@@ -53,8 +53,7 @@ put-all {before} {after} {at} {r} bytes i p h = subst (λ l. Put before at l aft
 pub put-start :
     {before after : List ℕ} {r : ℕ} {bytes : List ℕ} → Put before 0 bytes after r → r ≤ length before → (take r after ≡ bytes) × (r ≤ length after)
 put-start {before} {r = r} {bytes} p h =
-    let long : length bytes ≡ r = omega (arith, p .end) in
-    (
+    let long : length bytes ≡ r = omega (arith, p .end) in (
       ap (take r) (p .is ∙ sets-eq bytes before 0 (omega (arith, long))) ∙ take-at bytes (drop (0 + length bytes) before) r long,
       omega (arith, h, put-length p),
     )

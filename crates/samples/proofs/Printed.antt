@@ -17,10 +17,9 @@ pub edge-put :
     Put room 0 (checkedText a after) out r → r ≤ length room → (take r out ≡ edgeText D K C n) × (r ≤ length out)
 unfolding edgeText
 edge-put D K C n is met put fits =
-    let bytes = put-start put fits in
-    (
+    let bytes = put-start put fits in (
       bytes .0 ∙ ap₂ checkedText (met .answered) (met .left)
-      ∙ ap (λ (ws : List ℕ). checkedText (setUpOut D K C ws .answered) (setUpOut D K C ws .left)) is,
+          ∙ ap (λ (ws : List ℕ). checkedText (setUpOut D K C ws .answered) (setUpOut D K C ws .left)) is,
       bytes .1,
     )
 

@@ -72,8 +72,13 @@ next-is b D k d pre [] o nz e found = absurd (omega arith)
 next-is b D k d pre (x ∷ post) {c} {to} o nz e found =
     let here : c ≡ x .cell = sym e ∙ slot-first b D k d (x ∷ post) (λ z. omega arith) .1 in
     let at = place-at b D headNode 0 headNode 0 pre x post (apart-before (headNode ∷ pre) x post o) in
-    let same : to ≡ record { node = x; dimension = dimensionAfter b D headNode pre (x .key); before = lastFrom headNode pre;
-        beforeDimension = dimensionFrom b D headNode 0 pre; later = post } = cc in
+    let same : to ≡ record {
+      node = x;
+      dimension = dimensionAfter b D headNode pre (x .key);
+      before = lastFrom headNode pre;
+      beforeDimension = dimensionFrom b D headNode 0 pre;
+      later = post;
+    } = cc in
     ap (λ p. p .node .key) (sym same)
 
 module _ {s : State} (v : Sound s) {k : ℕ} (least : 1 ≤ k) {x : ℕ} {p : Place} (here : Placed s x p)
@@ -89,7 +94,7 @@ module _ {s : State} (v : Sound s) {k : ℕ} (least : 1 ≤ k) {x : ℕ} {p : Pl
   -- the cell in the slot, where k does not stand: where the parent's link leads
   slot-leads : nodeAt k (s .row) ≡ none →
       slotCell s k ≡ firstSharing (s .settings .base) (s .settings .dimensions) (p .node .key)
-          (shared (s .settings .base) (s .settings .dimensions) (p .node .key) k) (p .later)
+      (shared (s .settings .base) (s .settings .dimensions) (p .node .key) k) (p .later)
   unfolding settledLinkAt
   slot-leads absent =
       let b = s .settings .base in

@@ -71,7 +71,7 @@ module _ {k : ℕ} {row pre middle post : List Node} (g : Sides k row pre middle
       ∙ ap₂ _++_ (those-all test pre (all-map (λ y h. lt-ltb (y .key) k h) pre (g .below)))
       (those-none test (middle ++ post)
       (all-append (λ y. test y ≡ false) middle post (all-map (λ y h. le-ltb (y .key) k (omega arith)) middle (g .here))
-          (all-map (λ y h. le-ltb (y .key) k (omega arith)) post (g .above))))
+      (all-map (λ y h. le-ltb (y .key) k (omega arith)) post (g .above))))
       ∙ append-nil pre)
       ∙ last-of pre
 
@@ -84,7 +84,7 @@ module _ {k : ℕ} {row pre middle post : List Node} (g : Sides k row pre middle
       ∙ ap₂ _++_ (those-none test pre (all-map (λ y h. le-ltb k (y .key) (omega arith)) pre (g .below)))
       (those-append test middle post
       ∙ ap₂ _++_ (those-none test middle (all-map (λ y h. le-ltb k (y .key) (omega arith)) middle (g .here)))
-          (those-all test post (all-map (λ y h. lt-ltb k (y .key) h) post (g .above)))))
+      (those-all test post (all-map (λ y h. lt-ltb k (y .key) h) post (g .above)))))
 
 -- The slot of k
 
@@ -140,19 +140,22 @@ module _ (b D : ℕ) (pos : 0 < b) (deep : 0 < D) where
   -- where y and the nodes `pre` are below k and the `rest` is not, each place from which k would hang is the parent
   hung :
       (k : ℕ) (w : Node) (f : ℕ) (y : Node) (e : ℕ) (pre rest : List Node) → y .key < k → Asc (y .key) (pre ++ rest) → All (λ z. z .key < k) pre →
-          All (λ z. k ≤ z .key) rest →
+      All (λ z. k ≤ z .key) rest →
       All (λ p. Hangs b D k p → (dimensionAfter b D y pre k ≡ shared b D (p .node .key) k) × (parentAfter b D y pre k ≡ p .node .cell))
-          (placesFrom b D w f y e (pre ++ rest))
+      (placesFrom b D w f y e (pre ++ rest))
   unfolding placesAfter lastFrom
   hung k w f y e [] rest h a l g = (
-    λ t. (refl, first-hits b D (y .key) (suc (shared b D (y .key) k)) y []
-        (omega (arith, shared-same b D (y .key), shared-less b D (y .key) k deep (omega arith)))),
+    λ t. (
+      refl,
+      first-hits b D (y .key) (suc (shared b D (y .key) k)) y []
+          (omega (arith, shared-same b D (y .key), shared-less b D (y .key) k deep (omega arith))),
+    ),
     all-map (λ p m t. absurd (let low = t .below in omega arith)) (placesAfter b D y e rest) (places-nodes (λ z. k ≤ z .key) b D y e rest g),
   )
   hung k w f y e (z ∷ pre) rest h a l g = (
     λ t.
         let more : shared b D (y .key) k < shared b D (y .key) (A .key) =
-            all-last Nearer z pre (t .between .0) (all-left Nearer pre rest (t .between .1)) low in
+        all-last Nearer z pre (t .between .0) (all-left Nearer pre rest (t .between .1)) low in
         let u = ultra b D (y .key) (A .key) k pos (last-least y (z ∷ pre) ascends) (omega (arith, low)) in
         (omega arith, first-hits b D (A .key) (suc (shared b D (A .key) k)) y (z ∷ pre) (omega arith)),
     all-zip {P = Known} {Q = λ p. Hangs b D k p → Is (z ∷ pre) p} {R = λ p. Hangs b D k p → Is (y ∷ z ∷ pre) p}
@@ -189,7 +192,7 @@ module _ (b D : ℕ) (pos : 0 < b) (deep : 0 < D) where
       known =
           all-zip (λ p m n. (m, n)) (placesAfter b D y e later) (places-nodes (λ x. y .key < x .key) b D y e later (asc-above (y .key) later a))
           (all-zip (λ p m n. (m, n)) (placesAfter b D y e later) (places-nodes (λ x. x .key < k → x .key ≤ A .key) b D y e later reach)
-              (dimension-least b D pos y e later a))
+          (dimension-least b D pos y e later a))
 
       -- y comes before the place p, and so shares too little
       past : (p : Place) → Known p → Hangs b D k p → Is (z ∷ pre) p → Is (y ∷ z ∷ pre) p
@@ -218,5 +221,5 @@ hung-at {s} v {k} h {pre} {middle} {post} g here = placed-has here Is (subst (λ
     all : All Is (places b D (pre ++ (middle ++ post)))
     all =
         hung b D (base-positive s v) (slot.dimensions-positive s v) k headNode 0 headNode 0 pre (middle ++ post) h
-            (subst (Asc 0) (g .splits) (v .ascends)) (g .below)
+        (subst (Asc 0) (g .splits) (v .ascends)) (g .below)
         (all-append (λ z. k ≤ z .key) middle post (all-map (λ z m. omega arith) middle (g .here)) (all-map (λ z m. omega arith) post (g .above)))

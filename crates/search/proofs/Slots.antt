@@ -39,7 +39,7 @@ pub all-stand : (s : State) → Stands s 0 × All (λ x. Stands s (x .cell)) (s 
 all-stand s =
     let cells : List ℕ = 0 ∷ map (λ x. x .cell) (s .row) in
     let all = all-splits (λ c. 0 < occurrences c cells) cells (λ front c later e. let n = ap (occurrences c) e in
-        omega (arith, n, occurrences-between c front later)) in
+    omega (arith, n, occurrences-between c front later)) in
     (all .0, all-of-map (λ c. 0 < occurrences c cells) (λ x. x .cell) (s .row) (all .1))
 
 pub stands-below : {s : State} → Sound s → (c : ℕ) → Stands s c → c < s .settings .cells

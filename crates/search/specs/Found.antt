@@ -44,8 +44,14 @@ slotCell s k = cond (leb (slotNumber s k) (slotShared s k)) (largerThan k (s .ro
 -- A standing key has its own cell in the slot, and shares all D coordinates with it.
 unfoldable pub foundAt : State → ℕ → Option Node → Found
 foundAt s k none =
-    record { standing = false; parent = slotParent s k; p = slotNumber s k; c = slotCell s k; q = cond (eqb (slotCell s k) 0) 0 (slotShared s k);
-        looked = looked s k }
+    record {
+      standing = false;
+      parent = slotParent s k;
+      p = slotNumber s k;
+      c = slotCell s k;
+      q = cond (eqb (slotCell s k) 0) 0 (slotShared s k);
+      looked = looked s k;
+    }
 foundAt s k (some x) =
     record { standing = true; parent = slotParent s k; p = slotNumber s k; c = x .cell; q = s .settings .dimensions; looked = looked s k }
 

@@ -45,8 +45,8 @@ pub record Keyed (ws : List ℕ) (x : ℕ) : Type 0 where
 coordinate-word : (ws : List ℕ) (c d : ℕ) → d < dimensionsAt ws → coordinateAt ws c d ≡ getD (coordinateWords ws c) d 0
 coordinate-word ws c d l =
     ap (λ i. getD ws i 0)
-        (let there : wordIndex (dimensionsAt ws) c (fieldsBeforeCoordinates + d) ≡ wordIndex (dimensionsAt ws) c fieldsBeforeCoordinates + d =
-        omega arith in there)
+    (let there : wordIndex (dimensionsAt ws) c (fieldsBeforeCoordinates + d) ≡ wordIndex (dimensionsAt ws) c fieldsBeforeCoordinates + d =
+    omega arith in there)
     ∙ sym (getD-drop (wordIndex (dimensionsAt ws) c fieldsBeforeCoordinates) ws d 0)
     ∙ sym (getD-take (dimensionsAt ws) (drop (wordIndex (dimensionsAt ws) c fieldsBeforeCoordinates) ws) d 0 l)
 
@@ -133,7 +133,7 @@ module _ (ws : List ℕ) (pos : 0 < baseAt ws) where
   sharing-next x p d [] r h l = refl
   sharing-next x p d (m ∷ met) r h l =
       at (decLt d (m .linkNumber)) (ℕ-discrete (m .linkNumber) d) (r .0 .1)
-          (ultra b D (keyAt ws x) (keyAt ws p) (keyAt ws (m .cell)) pos h (let k = r .0 .0 in omega arith))
+      (ultra b D (keyAt ws x) (keyAt ws p) (keyAt ws (m .cell)) pos h (let k = r .0 .0 in omega arith))
       (λ k. sharing-next x (m .cell) d met (r .1) (let i = r .0 .0 in omega arith) k)
     where
       b : ℕ
@@ -152,7 +152,7 @@ module _ (ws : List ℕ) (pos : 0 < baseAt ws) where
           sharing-hits b D (keyAt ws x) d (nodeIn ws (m .cell)) (rowIn ws met) (omega arith) ∙ sym (next-here d m met q)
       at (no k) (no q) is u more =
           sharing-above b D pos (keyAt ws x) d (nodeIn ws (m .cell)) (rowIn ws met) (let i = r .0 .0 in omega arith) (row-asc ws (m .cell) met (r .1))
-              (omega arith)
+          (omega arith)
           ∙ sym (next-none d m met (omega arith))
 
   -- link d of x

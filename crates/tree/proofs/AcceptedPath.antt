@@ -113,7 +113,7 @@ unfolding firstWith occurrences
 path-met ws pos s [] way t r o a d l = absurd (omega arith)
 path-met ws pos s (m ∷ met) way t r o a d l =
     at (occurs-cases ws (positionAt ws) m met o) (λ later. path-met ws pos (seen ws m s) met (wayOn way (m .cell) (m .linkNumber)) (t .1) (r .1) later
-        (agreed-onward ws way (m .cell) (m .linkNumber) (s .agreed) a) d l)
+    (agreed-onward ws way (m .cell) (m .linkNumber) (s .agreed) a) d l)
   where
     b : ℕ
     b = baseAt ws
@@ -148,7 +148,7 @@ path-met ws pos s (m ∷ met) way t r o a d l =
             rw (lt-ltb d (shared b D x k) (omega arith)) (rw (lt-ltb d (shared b D y k) h, lt-ltb d (m .linkNumber) i) at more)
         go (yes h) (no i) =
             rw (le-ltb d (shared b D x k) (omega arith), le-ltb (shared b D y k) (suc d) (omega arith))
-                (rw (lt-ltb d (shared b D y k) h, le-ltb d (m .linkNumber) (omega arith)) at more)
+            (rw (lt-ltb d (shared b D y k) h, le-ltb d (m .linkNumber) (omega arith)) at more)
         go (no h) i =
             rw (le-ltb d (shared b D x k) (omega arith), lt-ltb (shared b D y k) (suc d) (omega arith)) (rw (le-ltb d (shared b D y k) (omega arith)) at more)
 
@@ -163,7 +163,7 @@ path-met ws pos s (m ∷ met) way t r o a d l =
         (agreed-onward ws way (m .cell) (m .linkNumber) (s .agreed) a d (let n = t .0 .path e in omega arith))
     at (inr n) more =
         past (r .0 .1) (ultra b D x y k pos (let h = r .0 .0 in omega arith)
-            (let h = occurs-above ws (m .cell) (positionAt ws) met (r .1) (n .1) in omega arith)) (more (n .1))
+        (let h = occurs-above ws (m .cell) (positionAt ws) met (r .1) (n .1) in omega arith)) (more (n .1))
 
 -- the position is the head, or one of the cells met
 pub position-met : (ws : List ℕ) (met : List Met) → seenAfter ws (atHead ws) met .reached ≡ true → (positionAt ws ≡ 0) ⊎ Occurs ws (positionAt ws) met

@@ -77,8 +77,13 @@ links-append ws (n ∷ front) m later a front-links links = (
 
 -- what has been seen once a cell is read
 abbrev pub seen : List ℕ → Met → Seen → Seen
-seen ws m s = record { right = true; left = s .left - 1; last = m .cell; agreed = agreedAt ws (m .cell) (m .linkNumber) (s .agreed);
-    reached = s .reached || eqb (m .cell) (positionAt ws) }
+seen ws m s = record {
+  right = true;
+  left = s .left - 1;
+  last = m .cell;
+  agreed = agreedAt ws (m .cell) (m .linkNumber) (s .agreed);
+  reached = s .reached || eqb (m .cell) (positionAt ws);
+}
 
 unfoldable pub seenAfter : List ℕ → Seen → List Met → Seen
 seenAfter ws s [] = s

@@ -95,7 +95,7 @@ module _ (ws : List ℕ) (x y e : ℕ) (o : DebtTested ws x y e) where
       at : Dec (highAt ws y < m .linkNumber) → Dec (m .linkNumber ≡ highAt ws y) → Clear ws y ⊎ OwesTo ws y e m
       at (yes h) q =
           let z : 0 ≡ m .cell = sym (owing-none (m .linkNumber) (levels .0) h) ∙ linked (m .linkNumber) (let k = o .high in omega arith) (levels .0)
-              ∙ next-here (m .linkNumber) m later refl in
+          ∙ next-here (m .linkNumber) m later refl in
           absurd (let p = cells .0 in omega arith)
       at (no h) (yes q) =
           inr (record { owes = ne; owed = leads ∙ next-here (highAt ws y) m later q; low = o .low; high = sym q; lower = let k = o .high in omega arith })

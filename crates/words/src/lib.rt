@@ -46,7 +46,10 @@ pub fn word_index(s: Settings, x: u32, j: u32) -> usize
     requires { ⌜ (s .dimensions ≤ mostDimensions) × ((s .cells ≤ mostCells) × Within s x j) ⌝ }
     ensures { λ r. ⌜ (r ≡ wordIndex (s .dimensions) x j) × (r < 1073741824) ⌝ }
 {
-    HEADER_WORDS + s.dimensions as usize + (x as usize) * Settings::cell_words(s.dimensions) + j as usize
+    HEADER_WORDS
+        + s.dimensions as usize
+        + (x as usize) * Settings::cell_words(s.dimensions)
+        + j as usize
 }
 
 // Word j of cell x.

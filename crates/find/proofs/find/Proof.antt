@@ -58,7 +58,7 @@ returns-5 c =
     let f = c .before .before .before .before .before .before .search in
     c .accepted .ensures
     ∙ find-live (s .pre) (s .args .key) (omega (arith, c .before .before .before .before .before .before .before .before .before .if1 .left))
-        (omega arith) (f .ensures .found) (not-false (f .result .standing) (c .before .before .before .before .if3 .left))
+    (omega arith) (f .ensures .found) (not-false (f .result .standing) (c .before .before .before .before .if3 .left))
     (c .before .before .before .word .ensures) (c .before .before .if4 .left) (c .before .word2 .ensures)
 
 pub find-spec : {M : Type 1} → statement M

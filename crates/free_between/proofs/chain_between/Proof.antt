@@ -30,9 +30,10 @@ returns-2 : tie.Need-returns-2
 returns-2 c =
     let from = c .before .before in
     let other = from .before .before in
-    let next = other .before .before in
-    (from .chain-from .ensures,
-    between-some (next .before .before .before .before .pre) (next .before .head-path .ensures .0) (next .next .ensures) (other .if1 .left))
+    let next = other .before .before in (
+      from .chain-from .ensures,
+      between-some (next .before .before .before .before .pre) (next .before .head-path .ensures .0) (next .next .ensures) (other .if1 .left),
+    )
 
 pub chain-between-spec : {M : Type 1} → statement M
 chain-between-spec =

@@ -16,14 +16,26 @@ returns-2 c =
     bad-key-meets (s .pre) (s .args .key) (s .args .value) (λ least. omega arith) (c .refused2 .ensures)
 
 insert-standing-requires : tie.Need-insert-standing-requires
-insert-standing-requires c κs =
-    (record { list = c .before .before .before .before .before .before .before .before .pre; least = omega arith; most = omega arith;
-        is = c .before .before .search .ensures .found }, c .before .if3 .taken)
+insert-standing-requires c κs = (
+  record {
+    list = c .before .before .before .before .before .before .before .before .pre;
+    least = omega arith;
+    most = omega arith;
+    is = c .before .before .search .ensures .found;
+  },
+  c .before .if3 .taken,
+)
 
 insert-new-requires : tie.Need-insert-new-requires
-insert-new-requires c κs =
-    (record { list = c .before .before .before .before .before .before .before .before .pre; least = omega arith; most = omega arith;
-        is = c .before .before .search .ensures .found }, c .before .if3 .left)
+insert-new-requires c κs = (
+  record {
+    list = c .before .before .before .before .before .before .before .before .pre;
+    least = omega arith;
+    most = omega arith;
+    is = c .before .before .search .ensures .found;
+  },
+  c .before .if3 .left,
+)
 
 pub insert-spec : {M : Type 1} → statement M
 insert-spec =

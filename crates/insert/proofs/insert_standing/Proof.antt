@@ -22,8 +22,8 @@ returns-2 : tie.Need-returns-2
 returns-2 c =
     let s = c .before .before .before .before .before .before .before .before .before in
     leads-meets (dead-leads (s .pre .0) (s .pre .1) (s .args .value)
-        (λ e. c .before .before .before .before .before .if1 .left (c .before .before .before .before .before .before .word .ensures ∙ e)))
-        (c .before .before .before .revive .ensures)
+    (λ e. c .before .before .before .before .before .if1 .left (c .before .before .before .before .before .before .word .ensures ∙ e)))
+    (c .before .before .before .revive .ensures)
     (c .accepted .ensures)
 
 pub insert-standing-spec : {M : Type 1} → statement M

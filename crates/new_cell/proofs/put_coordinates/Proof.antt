@@ -17,7 +17,7 @@ returns : tie.Need-returns
 returns c =
     let s = c .before .before .before .before .before .before .before in
     rw (coordinates-written (s .pre .0) (s .args .n) (s .args .key) (s .pre .1 .0) (c .before .before .before .before .before .word-index .ensures .0)
-        refl (c .before .before .write-coordinates .ensures))
+    refl (c .before .before .write-coordinates .ensures))
     (refl, stores-shaped (s .pre .0) (s .args .n) fieldsBeforeCoordinates (coordinates (s .args .s .base) (s .args .s .dimensions) (s .args .key)))
 
 pub put-coordinates-spec : {M : Type 1} → statement M

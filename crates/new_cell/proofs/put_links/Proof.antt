@@ -26,7 +26,7 @@ returns c =
     let a = start .args in
     let pre = start .pre in
     rw (links-written (pre .0) (pre .1 .0) (at .before .link-field .ensures) (at .word-index .ensures .0) refl (a .q) (a .c)
-        (c .before .before .write-links .ensures))
+    (c .before .before .write-links .ensures))
     (refl, stores-shaped (pre .0) (a .n) (linkField (a .s .dimensions) 0) (newLinks (a .s .dimensions) (a .q) (a .c)))
 
 pub put-links-spec : {M : Type 1} → statement M

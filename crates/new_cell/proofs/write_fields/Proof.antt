@@ -12,9 +12,11 @@ returns c =
     let third = c .before .before .before .before .before .before .before .before .store3 .ensures in
     let second = c .before .before .before .before .before .before .before .before .before .before .before .before .store2 .ensures in
     let first =
-        c .before .before .before .before .before .before .before .before .before .before .before .before .before .before .before .before .store .ensures in
-    (rw (debt .0, third .0, second .0, first .0) (owing-written (a .s .dimensions) (a .list .now) (a .n) (a .key) (a .value) (a .f)
-        (c .before .before .before .before .if1 .taken)), debt .1)
+    c .before .before .before .before .before .before .before .before .before .before .before .before .before .before .before .before .store .ensures in (
+      rw (debt .0, third .0, second .0, first .0) (owing-written (a .s .dimensions) (a .list .now) (a .n) (a .key) (a .value) (a .f)
+          (c .before .before .before .before .if1 .taken)),
+      debt .1,
+    )
 
 returns-2 : tie.Need-returns-2
 returns-2 c =
@@ -23,7 +25,7 @@ returns-2 c =
     let third = c .before .before .before .before .before .before .before .before .store3 .ensures in
     let second = c .before .before .before .before .before .before .before .before .before .before .before .before .store2 .ensures in
     let first =
-        c .before .before .before .before .before .before .before .before .before .before .before .before .before .before .before .before .store .ensures in
+    c .before .before .before .before .before .before .before .before .before .before .before .before .before .before .before .before .store .ensures in
     (rw (debt .0, third .0, second .0, first .0) (settled-written (a .s .dimensions) (a .list .now) (a .n) (a .key) (a .value) (a .f) (omega arith)), debt .1)
 
 pub write-fields-spec : {M : Type 1} → statement M

@@ -15,7 +15,7 @@ returns : tie.Need-returns
 returns c =
     let a = c .before .before .before .before .before .before .before .before .before .before .before .before .args in
     byte-taken (a .line .now) (a .words .now) (c .before .before .before .before .before .before .before .before .feed-byte .ensures)
-        (c .before .before .take-line .ensures)
+    (c .before .before .take-line .ensures)
 
 pub take-byte-spec : {M : Type 1} → statement M
 take-byte-spec =

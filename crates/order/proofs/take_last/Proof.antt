@@ -14,13 +14,13 @@ returns : tie.Need-returns
 returns c =
     let a = c .before .before .before .before .before .before .before .before .args in
     end-words (a .line .now) (a .words .now) (c .before .before .before .before .before .before .before .before .pre .long)
-        (c .before .before .before .before .before .finish .ensures) (c .before .before .before .take-line .ensures)
+    (c .before .before .before .before .before .finish .ensures) (c .before .before .before .take-line .ensures)
 
 returns-2 : tie.Need-returns-2
 returns-2 c =
     let a = c .before .before .before .before .before .before .before .before .args in
     end-words (a .line .now) (a .words .now) (c .before .before .before .before .before .before .before .before .pre .long)
-        (c .before .before .before .before .before .finish .ensures) (c .before .before .before .take-line .ensures)
+    (c .before .before .before .before .before .finish .ensures) (c .before .before .before .take-line .ensures)
 
 pub take-last-spec : {M : Type 1} → statement M
 take-last-spec =

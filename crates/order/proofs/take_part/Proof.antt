@@ -35,9 +35,14 @@ returns c =
 loop-again : tie.Need-loop-again Inv-loop μ-loop
 loop-again c =
     let a = c .before .before .before .before .before .before .before .before .before .before .before .before .before .before .before .args in
-    let v = c .before .before .before .before .before .before .before .before .before .before .before .loop in
-    (search needs, (search needs, one-more-taken (a .part .now) (v .i) (search needs) (v .inv .1 .1)
-        (c .before .before .before .before .before .before .take-byte .ensures)))
+    let v = c .before .before .before .before .before .before .before .before .before .before .before .loop in (
+      search needs,
+      (
+        search needs,
+        one-more-taken (a .part .now) (v .i) (search needs) (v .inv .1 .1)
+            (c .before .before .before .before .before .before .take-byte .ensures),
+      ),
+    )
 
 returns-2 : tie.Need-returns-2 Inv-loop μ-loop
 returns-2 c =

@@ -27,7 +27,7 @@ returns-3 c =
     let a = told .before .before .before .before .before .args in
     let put = c .before .before .put-answer2 .ensures in
     long-line-answered (a .list .now) (put .0) (omega (arith, put .1)) (a .line .now) (told .enum-told2 .given .1)
-        (c .before .before .before .long-line .ensures)
+    (c .before .before .before .long-line .ensures)
 
 pub line-text-spec : {M : Type 1} → statement M
 line-text-spec =

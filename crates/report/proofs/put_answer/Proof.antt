@@ -11,7 +11,7 @@ unfolding answerText
 returns c =
     let a = c .before .before .before .before .before .before .before .before .before .before .before .before .before .before .before .before .before .before .before .before .before .args .a in
     let refusal =
-        c .before .before .before .before .before .before .before .before .before .before .before .before .before .before .before .before .before .put-number .ensures .0 in
+    c .before .before .before .before .before .before .before .before .before .before .before .before .before .before .before .before .before .put-number .ensures .0 in
     let key = c .before .before .before .before .before .before .before .before .before .before .before .before .put-number2 .ensures .0 in
     let value = c .before .before .before .before .before .before .before .put-number3 .ensures .0 in
     let count = c .before .before .put-number4 .ensures .0 in

@@ -12,7 +12,7 @@ returns c =
     let made = c .before .before .before .before .before .before .before in
     let a = made .before .before .before .before .before .before .before .before .args in
     edge-put (a .d) (a .k) (a .c) (length (a .part .now))
-        (made .before .before .before .before .fill .ensures) (made .mdlist-set-up .ensures) (put .0) (omega (arith, put .1))
+    (made .before .before .before .before .fill .ensures) (made .mdlist-set-up .ensures) (put .0) (omega (arith, put .1))
 
 pub edge-text-spec : {M : Type 1} → statement M
 edge-text-spec =

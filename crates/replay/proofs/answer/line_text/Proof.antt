@@ -17,7 +17,7 @@ returns c =
     let n = changed .altered .result in
     let long : length (done .call .last .0) ≡ n = search needs in
     line-answered (a .kind) (take (a .used) (a .words .now)) (changed .altered .ensures) (done .call .ensures .0) (done .call .ensures .1)
-        (search needs) (take-at (done .call .last .0) _ n long) (put .0) (omega (arith, put .1))
+    (search needs) (take-at (done .call .last .0) _ n long) (put .0) (omega (arith, put .1))
 
 pub line-text-spec : {M : Type 1} → statement M
 line-text-spec =

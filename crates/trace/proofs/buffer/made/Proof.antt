@@ -8,8 +8,11 @@ use Rattle.trace.proofs.buffer.made.Tie as tie
 returns : tie.Need-returns
 returns c =
     let s = c .before .before .before .before .before in
-    record { held = search needs; is = made-is (s .args .words .now) _ (s .args .n) (omega (arith, s .pre .room, s .pre .within))
-        (c .before .before .fill .ensures) }
+    record {
+      held = search needs;
+      is = made-is (s .args .words .now) _ (s .args .n) (omega (arith, s .pre .room, s .pre .within))
+          (c .before .before .fill .ensures);
+    }
 
 pub made-spec : {M : Type 1} → statement M
 made-spec =
