@@ -9,11 +9,12 @@ use native.Mathlib.Omega.{arith}
 use lib.ListN.{length, getD, take, replicate, length-replicate}
 use lib.Seq.{take-suc}
 use Rattle.text.specs.Lines.{mostBytes, Handed}
-use Rattle.text.specs.Feeding.{handedBy, handedAtEnd, begunAfterPart, handedByPart, begunIn, toldIn, Ready, Stepped, FeedEnded}
+use Rattle.text.specs.Parts.{begunOver, handedOver}
+use Rattle.text.specs.Feeding.{begunAfter, handedBy, handedAtEnd, begunAfterPart, handedByPart, begunIn, toldIn, Ready, Stepped, FeedEnded}
 use Rattle.text.specs.declared.feed.Feed.{Feed}
 use Rattle.text.specs.declared.feed.Fed.{Fed}
 use Rattle.text.specs.declared.feed.Told.{Told}
-use Rattle.text.proofs.Feeding.{begun-append, handed-append}
+use Rattle.text.proofs.Parts.{begun-append, handed-append}
 use Rattle.meaning.specs.Refusals.{Outcome, Meets, accepted}
 use Rattle.meaning.specs.Operations.{setUpOut}
 use Rattle.meaning.specs.declared.Answer.{Answer}
@@ -48,7 +49,7 @@ end-words buffer ws long finished e = e ∙ ap (λ (hs : List Handed). wordsAfte
 pub byte-taken :
     (before ws : List ℕ) {buffer after : List ℕ} {feed : Feed} {byte : ℕ} {r : Fed} → Stepped before buffer feed byte r →
     after ≡ wordsAfter (toldIn buffer (r .told)) ws → BytesTaken (byte ∷ []) (begunIn before feed) ws buffer (r .feed) after
-unfolding begunAfterPart handedByPart
+unfolding begunOver handedOver
 byte-taken before ws {feed = feed} {byte} step e =
     record {
       ready = step .ready;
@@ -64,7 +65,7 @@ words-append (h ∷ hs) more ws = words-append hs more (lineOutcome h ws .left)
 -- Some bytes, and then more.
 
 pub none-taken : {buffer ws : List ℕ} {feed : Feed} → Ready buffer feed → BytesTaken [] (begunIn buffer feed) ws buffer feed ws
-unfolding begunAfterPart handedByPart wordsAfter
+unfolding begunOver handedOver wordsAfter
 none-taken ready = record { ready = ready; kept = refl; words = refl }
 
 module _ {begun : Handed} {ws before words buffer after : List ℕ} {feed next : Feed} where
@@ -74,12 +75,12 @@ module _ {begun : Handed} {ws before words buffer after : List ℕ} {feed next :
   both-taken bytes more a b =
       record {
         ready = b .ready;
-        kept = b .kept ∙ ap (λ (h : Handed). begunAfterPart h more) (a .kept) ∙ sym (begun-append begun bytes more);
+        kept = b .kept ∙ ap (λ (h : Handed). begunAfterPart h more) (a .kept) ∙ sym (begun-append begunAfter handedBy begun bytes more);
         words =
             b .words ∙ ap (λ (h : Handed). wordsAfter (handedByPart h more) words) (a .kept)
             ∙ ap (wordsAfter (handedByPart (begunAfterPart begun bytes) more)) (a .words)
             ∙ sym (words-append (handedByPart begun bytes) (handedByPart (begunAfterPart begun bytes) more) ws)
-            ∙ ap (λ (hs : List Handed). wordsAfter hs ws) (sym (handed-append begun bytes more));
+            ∙ ap (λ (hs : List Handed). wordsAfter hs ws) (sym (handed-append begunAfter handedBy begun bytes more));
       }
 
   pub one-more-taken :

@@ -5,9 +5,9 @@ use mathlib.Core.Logic.{_⊎_, inl, inr}
 use Prim.Native.Nat.{ℕ, _<_}
 use native.Mathlib.Decide.{ℕ-discrete, decLt}
 use native.Mathlib.Omega.{arith}
-use Rattle.lines.specs.Grammar.{InRange, entryKey}
-use Rattle.lines.specs.Promises.{KeyTellsEntry, KeyWithin, Before, KeyOrder, PlainOrder}
-use Rattle.lines.specs.declared.Entry.{Entry}
+use Rattle.entries.specs.Entries.{InRange, entryKey}
+use Rattle.entries.specs.Promises.{KeyTellsEntry, KeyWithin, Before, KeyOrder, PlainOrder}
+use Rattle.entries.specs.declared.Entry.{Entry}
 
 pub key-within : KeyWithin
 key-within e i = (omega (arith, i .unit-least), omega (arith, i .class-most, i .unit-most, i .serial-most))

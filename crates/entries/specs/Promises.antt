@@ -3,8 +3,8 @@ use mathlib.Core.Path.{_≡_}
 use mathlib.Core.Logic.{_↔_, _⊎_}
 use Prim.Native.Nat.{ℕ, _+_, _*_, _≤_, _<_}
 use Rattle.settings.specs.Numbers.{mostLargest}
-use Rattle.lines.specs.Grammar.{InRange, keysPerUnit, entryKey}
-use Rattle.lines.specs.declared.Entry.{Entry}
+use Rattle.entries.specs.Entries.{InRange, keysPerUnit, entryKey}
+use Rattle.entries.specs.declared.Entry.{Entry}
 
 -- two entries in range with the same key are the same entry
 abbrev pub KeyTellsEntry : Type 0
