@@ -3,13 +3,13 @@ use mathlib.Core.List.{List, [], _∷_}
 use Prim.Native.Nat.{ℕ}
 use Rattle.meaning.specs.Refusals.{Outcome}
 use Rattle.meaning.specs.Operations.{setUpOut, insertOut, findOut, finishOut, takeOut, sweepOut}
-use Rattle.meaning.specs.Records.{Lent, recordOut}
+use Rattle.meaning.specs.Records.{Lent, lentOf, recordOut}
 use Rattle.meaning.specs.declared.Call.{Call}
 use Rattle.meaning.specs.declared.Call.the-variants.{SetUp, Insert, Find, Finish, Take, Sweep, Record}
 
 -- an outcome on the words alone: what else was lent stays as it is
 abbrev pub onWords : Lent → Outcome (List ℕ) → Outcome Lent
-onWords lent o = record { answered = o .answered; left = record { words = o .left; bytes = lent .bytes; last = lent .last } }
+onWords lent o = record { answered = o .answered; left = lentOf (o .left) (lent .bytes) (lent .last) }
 
 -- the outcome of one call
 unfoldable pub outcome : Call → Lent → Outcome Lent
@@ -32,7 +32,7 @@ abbrev pub alone : Call → Made
 alone call = record { call = call; bytes = []; last = 0 }
 
 abbrev pub lending : Made → List ℕ → Lent
-lending made ws = record { words = ws; bytes = made .bytes; last = made .last }
+lending made ws = lentOf ws (made .bytes) (made .last)
 
 -- the outcome of a call as it is made on the words of a buffer
 abbrev pub madeOn : Made → List ℕ → Outcome Lent

@@ -24,6 +24,9 @@ pub record Lent : Type 0 where
   pub bytes : List ℕ
   pub last : ℕ
 
+abbrev pub lentOf : List ℕ → List ℕ → ℕ → Lent
+lentOf words bytes last = record { words = words; bytes = bytes; last = last }
+
 -- What a record asks for: nothing, for refusal 13 or 14; or that a key be inserted with its full number as the value.
 pub data Asked : Type 0 where
   nothing : Refusal → Asked
@@ -40,10 +43,7 @@ noteAsks last NoNote = nothing badRecord
 -- An accepted record makes the last number its full number; a refused one alters neither list nor number.
 abbrev pub recorded : Lent → ℕ → Outcome (List ℕ) → Outcome Lent
 recorded lent number o =
-    record {
-      answered = o .answered;
-      left = record { words = o .left; bytes = lent .bytes; last = cond (eqb (o .answered .refusal) 0) number (lent .last) };
-    }
+    record { answered = o .answered; left = lentOf (o .left) (lent .bytes) (cond (eqb (o .answered .refusal) 0) number (lent .last)) }
 
 abbrev pub askedOut : Lent → Asked → Outcome Lent
 askedOut lent (nothing refusal) = refused refusal lent
