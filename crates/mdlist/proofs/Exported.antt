@@ -19,13 +19,15 @@ pub words-meets :
     {o : Outcome (List ℕ)} {r : Answer} {us : List ℕ} (lent : Lent) → Meets o r us → Meets (onWords lent o) r (lentOf us (lent .bytes) (lent .last))
 words-meets lent meets = record { answered = meets .answered; left = λ i. lentOf (meets .left i) (lent .bytes) (lent .last) }
 
--- a record on words that are no list
-pub no-record-meets :
-    {r : Answer} (lent : Lent) → readingOf (lent .words) ≡ NotAList → r ≡ answer 3 0 0 0 → Meets (recordOut lent) r lent
-unfolding recordOut noteOut
-no-record-meets lent none answers =
-    let o = ap (noteOn lent (noteBy (lent .bytes))) none in
-    record { answered = answers ∙ sym (ap (λ (p : Outcome Lent). p .answered) o); left = sym (ap (λ (p : Outcome Lent). p .left) o) }
+-- a note on words that are no list
+pub no-note-meets :
+    {ws : List ℕ} {last : ℕ} {r : Answer} (logged : Logged) → readingOf ws ≡ NotAList → r ≡ answer 3 0 0 0 → Noted logged ws last r ws last
+unfolding noteOut
+no-note-meets {ws} {last} logged none answers =
+    record { meets = λ bytes.
+      let o = ap (noteOn (lentOf ws bytes last) logged) none in
+      record { answered = answers ∙ sym (ap (λ (p : Outcome Lent). p .answered) o); left = sym (ap (λ (p : Outcome Lent). p .left) o) }
+    }
 
 -- a record that is read notes what its bytes say
 pub record-meets :

@@ -1,6 +1,8 @@
 // The waiting list as a Rust host calls it: seven operations by number and slice. Each is a thin exported function: it checks that the
 // lent words are a list, refuses by number 3 if they are not, and calls the inner function of the crate of its name. No one has a
 // `requires`, and each contract is the whole outcome of the call (docs/REFERENCE.md): the four numbers, every word, and the last number.
+ghost use Rattle.records.specs.Notes.{Within};
+ghost use Rattle.insert_record.specs.Noted.{Noted};
 ghost use Rattle.meaning.specs.Refusals.{Meets};
 ghost use Rattle.meaning.specs.Operations.{setUpOut, insertOut, findOut, finishOut, takeOut, sweepOut};
 ghost use Rattle.meaning.specs.Records.{lentOf, recordOut};
@@ -8,6 +10,7 @@ ghost use Rattle.meaning.specs.Calls.{outcome};
 use meaning::Answer;
 use meaning::Call;
 use meaning::Reading;
+use records::note::Logged;
 
 // Makes the lent words a fresh list with D dimensions, largest key K and C cells.
 #[no_mangle]
@@ -77,10 +80,18 @@ pub extern "C" fn mdlist_sweep(list: &mut [u32]) -> Answer
 pub extern "C" fn mdlist_record(list: &mut [u32], record: &[u8], last: &mut u64) -> Answer
     ensures { λ r. ⌜ Meets (recordOut (lentOf (now (list .entry)) (now («record» .entry)) (now (last .entry)))) r (lentOf (now (list .exit)) (now («record» .entry)) (now (last .exit))) ⌝ }
 {
+    enter(list, records::note::note_by(record), last)
+}
+
+// Puts a note into the list: what a record does once it is read.
+pub fn enter(list: &mut [u32], logged: Logged, last: &mut u64) -> Answer
+    requires { ⌜ Within logged ⌝ }
+    ensures { λ r. ⌜ Noted logged (now (list .entry)) (now (last .entry)) r (now (list .exit)) (now (last .exit)) ⌝ }
+{
     let Reading::IsList(s) = is_list::is_list(list) else {
         return meaning::refused(meaning::NOT_A_LIST);
     };
-    insert_record::insert_record(list, s, records::note::note_by(record), last)
+    insert_record::insert_record(list, s, logged, last)
 }
 
 // Makes a call: for programs that read calls and make them one after the other. A call that is no record leaves the bytes unread.

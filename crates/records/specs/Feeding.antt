@@ -4,7 +4,7 @@ use mathlib.Core.Bool.{Bool, true, false, cond}
 use mathlib.Core.List.{List, [], _∷_, _++_}
 use Prim.Native.Nat.{ℕ}
 use Rattle.text.specs.Parts.{begunOver, handedOver, handedOverAll}
-use Rattle.records.specs.Notes.{noteBy}
+use Rattle.records.specs.Notes.{noteBy, Within}
 use Rattle.records.specs.Reader.{readerFrom, readerAfter}
 use Rattle.records.specs.Export.{evenQuotes, endsInReturn, closes}
 use Rattle.records.specs.declared.note.Logged.{Logged}
@@ -51,6 +51,11 @@ feedOf begun = record { reader = readerAfter readerFrom begun; even = evenQuotes
 abbrev pub toldIn : Told → List Logged
 toldIn NoRecord = []
 toldIn (Record logged) = logged ∷ []
+
+-- what is told of is in range
+abbrev pub ToldWithin : Told → Type 0
+ToldWithin NoRecord = Unit {0}
+ToldWithin (Record logged) = Within logged
 
 -- A byte takes a feed one step on, whatever record is begun.
 pub record Stepped (feed : Feed) (byte : ℕ) (r : Fed) : Type 0 where

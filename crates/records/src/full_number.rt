@@ -10,6 +10,9 @@ pub enum FullNumber {
     Outside,
 }
 
+// A last number that says that no record has been accepted yet: one above all that fit.
+pub const NO_NUMBER: u64 = 4294967296;
+
 const NUMBERS_PER_ROUND: u64 = 65536;
 
 // A difference below it counts forward.

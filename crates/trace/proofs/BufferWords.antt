@@ -21,8 +21,8 @@ made-is ws post {ys} n h e =
     take-at ys post n (ap length is ∙ length-replicate {A = ℕ} n left) ∙ is
 
 -- a word put past the buffer's end is not put
-pub put-out : {ws : List ℕ} {used : ℕ} → Held ws used → (i v : ℕ) → used ≤ i → take used ws ≡ set (take used ws) i v
-put-out {ws} {used} h i v past = sym (set-out (take used ws) i v (omega (arith, length-take-le used ws (omega (arith, h .room, h .within)))))
+pub put-out : {most : ℕ} {ws : List ℕ} {used : ℕ} → Held most ws used → (i v : ℕ) → used ≤ i → take used ws ≡ set (take used ws) i v
+put-out {most} {ws} {used} h i v past = sym (set-out (take used ws) i v (omega (arith, length-take-le used ws (omega (arith, h .room, h .within)))))
 
 -- a buffer extended
 pub extended :
