@@ -1,5 +1,6 @@
 -- The full number: there is one number that is congruent and near enough to the last, and the wrapped difference finds it.
-use mathlib.Core.Path.{_≡_, refl, sym, _∙_, ap}
+use mathlib.Core.Path.{_≡_, refl, sym, subst, _∙_, ap}
+use mathlib.Core.Logic.{_↔_}
 use mathlib.Core.Bool.{Bool, true, false, cond, _&&_, and-false}
 use Prim.Native.Nat.{ℕ, _+_, _-_, _%_, _≤_, _<_}
 use native.Mathlib.Omega.{arith}
@@ -47,3 +48,39 @@ module _ (last own ahead : ℕ) (wraps : (ahead + last % numbersPerRound) % numb
 
   pub behind-full : 32768 ≤ ahead → ahead < numbersPerRound → Full (last + numbersPerRound) own (last + numbersPerRound - (numbersPerRound - ahead))
   behind-full h l = record { congruent = omega (arith, wraps); least = omega arith; most = omega arith }
+
+-- The full number is what it is to be, and fits.
+
+back-is : (m n : ℕ) → roundBack m ≡ Fits n → (m ≡ n + numbersPerRound) × (n ≤ mostFull)
+back-is m n e = at (decLe numbersPerRound m) (decLe m (mostFull + numbersPerRound))
+  where
+    outside : {A : Type 0} → Outside ≡ Fits n → A
+    outside f = absurd (let z : _≡_ {A = ℕ} 0 1 = cc in omega arith)
+
+    at : Dec (numbersPerRound ≤ m) → Dec (m ≤ mostFull + numbersPerRound) → (m ≡ n + numbersPerRound) × (n ≤ mostFull)
+    at (no l) h = outside (sym (back-below m (omega arith)) ∙ e)
+    at (yes l) (no h) = outside (sym (back-above m (omega arith)) ∙ e)
+    at (yes l) (yes h) =
+        let k = m - numbersPerRound in
+        let whole : k + numbersPerRound ≡ m = omega arith in
+        let f : Fits k ≡ Fits n = sym (back-fits k (omega arith)) ∙ (ap roundBack whole ∙ e) in
+        let same : k ≡ n = cc in
+        (omega arith, omega arith)
+
+pub full-is : (last own n : ℕ) → last ≤ mostFull → (fullNumber last own ≡ Fits n) ↔ (Full last own n × (n ≤ mostFull))
+full-is last own n h = (there, back)
+  where
+    there : fullNumber last own ≡ Fits n → Full last own n × (n ≤ mostFull)
+    there e =
+        let f = round-on last own in
+        let b = back-is (roundOn last own) n (full-back last own (roundOn last own) h f ∙ e) in
+        let at = b .0 in
+        let g : Full (last + numbersPerRound) own (n + numbersPerRound) = subst (Full (last + numbersPerRound) own) at f in
+        (record { congruent = omega (arith, g .congruent); least = omega (arith, g .least); most = omega (arith, g .most) }, b .1)
+
+    back : Full last own n × (n ≤ mostFull) → fullNumber last own ≡ Fits n
+    back p =
+        let f = p .0 in
+        let g : Full (last + numbersPerRound) own (n + numbersPerRound) =
+            record { congruent = omega (arith, f .congruent); least = omega (arith, f .least); most = omega (arith, f .most) } in
+        sym (full-back last own (n + numbersPerRound) h g) ∙ back-fits n (p .1)
