@@ -126,7 +126,7 @@ fn take_all(words: &mut [u32], bytes: &mut [u8], last: &mut u64, line: &mut [u8]
 fn main() {
     let mut words = [0u32; trace::MOST_WORDS];
     let mut bytes = [0u8; trace::MOST_HELD];
-    let mut last = trace::NO_NUMBER;
+    let mut last = records::full_number::NO_NUMBER;
     let mut line = [0u8; text::feed::MOST_BYTES];
     take_all(&mut words, &mut bytes, &mut last, &mut line);
 }

@@ -14,9 +14,6 @@ pub const MOST_WORDS: usize = 155670;
 
 pub const MOST_HELD: usize = 40000;
 
-// The last number that says that no record has been accepted yet: one above all that are.
-pub const NO_NUMBER: u64 = 4294967296;
-
 // The digits of a line `H hex`.
 const MOST_DIGITS: usize = 60;
 
@@ -26,7 +23,7 @@ const MOST_NUMBERS: usize = 4;
 pub enum Kind {
     // U: the length of a new buffer, and the set up on it
     Fresh(u32, Call),
-    // N, F, A, T, S
+    // N, F, A, T, S, G
     Make(Call),
     // P: index, value
     Put(u32, u32),
@@ -218,7 +215,7 @@ fn is_hex(byte: u8) -> bool {
     byte <= b'f'
 }
 
-// H: one pair of digits or more, and no more than fit into the line.
+// H: one pair of digits or more, up to 30.
 fn hex_line(digits: &[u8]) -> Kind
     ensures { λ r. ⌜ Fits r ⌝ }
 {
@@ -266,7 +263,7 @@ fn field_line(letter: u8, field: &[u8], line: &[u8]) -> Kind
     }
     if letter == b'O' {
         if is_no_number(field) {
-            return Kind::Last(NO_NUMBER);
+            return Kind::Last(records::full_number::NO_NUMBER);
         }
     }
     kind_of(letter, numbers_after(line, 1))
