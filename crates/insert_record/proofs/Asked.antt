@@ -48,9 +48,10 @@ module _ {ws : List ℕ} {s : Settings} (listed : Listed ws s) (logged : Logged)
   pub refused-meets :
       {refusal : Refusal} {r : Answer} → noteAsks last logged ≡ nothing refusal → r ≡ answerOf refusal → Noted logged ws last r ws last
   refused-meets asks answers =
-      record { meets = λ bytes.
-        let o = on-list bytes ∙ ap (askedOut (lentOf ws bytes last)) asks in
-        record { answered = answers ∙ sym (ap (λ (p : Outcome Lent). p .answered) o); left = sym (ap (λ (p : Outcome Lent). p .left) o) }
+      record {
+        meets = λ bytes.
+            let o = on-list bytes ∙ ap (askedOut (lentOf ws bytes last)) asks in
+            record { answered = answers ∙ sym (ap (λ (p : Outcome Lent). p .answered) o); left = sym (ap (λ (p : Outcome Lent). p .left) o) };
       }
 
   -- it asks for an insert
@@ -58,11 +59,12 @@ module _ {ws : List ℕ} {s : Settings} (listed : Listed ws s) (logged : Logged)
       {key number : ℕ} {r : Answer} {us : List ℕ} {after : ℕ} → noteAsks last logged ≡ insertion key number →
       Meets (insertOut ws key number) r us → after ≡ cond (eqb (r .refusal) 0) number last → Noted logged ws last r us after
   inserted-meets {key} {number} {r} {us} {after} asks meets advances =
-      record { meets = λ bytes.
-        let o = on-list bytes ∙ ap (askedOut (lentOf ws bytes last)) asks in
-        let same = advances ∙ ap (λ (a : Answer). cond (eqb (a .refusal) 0) number last) (meets .answered) in
-        record {
-          answered = meets .answered ∙ sym (ap (λ (p : Outcome Lent). p .answered) o);
-          left = (λ i. lentOf (meets .left i) bytes (same i)) ∙ sym (ap (λ (p : Outcome Lent). p .left) o);
-        }
+      record {
+        meets = λ bytes.
+            let o = on-list bytes ∙ ap (askedOut (lentOf ws bytes last)) asks in
+            let same = advances ∙ ap (λ (a : Answer). cond (eqb (a .refusal) 0) number last) (meets .answered) in
+            record {
+              answered = meets .answered ∙ sym (ap (λ (p : Outcome Lent). p .answered) o);
+              left = (λ i. lentOf (meets .left i) bytes (same i)) ∙ sym (ap (λ (p : Outcome Lent). p .left) o);
+            };
       }

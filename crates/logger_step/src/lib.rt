@@ -21,7 +21,12 @@ pub fn note_text(list: &mut [u32], last: &mut u64, told: Told, out: &mut [u8]) -
 {
     match told {
         Told::NoRecord => return 0,
-        Told::Record(logged) => return report::put_answer(out, 0, mdlist::enter(list, logged, last), b'\n'),
+        Told::Record(logged) => return report::put_answer(
+            out,
+            0,
+            mdlist::enter(list, logged, last),
+            b'\n',
+        ),
     }
 }
 

@@ -24,9 +24,10 @@ pub no-note-meets :
     {ws : List ℕ} {last : ℕ} {r : Answer} (logged : Logged) → readingOf ws ≡ NotAList → r ≡ answer 3 0 0 0 → Noted logged ws last r ws last
 unfolding noteOut
 no-note-meets {ws} {last} logged none answers =
-    record { meets = λ bytes.
-      let o = ap (noteOn (lentOf ws bytes last) logged) none in
-      record { answered = answers ∙ sym (ap (λ (p : Outcome Lent). p .answered) o); left = sym (ap (λ (p : Outcome Lent). p .left) o) }
+    record {
+      meets = λ bytes.
+          let o = ap (noteOn (lentOf ws bytes last) logged) none in
+          record { answered = answers ∙ sym (ap (λ (p : Outcome Lent). p .answered) o); left = sym (ap (λ (p : Outcome Lent). p .left) o) };
     }
 
 -- a record that is read notes what its bytes say

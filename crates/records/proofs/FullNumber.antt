@@ -82,5 +82,5 @@ full-is last own n h = (there, back)
     back p =
         let f = p .0 in
         let g : Full (last + numbersPerRound) own (n + numbersPerRound) =
-            record { congruent = omega (arith, f .congruent); least = omega (arith, f .least); most = omega (arith, f .most) } in
+        record { congruent = omega (arith, f .congruent); least = omega (arith, f .least); most = omega (arith, f .most) } in
         sym (full-back last own (n + numbersPerRound) h g) ∙ back-fits n (p .1)

@@ -4,9 +4,9 @@ ghost use mathlib.Core.Path.{_≡_};
 ghost use Rattle.records.specs.Notes.{noteBy};
 ghost use Rattle.records.specs.declared.note.Place.the-variants.{AtClass, AtUnit, AtSerial, AtNumber};
 ghost use Rattle.records.specs.Reader.{placeOn, placeAfter, placeBy, readerFrom, readerOn, noteIn, noteAt};
-use entries::Entry;
 use super::Adds;
 use super::Stand;
+use entries::Entry;
 use text::fields::Begun;
 use text::fields::Numeral;
 
@@ -53,13 +53,27 @@ fn place_on(place: Place, byte: u8) -> Place
     ensures { λ r. ⌜ r ≡ placeOn place byte ⌝ }
 {
     match place {
-        Place::AtClass(begun) => return Place::AtClass(text::fields::digit(begun, byte, entries::MOST_CLASS)),
-        Place::AtUnit(class, begun) => return Place::AtUnit(class, text::fields::digit(begun, byte, entries::MOST_UNIT)),
+        Place::AtClass(begun) => return Place::AtClass(text::fields::digit(
+            begun,
+            byte,
+            entries::MOST_CLASS,
+        )),
+        Place::AtUnit(class, begun) => return Place::AtUnit(
+            class,
+            text::fields::digit(begun, byte, entries::MOST_UNIT),
+        ),
         Place::AtSerial(class, unit, begun) => {
-            return Place::AtSerial(class, unit, text::fields::digit(begun, byte, entries::MOST_SERIAL));
+            return Place::AtSerial(
+                class,
+                unit,
+                text::fields::digit(begun, byte, entries::MOST_SERIAL),
+            );
         }
         Place::AtText(e) => return Place::AtText(e),
-        Place::AtNumber(e, begun) => return Place::AtNumber(e, text::fields::digit(begun, byte, MOST_NUMBER)),
+        Place::AtNumber(e, begun) => return Place::AtNumber(
+            e,
+            text::fields::digit(begun, byte, MOST_NUMBER),
+        ),
         Place::NoPlace => return Place::NoPlace,
     }
 }

@@ -92,7 +92,15 @@ fn put_tail(out: &mut [u8], at: usize, told: bool, list: &[u32], bytes: &[u8], l
 }
 
 // Does what a line says, and puts the bytes that are printed for it into `out`, from the first on.
-pub fn line_text(words: &mut [u32], bytes: &mut [u8], last: &mut u64, sizes: Sizes, line: &[u8], kind: Kind, out: &mut [u8]) -> Answered
+pub fn line_text(
+    words: &mut [u32],
+    bytes: &mut [u8],
+    last: &mut u64,
+    sizes: Sizes,
+    line: &[u8],
+    kind: Kind,
+    out: &mut [u8],
+) -> Answered
     requires { ⌜ (Room (now words) (now bytes) sizes × Fits kind) × (lineBytes ≤ length (now out)) ⌝ }
     ensures { λ r. ⌜ LineAnswered kind (now (line .entry)) (heldIn (now (words .entry)) (now (bytes .entry)) (now (last .entry)) sizes) (now (words .exit)) (now (bytes .exit)) (now (last .exit)) (now (out .exit)) r ⌝ }
 {
@@ -112,7 +120,15 @@ pub fn line_text(words: &mut [u32], bytes: &mut [u8], last: &mut u64, sizes: Siz
 }
 
 // Writes a line, by one write. It takes what ended, what that says and what is held afterwards so that its contract can say whose line it is.
-pub fn write(text: &[u8], ended: Told, line: &[u8], kind: Kind, list: &[u32], bytes: &[u8], last: u64)
+pub fn write(
+    text: &[u8],
+    ended: Told,
+    line: &[u8],
+    kind: Kind,
+    list: &[u32],
+    bytes: &[u8],
+    last: u64,
+)
     requires { ⌜ ReadAs ended kind × TextOf (now text) kind (now line) (lentOf (now list) (now bytes) last) ⌝ }
 {
     io::write_all(1, text);

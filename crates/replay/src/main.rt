@@ -46,7 +46,15 @@ pub struct State {
 }
 
 // Does what a line says and prints its answer; how much is held afterwards.
-fn reply(words: &mut [u32], bytes: &mut [u8], last: &mut u64, sizes: Sizes, line: &[u8], ended: Told, kind: Kind) -> Sizes
+fn reply(
+    words: &mut [u32],
+    bytes: &mut [u8],
+    last: &mut u64,
+    sizes: Sizes,
+    line: &[u8],
+    ended: Told,
+    kind: Kind,
+) -> Sizes
     requires { ⌜ (Room (now words) (now bytes) sizes × Fits kind) × ReadAs ended kind ⌝ }
     ensures held { λ r. ⌜ Room (now (words .exit)) (now (bytes .exit)) r ⌝ }
     ensures left { λ r. ⌜ heldIn (now (words .exit)) (now (bytes .exit)) (now (last .exit)) r ≡ leftBy kind (now (line .entry)) (heldIn (now (words .entry)) (now (bytes .entry)) (now (last .entry)) sizes) ⌝ }
@@ -57,23 +65,61 @@ fn reply(words: &mut [u32], bytes: &mut [u8], last: &mut u64, sizes: Sizes, line
     let m = done.filled;
     let end = done.text;
     let number = *last;
-    answer::write(&out[..end], ended, line, kind, &words[..n], &bytes[..m], number);
+    answer::write(
+        &out[..end],
+        ended,
+        line,
+        kind,
+        &words[..n],
+        &bytes[..m],
+        number,
+    );
     Sizes { used: n, filled: m }
 }
 
 // The line that ended, if one did.
-fn take_line(words: &mut [u32], bytes: &mut [u8], last: &mut u64, sizes: Sizes, line: &[u8], ended: Told) -> Sizes
+fn take_line(
+    words: &mut [u32],
+    bytes: &mut [u8],
+    last: &mut u64,
+    sizes: Sizes,
+    line: &[u8],
+    ended: Told,
+) -> Sizes
     requires { ⌜ Room (now words) (now bytes) sizes × LineIn (now line) ended ⌝ }
     ensures { λ r. ⌜ Room (now (words .exit)) (now (bytes .exit)) r ⌝ }
 {
     match ended {
         Told::NoLine => return sizes,
-        Told::Line(n) => return reply(words, bytes, last, sizes, &line[0..n], ended, trace::parse(&line[0..n])),
-        Told::LongLine => return reply(words, bytes, last, sizes, &line[0..0], ended, Kind::Unreadable),
+        Told::Line(n) => return reply(
+            words,
+            bytes,
+            last,
+            sizes,
+            &line[0..n],
+            ended,
+            trace::parse(&line[0..n]),
+        ),
+        Told::LongLine => return reply(
+            words,
+            bytes,
+            last,
+            sizes,
+            &line[0..0],
+            ended,
+            Kind::Unreadable,
+        ),
     }
 }
 
-fn take_byte(words: &mut [u32], bytes: &mut [u8], last: &mut u64, line: &mut [u8], state: State, byte: u8) -> State
+fn take_byte(
+    words: &mut [u32],
+    bytes: &mut [u8],
+    last: &mut u64,
+    line: &mut [u8],
+    state: State,
+    byte: u8,
+) -> State
     requires { ⌜ Kept (now words) (now bytes) (now line) state ⌝ }
     ensures { λ r. ⌜ Kept (now (words .exit)) (now (bytes .exit)) (now (line .exit)) r ⌝ }
 {
@@ -85,7 +131,14 @@ fn take_byte(words: &mut [u32], bytes: &mut [u8], last: &mut u64, line: &mut [u8
     State { feed, sizes }
 }
 
-fn take_part(words: &mut [u32], bytes: &mut [u8], last: &mut u64, line: &mut [u8], state: State, part: &[u8]) -> State
+fn take_part(
+    words: &mut [u32],
+    bytes: &mut [u8],
+    last: &mut u64,
+    line: &mut [u8],
+    state: State,
+    part: &[u8],
+) -> State
     requires { ⌜ Kept (now words) (now bytes) (now line) state ⌝ }
     ensures { λ r. ⌜ Kept (now (words .exit)) (now (bytes .exit)) (now (line .exit)) r ⌝ }
 {

@@ -6,7 +6,7 @@ use Rattle.text.proofs.fields.further.Statement.{statement}
 use Rattle.text.proofs.fields.further.Tie as tie
 
 returns-4 : tie.Need-returns-4
-returns-4 c = 
+returns-4 c =
     let a = c .before .before .before .before .args in
     c .up-to .ensures ∙ further-is (a .most) (a .byte) (a .n) (search needs) (within-digits (a .byte) (search needs) (search needs))
 
