@@ -33,9 +33,12 @@ isUnit field = isNumber leastUnit mostUnit field
 abbrev pub isSerial : List ℕ → Bool
 isSerial field = isNumber leastSerial mostSerial field
 
+abbrev pub entryOf : ℕ → ℕ → ℕ → Entry
+entryOf class unit serial = record { class = class; unit = unit; serial = serial }
+
 -- the entry of three fields
 abbrev pub entry : List ℕ → List ℕ → List ℕ → Entry
-entry class unit serial = record { class = decimalFrom 0 class; unit = decimalFrom 0 unit; serial = decimalFrom 0 serial }
+entry class unit serial = entryOf (decimalFrom 0 class) (decimalFrom 0 unit) (decimalFrom 0 serial)
 
 pub record InRange (e : Entry) : Type 0 where
   pub class-most : e .class ≤ mostClass

@@ -1,6 +1,6 @@
 // Entries: a class, a unit and a serial, and the key that they make.
 ghost use mathlib.Core.Path.{_≡_};
-ghost use Rattle.entries.specs.Entries.{entryKey, InRange};
+ghost use Rattle.entries.specs.Entries.{entryOf, entryKey, InRange};
 
 // Entries 1.
 pub struct Entry {
@@ -24,6 +24,16 @@ pub const MOST_SERIAL: u32 = 4095;
 const KEYS_PER_UNIT: u32 = 4096;
 
 const KEYS_PER_CLASS: u32 = 268435456;
+
+pub fn entry_of(class: u32, unit: u32, serial: u32) -> Entry
+    ensures { λ r. ⌜ r ≡ entryOf class unit serial ⌝ }
+{
+    Entry {
+        class,
+        unit,
+        serial,
+    }
+}
 
 // Entries 2.
 pub fn entry_key(e: Entry) -> u32

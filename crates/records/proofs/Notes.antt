@@ -12,7 +12,7 @@ use Rattle.text.specs.declared.fields.Begun.the-variants.{NoDigit}
 use Rattle.text.specs.declared.fields.Numeral.{Numeral}
 use Rattle.text.specs.declared.fields.Numeral.the-variants.{Value, Unreadable}
 use Rattle.text.proofs.Numerals.{number-by-digits, number-within}
-use Rattle.entries.specs.Entries.{leastClass, mostClass, leastUnit, mostUnit, leastSerial, mostSerial, isClass, isUnit, isSerial, entry}
+use Rattle.entries.specs.Entries.{leastClass, mostClass, leastUnit, mostUnit, leastSerial, mostSerial, isClass, isUnit, isSerial, entryOf, entry}
 use Rattle.entries.specs.declared.Entry.{Entry}
 use Rattle.entries.proofs.Ranges.{entry-in-range}
 use Rattle.records.specs.Reading.{Said, fields, no-record, added, mayEnd, saidFrom, saidBy, stepOn}
@@ -164,11 +164,11 @@ module _ (next : List ℕ) (values : List (List ℕ)) where
   past-serial :
       (class unit : ℕ) (serial : List ℕ) →
       noteFrom (AtSerial class unit NoDigit) (serial ∷ next ∷ values) ≡
-      cond (isSerial serial) (noteFrom (AtText (record { class = class; unit = unit; serial = decimalFrom 0 serial })) (next ∷ values)) NoNote
+      cond (isSerial serial) (noteFrom (AtText (entryOf class unit (decimalFrom 0 serial))) (next ∷ values)) NoNote
   unfolding noteFrom placeAfter
   past-serial class unit serial =
       rw (serial-over class unit NoDigit serial)
-      (past-number leastSerial mostSerial serial (λ n. AtText (record { class = class; unit = unit; serial = n })) (next ∷ values))
+      (past-number leastSerial mostSerial serial (λ n. AtText (entryOf class unit n)) (next ∷ values))
 
   past-text : (e : Entry) (text : List ℕ) → noteFrom (AtText e) (text ∷ next ∷ values) ≡ noteFrom (AtNumber e NoDigit) (next ∷ values)
   unfolding noteFrom placeAfter

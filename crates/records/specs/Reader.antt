@@ -7,7 +7,7 @@ use Rattle.text.specs.Answers.{digitOn, endedAt}
 use Rattle.text.specs.declared.fields.Begun.the-variants.{NoDigit}
 use Rattle.text.specs.declared.fields.Numeral.{Numeral}
 use Rattle.text.specs.declared.fields.Numeral.the-variants.{Value, Unreadable}
-use Rattle.entries.specs.Entries.{leastClass, mostClass, leastUnit, mostUnit, leastSerial, mostSerial}
+use Rattle.entries.specs.Entries.{leastClass, mostClass, leastUnit, mostUnit, leastSerial, mostSerial, entryOf}
 use Rattle.entries.specs.declared.Entry.{Entry}
 use Rattle.records.specs.Notes.{leastNumber, mostNumber}
 use Rattle.records.specs.Reading.{stepOn, mayEnd}
@@ -39,7 +39,7 @@ unfoldable pub placeAfter : Place → Place
 placeAfter (AtClass begun) = past (endedAt leastClass begun) (λ class. AtUnit class NoDigit)
 placeAfter (AtUnit class begun) = past (endedAt leastUnit begun) (λ unit. AtSerial class unit NoDigit)
 placeAfter (AtSerial class unit begun) =
-    past (endedAt leastSerial begun) (λ serial. AtText (record { class = class; unit = unit; serial = serial }))
+    past (endedAt leastSerial begun) (λ serial. AtText (entryOf class unit serial))
 placeAfter (AtText e) = AtNumber e NoDigit
 placeAfter (AtNumber e begun) = NoPlace
 placeAfter NoPlace = NoPlace

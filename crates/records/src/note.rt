@@ -102,11 +102,7 @@ fn after_serial(class: u32, unit: u32, begun: Begun) -> Place
     let Numeral::Value(serial) = text::fields::ended_at(begun, entries::LEAST_SERIAL) else {
         return Place::NoPlace;
     };
-    Place::AtText(Entry {
-        class,
-        unit,
-        serial,
-    })
+    Place::AtText(entries::entry_of(class, unit, serial))
 }
 
 // The field at hand has ended, and another begins.
