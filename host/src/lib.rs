@@ -32,6 +32,21 @@
 //! assert_eq!(take(&mut words)?.value, 60);
 //! # Ok::<(), Refusal>(())
 //! ```
+//!
+//! A [`Logger`] puts records of the logger's export into a list and keeps the last number:
+//!
+//! ```
+//! use mdlist_host::{words_needed, List, Logger, Refusal};
+//!
+//! let mut words = [0u32; words_needed(8, 512)];
+//! let mut list = List::set_up(8, u32::MAX, 512, &mut words)?;
+//! let mut logger = Logger::new();
+//! logger.record(&mut list, b"1,117,0,\"valve 3, \"\"B\"\" side\",65535\r\n")?;
+//! logger.record(&mut list, b"0,117,0,door open,0\r\n")?;
+//! assert_eq!(list.take()?.value, 131_072);
+//! assert_eq!(list.take()?.value, 131_071);
+//! # Ok::<(), Refusal>(())
+//! ```
 #![no_std]
 #![deny(missing_docs)]
 
@@ -54,6 +69,7 @@ mod sys {
         pub fn mdlist_finish(list: *mut u32, len: usize, key: u32) -> Answer;
         pub fn mdlist_take(list: *mut u32, len: usize) -> Answer;
         pub fn mdlist_sweep(list: *mut u32, len: usize) -> Answer;
+        pub fn mdlist_record(list: *mut u32, len: usize, record: *const u8, record_len: usize, last: *mut u64) -> Answer;
     }
 }
 
@@ -81,12 +97,12 @@ pub enum Refusal {
     NotAList,
     /// 4: the key is 0 or above K.
     BadKey,
-    /// 5, insert: the key is live already.
+    /// 5, insert, record: the key is live already.
     KeyLive {
         /// How many cells the search looked at.
         looked: u32,
     },
-    /// 6, insert: the key does not stand and there is no free cell; a sweep may free some.
+    /// 6, insert, record: the key does not stand and there is no free cell; a sweep may free some.
     NoFreeCell {
         /// How many cells the search looked at.
         looked: u32,
@@ -101,8 +117,12 @@ pub enum Refusal {
         /// How many cells a find looked at; 0 for a finish.
         looked: u32,
     },
-    /// 9, insert, finish, sweep: a cell owed from is not standing. No list gives it.
+    /// 9, insert, record, finish, sweep: a cell owed from is not standing. No list gives it.
     OwedNotStanding,
+    /// 13, record: the bytes break the grammar of a record, or a field is out of its range.
+    BadRecord,
+    /// 14, record: the full number is below 0 or above 4,294,967,295.
+    NumberOutside,
     /// A number that no call answers: the archive and this package do not belong together.
     Unknown(u32),
 }
@@ -124,6 +144,8 @@ impl Refusal {
             Refusal::NothingLive { .. } => 7,
             Refusal::NotThere { .. } => 8,
             Refusal::OwedNotStanding => 9,
+            Refusal::BadRecord => 13,
+            Refusal::NumberOutside => 14,
             Refusal::Unknown(number) => number,
         }
     }
@@ -142,6 +164,8 @@ impl fmt::Display for Refusal {
             Refusal::NothingLive { above } => write!(f, "nothing is live; standing keys above the position: {above}"),
             Refusal::NotThere { looked } => write!(f, "the key is not there; cells looked at: {looked}"),
             Refusal::OwedNotStanding => f.write_str("a cell that is owed from is free"),
+            Refusal::BadRecord => f.write_str("the record breaks the grammar or a field's range"),
+            Refusal::NumberOutside => f.write_str("the full number does not fit in 32 bits"),
             Refusal::Unknown(_) => f.write_str("no call answers it; the archive and the package do not belong together"),
         }
     }
@@ -175,6 +199,24 @@ pub struct Taken {
     pub passed: u32,
 }
 
+/// What [`record`] answers.
+#[derive(Clone, Copy, Debug, PartialEq, Eq)]
+pub struct Recorded {
+    /// The key of the record's entry: docs/REFERENCE.md, *Entries*.
+    pub key: u32,
+    /// The full number, which is the key's value now.
+    pub number: u32,
+    /// How many cells the search looked at.
+    pub looked: u32,
+}
+
+/// The last number while no record has been accepted. Every number above says the same.
+///
+/// ```
+/// assert_eq!(mdlist_host::NONE_YET, u64::from(u32::MAX) + 1);
+/// ```
+pub const NONE_YET: u64 = 4_294_967_296;
+
 /// How many words a list with D dimensions and C cells has: 5 + D + C(6+2D).
 ///
 /// ```
@@ -196,6 +238,8 @@ fn checked(a: sys::Answer) -> Result<sys::Answer, Refusal> {
         7 => Err(Refusal::NothingLive { above: a.count }),
         8 => Err(Refusal::NotThere { looked: a.count }),
         9 => Err(Refusal::OwedNotStanding),
+        13 => Err(Refusal::BadRecord),
+        14 => Err(Refusal::NumberOutside),
         number => Err(Refusal::Unknown(number)),
     }
 }
@@ -294,7 +338,32 @@ pub fn sweep(list: &mut [u32]) -> Result<u32, Refusal> {
     checked(unsafe { sys::mdlist_sweep(list.as_mut_ptr(), list.len()) }).map(|a| a.count)
 }
 
-/// A list in lent words, with the operations as methods.
+/// Inserts what one record of the logger's export says, with the full number as value: docs/REFERENCE.md, *Records*.
+///
+/// `last` is the last full number, [`NONE_YET`] or more if there is none. An accepted record makes it the record's full number; a refused
+/// one leaves it.
+///
+/// ```
+/// # use mdlist_host::*;
+/// let mut list = [0u32; 87];
+/// set_up(2, u32::MAX, 8, &mut list)?;
+/// let mut last = NONE_YET;
+/// assert_eq!(record(&mut list, b"0,1,2,text,7\r\n", &mut last), Ok(Recorded { key: 4_098, number: 65_543, looked: 0 }));
+/// assert_eq!(last, 65_543);
+/// assert_eq!(record(&mut list, b"0,1,2,7\r\n", &mut last), Err(Refusal::BadRecord));
+/// assert_eq!(record(&mut list, b"0,1,2,text,8", &mut last), Err(Refusal::KeyLive { looked: 1 }));
+/// assert_eq!(last, 65_543);
+/// assert_eq!(find(&list, 4_098)?.value, 65_543);
+/// # Ok::<(), Refusal>(())
+/// ```
+pub fn record(list: &mut [u32], bytes: &[u8], last: &mut u64) -> Result<Recorded, Refusal> {
+    // SAFETY: as in `set_up`; the callee reads within the bytes alone, and writes `last`, which is lent to it alone.
+    let a = checked(unsafe { sys::mdlist_record(list.as_mut_ptr(), list.len(), bytes.as_ptr(), bytes.len(), last) })?;
+    // an accepted record's full number has 32 bits
+    Ok(Recorded { key: a.key, number: *last as u32, looked: a.count })
+}
+
+/// A list in lent words, with the operations as methods. A record needs the last number too, which no list holds: [`Logger::record`].
 ///
 /// Nothing is kept but the borrow: another `List` on the same words later goes on where this one ended.
 ///
@@ -419,5 +488,88 @@ impl<'a> List<'a> {
     /// ```
     pub fn sweep(&mut self) -> Result<u32, Refusal> {
         sweep(self.words)
+    }
+}
+
+/// The last full number of a logger, from which that of its next record is worked out: docs/REFERENCE.md, *Records*.
+///
+/// No list is kept: the number outlives a list that is set up anew.
+///
+/// ```
+/// # use mdlist_host::*;
+/// let mut logger = Logger::new();
+/// let mut words = [0u32; words_needed(2, 8)];
+/// logger.record(&mut List::set_up(2, u32::MAX, 8, &mut words)?, b"0,1,0,,9")?;
+/// logger.record(&mut List::set_up(2, u32::MAX, 8, &mut words)?, b"0,1,0,,8")?;
+/// assert_eq!(logger.last(), Some(65_544));
+/// # Ok::<(), Refusal>(())
+/// ```
+#[derive(Clone, Debug, PartialEq, Eq)]
+pub struct Logger {
+    last: u64,
+}
+
+impl Logger {
+    /// A logger of which no record has been accepted yet.
+    ///
+    /// ```
+    /// # use mdlist_host::*;
+    /// assert_eq!(Logger::new().last(), None);
+    /// assert_eq!(Logger::new(), Logger::default());
+    /// ```
+    pub const fn new() -> Logger {
+        Logger { last: NONE_YET }
+    }
+
+    /// A logger whose last full number is known, as from before a restart.
+    ///
+    /// ```
+    /// # use mdlist_host::*;
+    /// # let mut words = [0u32; words_needed(2, 8)];
+    /// # let mut list = List::set_up(2, u32::MAX, 8, &mut words)?;
+    /// let mut logger = Logger::after(200_000);
+    /// assert_eq!(logger.last(), Some(200_000));
+    /// assert_eq!(logger.record(&mut list, b"0,1,0,,3393")?.number, 200_001);
+    /// # Ok::<(), Refusal>(())
+    /// ```
+    pub const fn after(last: u32) -> Logger {
+        Logger { last: last as u64 }
+    }
+
+    /// The full number of the last accepted record, to store; none if there was no such record.
+    ///
+    /// ```
+    /// # use mdlist_host::*;
+    /// # let mut words = [0u32; words_needed(2, 8)];
+    /// # let mut list = List::set_up(2, u32::MAX, 8, &mut words)?;
+    /// let mut logger = Logger::new();
+    /// assert_eq!(logger.last(), None);
+    /// logger.record(&mut list, b"0,1,0,,7")?;
+    /// assert_eq!(logger.last(), Some(65_543));
+    /// # Ok::<(), Refusal>(())
+    /// ```
+    pub fn last(&self) -> Option<u32> {
+        u32::try_from(self.last).ok()
+    }
+
+    /// Inserts what one record says, as [`record`] does. A refused record leaves the last number.
+    ///
+    /// ```
+    /// # use mdlist_host::*;
+    /// # let mut words = [0u32; words_needed(2, 8)];
+    /// # let mut list = List::set_up(2, u32::MAX, 8, &mut words)?;
+    /// let mut logger = Logger::after(0);
+    /// assert_eq!(logger.record(&mut list, b"0,1,2,,65535"), Err(Refusal::NumberOutside));
+    /// assert_eq!(logger.record(&mut list, b"0,1,2,,1"), Ok(Recorded { key: 4_098, number: 1, looked: 0 }));
+    /// # Ok::<(), Refusal>(())
+    /// ```
+    pub fn record(&mut self, list: &mut List<'_>, bytes: &[u8]) -> Result<Recorded, Refusal> {
+        record(list.words, bytes, &mut self.last)
+    }
+}
+
+impl Default for Logger {
+    fn default() -> Logger {
+        Logger::new()
     }
 }

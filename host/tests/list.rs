@@ -1,19 +1,11 @@
 //! The list through its Rust functions: fourteen steps, units that begin alike, notes for one unit, the edges, the texts of the refusals, the methods of
 //! `List`, and a random comparison with an ordered map.
 
+mod common;
+
+use common::{entry_key, fresh, Dice};
 use mdlist_host::*;
 use std::collections::BTreeMap;
-
-fn fresh(d: u32, k: u32, c: u32) -> Vec<u32> {
-    let mut list = vec![0; words_needed(d, c)];
-    assert_eq!(set_up(d, k, c, &mut list), Ok(()));
-    list
-}
-
-/// The key of an entry: docs/REFERENCE.md, *Entries*.
-fn entry_key(class: u32, unit: u32, serial: u32) -> u32 {
-    class * 268_435_456 + unit * 4_096 + serial
-}
 
 fn taken(key: u32, value: u32, passed: u32) -> Result<Taken, Refusal> {
     Ok(Taken { key, value, passed })
@@ -83,6 +75,8 @@ fn refusals_as_texts() {
         (take(&mut fresh(2, 15, 4)).unwrap_err(), "refusal 7: nothing is live; standing keys above the position: 0"),
         (find(&l, 15).unwrap_err(), "refusal 8: the key is not there; cells looked at: 2"),
         (Refusal::OwedNotStanding, "refusal 9: a cell that is owed from is free"),
+        (record(&mut l, b"", &mut 0).unwrap_err(), "refusal 13: the record breaks the grammar or a field's range"),
+        (record(&mut l, b"0,1,0,,65535", &mut 0).unwrap_err(), "refusal 14: the full number does not fit in 32 bits"),
         (Refusal::Unknown(77), "refusal 77: no call answers it; the archive and the package do not belong together"),
     ];
     for (refusal, text) in shown {
@@ -212,16 +206,6 @@ fn two_lists_side_by_side_and_one_amid_other_words() {
     assert_eq!(take(first), taken(6, 60, 1));
     assert_eq!(take(second), taken(5, 50, 1));
     assert!(words[..5].iter().chain(&words[5 + n..n + 15]).chain(&words[n + 15 + n..]).all(|w| *w == 9));
-}
-
-/// A small generator of numbers, so that the test needs no package.
-struct Dice(u64);
-
-impl Dice {
-    fn below(&mut self, n: u64) -> u64 {
-        self.0 = self.0.wrapping_mul(6_364_136_223_846_793_005).wrapping_add(1_442_695_040_888_963_407);
-        (self.0 >> 33) % n
-    }
 }
 
 #[test]

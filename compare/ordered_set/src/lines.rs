@@ -2,6 +2,7 @@
 
 use std::io::{BufRead, Write};
 use std::ops::RangeInclusive;
+use std::str::FromStr;
 
 const MOST_BYTES: usize = 64;
 
@@ -28,7 +29,7 @@ fn fields(line: &[u8]) -> Option<Vec<&str>> {
     Some(std::str::from_utf8(line).ok()?.split(' ').collect())
 }
 
-pub fn number(field: &str, range: RangeInclusive<u32>) -> Option<u32> {
+pub fn number<N: FromStr + PartialOrd>(field: &str, range: RangeInclusive<N>) -> Option<N> {
     let decimal = !field.is_empty() && field.bytes().all(|byte| byte.is_ascii_digit());
     let leading_zero = field.len() > 1 && field.starts_with('0');
     if !decimal || leading_zero {

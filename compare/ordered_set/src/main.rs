@@ -2,11 +2,13 @@
 
 mod generators;
 mod lines;
+mod logger;
 mod model;
 mod operations;
 mod order;
 mod picture;
 mod reading;
+mod records;
 mod replay;
 mod rule;
 mod settings;
@@ -20,11 +22,15 @@ use std::process::ExitCode;
 const USAGE: &str = "\
 ordered_set replay              calls on standard input, answers and checksums
 ordered_set order               the order program
+ordered_set logger              the logger program
 ordered_set gen-calls SEED COUNT
 ordered_set gen-damage SEED COUNT
 ordered_set gen-large SEED COUNT
 ordered_set gen-order SEED COUNT
-ordered_set gen-edges";
+ordered_set gen-records SEED COUNT
+ordered_set gen-export SEED COUNT
+ordered_set gen-edges
+ordered_set gen-logger-edges";
 
 fn main() -> ExitCode {
     let words: Vec<String> = std::env::args().skip(1).collect();
@@ -33,7 +39,11 @@ fn main() -> ExitCode {
     let done = match words[..] {
         ["replay"] => replay::replay(stdin().lock(), output),
         ["order"] => order::order(stdin().lock(), output),
-        ["gen-edges"] => generators::write(generators::edges::edges, 0, usize::MAX, output),
+        ["logger"] => logger::logger(stdin().lock(), output),
+        [name] => match generators::whole(name) {
+            Some(made) => generators::write(made, 0, usize::MAX, output),
+            None => return usage(),
+        },
         [name, seed, count] => match (generators::named(name), seed.parse(), count.parse()) {
             (Some(made), Ok(seed), Ok(count)) => generators::write(made, seed, count, output),
             _ => return usage(),

@@ -38,6 +38,8 @@ pub const NO_FREE_CELL: u32 = 6;
 pub const NOTHING_LIVE: u32 = 7;
 pub const KEY_NOT_THERE: u32 = 8;
 pub const LINE_NOT_READABLE: u32 = 10;
+pub const RECORD_BREAKS_RULES: u32 = 13;
+pub const FULL_NUMBER_DOES_NOT_FIT: u32 = 14;
 
 impl Answer {
     pub fn refused(refusal: u32) -> Answer {

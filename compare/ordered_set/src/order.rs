@@ -9,9 +9,7 @@ use std::io::{BufRead, Write};
 const SET_UP: Call = Call::SetUp { d: 8, k: u32::MAX, c: 512 };
 
 pub fn order(input: impl BufRead, output: impl Write) -> std::io::Result<()> {
-    let mut words = vec![0; exact_length(8, 512)];
-    let fresh = perform(&mut words, &SET_UP);
-    assert!(fresh.refusal == 0, "set up was turned away: {fresh}");
+    let mut words = fresh_list();
     answer_each(input, output, |fields| {
         let answer = match fields.and_then(parse) {
             None => Answer::refused(LINE_NOT_READABLE),
@@ -19,6 +17,13 @@ pub fn order(input: impl BufRead, output: impl Write) -> std::io::Result<()> {
         };
         answer.to_string()
     })
+}
+
+pub fn fresh_list() -> Vec<u32> {
+    let mut words = vec![0; exact_length(8, 512)];
+    let fresh = perform(&mut words, &SET_UP);
+    assert!(fresh.refusal == 0, "set up was turned away: {fresh}");
+    words
 }
 
 /// The order program 1: the five kinds of line.
@@ -36,7 +41,7 @@ fn parse(fields: &[&str]) -> Option<Call> {
 }
 
 /// Entries 1 and 2.
-fn key(class: &str, unit: &str, serial: &str) -> Option<u32> {
+pub fn key(class: &str, unit: &str, serial: &str) -> Option<u32> {
     let (class, unit) = (number(class, 0..=15)?, number(unit, 1..=65_535)?);
     Some(class << 28 | unit << 12 | number(serial, 0..=4_095)?)
 }

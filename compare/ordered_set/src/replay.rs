@@ -1,12 +1,18 @@
 //! The replay of a trace: one call a line, and after each the answer and a checksum of the
-//! buffer, so that two implementations can be compared word for word.
+//! buffer, so that two implementations can be compared word for word. Lines for bytes also show
+//! a checksum of the bytes and the last number.
 
 use crate::lines::{answer_each, number};
 use crate::operations::{perform, Answer, Call, LINE_NOT_READABLE};
+use crate::records::{record, NONE_YET};
 use std::io::{BufRead, Write};
 
 pub const MOST_WORDS: u32 = 155_670;
+pub const MOST_BYTES: u32 = 40_000;
+pub const MOST_BYTES_OF_A_LINE: usize = 30;
 const WORD_BEFORE_SET_UP: u32 = 2_779_096_485;
+const BYTE_OF_NEW_BYTES: u8 = 165;
+const HEX_DIGITS: &[u8] = b"0123456789abcdef";
 
 #[derive(Debug)]
 pub enum Line {
@@ -23,22 +29,57 @@ pub enum Line {
         value: u32,
     },
     Length(u32),
+    Bytes(BytesLine),
+}
+
+/// The lines for bytes: B, H, Q, O and G.
+#[derive(Debug)]
+pub enum BytesLine {
+    Make(u32),
+    Append(Vec<u8>),
+    Put { index: u32, value: u8 },
+    Last(u64),
+    Record,
+}
+
+/// What a replay holds between two lines.
+pub struct State {
+    pub words: Vec<u32>,
+    pub bytes: Vec<u8>,
+    pub last: u64,
+}
+
+impl State {
+    pub fn at_first() -> State {
+        State { words: Vec::new(), bytes: Vec::new(), last: NONE_YET }
+    }
 }
 
 pub fn replay(input: impl BufRead, output: impl Write) -> std::io::Result<()> {
-    let mut words = Vec::new();
-    answer_each(input, output, |fields| {
-        let answer = match fields.and_then(parse) {
-            None => Some(Answer::refused(LINE_NOT_READABLE)),
-            Some(line) => run(&mut words, &line),
-        };
-        let answer = answer.map_or("- - - -".to_string(), |answer| answer.to_string());
-        format!("{answer} {}", checksum(&words))
+    let mut state = State::at_first();
+    answer_each(input, output, |fields| match fields.and_then(parse) {
+        None => {
+            format!("{} {}", Answer::refused(LINE_NOT_READABLE), checksum(&state.words))
+        }
+        Some(line) => {
+            let answer = run(&mut state, &line);
+            told(&state, &line, answer)
+        }
     })
 }
 
-/// Does what the line says to the buffer. A line that is no call has no answer.
-pub fn run(words: &mut Vec<u32>, line: &Line) -> Option<Answer> {
+fn told(state: &State, line: &Line, answer: Option<Answer>) -> String {
+    let answer = answer.map_or("- - - -".to_string(), |answer| answer.to_string());
+    let told = format!("{answer} {}", checksum(&state.words));
+    match line {
+        Line::Bytes(_) => format!("{told} {} {}", checksum(&state.bytes), state.last),
+        _ => told,
+    }
+}
+
+/// Does what the line says. A line that is no call has no answer.
+pub fn run(state: &mut State, line: &Line) -> Option<Answer> {
+    let words = &mut state.words;
     match *line {
         Line::Make { d, k, c, length } => {
             *words = vec![WORD_BEFORE_SET_UP; length as usize];
@@ -55,7 +96,28 @@ pub fn run(words: &mut Vec<u32>, line: &Line) -> Option<Answer> {
             words.resize(length as usize, 0);
             None
         }
+        Line::Bytes(ref line) => run_bytes(state, line),
     }
+}
+
+fn run_bytes(state: &mut State, line: &BytesLine) -> Option<Answer> {
+    let State { words, bytes, last } = state;
+    match line {
+        BytesLine::Make(length) => *bytes = vec![BYTE_OF_NEW_BYTES; *length as usize],
+        BytesLine::Append(more) => {
+            if bytes.len() + more.len() <= MOST_BYTES as usize {
+                bytes.extend(more);
+            }
+        }
+        BytesLine::Put { index, value } => {
+            if let Some(byte) = bytes.get_mut(*index as usize) {
+                *byte = *value;
+            }
+        }
+        BytesLine::Last(number) => *last = *number,
+        BytesLine::Record => return Some(record(words, bytes, last)),
+    }
+    None
 }
 
 pub fn parse(fields: &[&str]) -> Option<Line> {
@@ -72,13 +134,34 @@ pub fn parse(fields: &[&str]) -> Option<Line> {
         ["S"] => Line::Call(Call::Sweep),
         ["P", index, value] => Line::Put { index: word(index)?, value: word(value)? },
         ["L", len] => Line::Length(length(len)?),
+        _ => Line::Bytes(parse_bytes(fields)?),
+    })
+}
+
+fn parse_bytes(fields: &[&str]) -> Option<BytesLine> {
+    Some(match *fields {
+        ["B", len] => BytesLine::Make(number(len, 0..=MOST_BYTES)?),
+        ["H", digits] => BytesLine::Append(hex_run(digits)?),
+        ["Q", index, value] => {
+            BytesLine::Put { index: number(index, 0..=u32::MAX)?, value: number(value, 0..=255)? }
+        }
+        ["O", last] => BytesLine::Last(number(last, 0..=NONE_YET)?),
+        ["G"] => BytesLine::Record,
         _ => return None,
     })
 }
 
-/// The checksum h starts at the number of words; for each word in order h becomes
-/// (h x 1,000,003 + word) mod 2,147,483,647.
-pub fn checksum(words: &[u32]) -> u64 {
-    let step = |h: u64, &word: &u32| (h * 1_000_003 + u64::from(word)) % 2_147_483_647;
-    words.iter().fold(words.len() as u64, step)
+fn hex_run(digits: &str) -> Option<Vec<u8>> {
+    let place = |byte: u8| HEX_DIGITS.iter().position(|&digit| digit == byte);
+    let digits: Vec<usize> = digits.bytes().map(place).collect::<Option<_>>()?;
+    let pairs = digits.chunks_exact(2);
+    let whole = pairs.remainder().is_empty() && (1..=MOST_BYTES_OF_A_LINE).contains(&pairs.len());
+    whole.then(|| pairs.map(|pair| (16 * pair[0] + pair[1]) as u8).collect())
+}
+
+/// The checksum h starts at the number of words or bytes; for each in order h becomes
+/// (h x 1,000,003 + it) mod 2,147,483,647.
+pub fn checksum<N: Copy + Into<u64>>(numbers: &[N]) -> u64 {
+    let step = |h: u64, &number: &N| (h * 1_000_003 + number.into()) % 2_147_483_647;
+    numbers.iter().fold(numbers.len() as u64, step)
 }

@@ -1,12 +1,14 @@
 //! The fourteen steps and the printed example, and second statements of what the program does, by the words.
 
+mod records;
+
 use crate::generators::edges::FOURTEEN_STEPS;
-use crate::generators::{named, write};
+use crate::generators::{named, whole, write};
 use crate::model::Model;
 use crate::operations::Call;
 use crate::order::order;
 use crate::reading::list;
-use crate::replay::{parse, run, Line};
+use crate::replay::{parse, run, Line, State};
 use crate::settings::*;
 
 fn line(text: &str) -> Line {
@@ -47,18 +49,18 @@ fn fourteen_steps() {
         ([0, 0, 0, 3], 9, &[]),
         ([0, 5, 0, 1], 0, &[]),
     ];
-    let mut words = Vec::new();
-    run(&mut words, &line("U 2 15 8 87"));
+    let mut state = State::at_first();
+    run(&mut state, &line("U 2 15 8 87"));
     for (step, (answer, position, owes)) in FOURTEEN_STEPS.split('|').zip(expected) {
-        let given = run(&mut words, &line(step)).expect("a call");
+        let given = run(&mut state, &line(step)).expect("a call");
         assert_eq!([given.refusal, given.key, given.value, given.count], answer, "{step}");
-        let model = list(&words).expect("a list");
+        let model = list(&state.words).expect("a list");
         assert_eq!((model.position, &owing(&model)[..]), (position, owes), "{step}");
         if step == "S" {
             assert_eq!(model.free, [7, 6, 5, 4, 2, 1], "the chain 1, 2, 4, 5, 6, 7");
         }
     }
-    let model = list(&words).expect("a list");
+    let model = list(&state.words).expect("a list");
     assert_eq!(model.standing[&5].cell, 1);
 }
 
@@ -95,19 +97,25 @@ fn ordered(input: &[u8]) -> String {
     String::from_utf8(output).expect("numbers")
 }
 
+fn generated(name: &str, seed: u64, lines: usize) -> Vec<u8> {
+    let mut made = Vec::new();
+    let generator = whole(name).or(named(name)).expect("a generator");
+    write(generator, seed, lines, &mut made).expect("memory is written");
+    made
+}
+
 /// The calls of a generated trace, each with the words before and after it.
 fn for_each_call(name: &str, lines: usize, mut see: impl FnMut(&Model, &Line, &[u32], &[u32])) {
-    let mut trace = Vec::new();
-    write(named(name).expect("a generator"), 1, lines, &mut trace).expect("memory is written");
-    let mut words = Vec::new();
+    let trace = generated(name, 1, lines);
+    let mut state = State::at_first();
     for text in std::str::from_utf8(&trace).expect("readable lines").lines() {
         let line = line(text);
-        let (before, model) = (words.clone(), list(&words));
-        let answer = run(&mut words, &line);
+        let (before, model) = (state.words.clone(), list(&state.words));
+        let answer = run(&mut state, &line);
         if answer.is_some_and(|answer| answer.refusal != 0) {
-            assert!(before == words, "a refusal changes a word");
+            assert!(before == state.words, "a refusal changes a word");
         } else if let Some(model) = model {
-            see(&model, &line, &before, &words);
+            see(&model, &line, &before, &state.words);
         }
     }
 }

@@ -15,11 +15,12 @@ use Rattle.text.specs.Lines.{mostBytes}
 use Rattle.text.specs.Answers.{FieldEnd, numberOf}
 use Rattle.text.specs.declared.fields.Numeral.the-variants.{Value}
 use Rattle.text.specs.declared.fields.Numeral.the-variants as numeral
-use Rattle.text.proofs.Numerals.{last-field, next-field, some-field, number-value, number-within}
-use Rattle.lines.specs.Grammar.{isClass, isUnit, isValue, entry, readable, insertFields, entryFields, noFields, kindOf, parsedOf, InRange, isSerial, leastSerial, mostSerial}
-use Rattle.lines.specs.Grammar.{leastClass, mostClass, leastUnit, mostUnit, leastValue, mostValue, KindInRange}
+use Rattle.text.proofs.Numerals.{last-field, next-field, some-field, number-value}
+use Rattle.entries.specs.Entries.{leastClass, mostClass, leastUnit, mostUnit, leastSerial, mostSerial, isClass, isUnit, isSerial, InRange, entry}
+use Rattle.entries.specs.declared.Entry.{Entry}
+use Rattle.entries.proofs.Ranges.{entry-in-range}
+use Rattle.lines.specs.Grammar.{isValue, leastValue, mostValue, readable, insertFields, entryFields, noFields, kindOf, parsedOf, KindInRange}
 use Rattle.lines.specs.Answers.{fieldsAfter, firstNumber, firstEntry, NumberAfter, EntryAfter}
-use Rattle.lines.specs.declared.Entry.{Entry}
 use Rattle.lines.specs.declared.Kind.{Kind}
 use Rattle.lines.specs.declared.Kind.the-variants.{Insert, Find, Finish, Take, Sweep}
 use Rattle.lines.specs.declared.Line.{Line}
@@ -299,15 +300,6 @@ module _ (line : List ℕ) where
     parsed-letter e = rw (parsed-first, e, first-byte line some) refl
 
 -- Entries in range
-
-entry-in-range :
-    (class unit serial : List ℕ) → isClass class ≡ true → isUnit unit ≡ true → isSerial serial ≡ true → InRange (entry class unit serial)
-unfolding numberOf
-entry-in-range class unit serial c u s =
-    let p = number-within leastClass mostClass class {n = decimalFrom 0 class} (rw c refl) in
-    let q = number-within leastUnit mostUnit unit {n = decimalFrom 0 unit} (rw u refl) in
-    let r = number-within leastSerial mostSerial serial {n = decimalFrom 0 serial} (rw s refl) in
-    record { class-most = p .1; unit-least = q .0; unit-most = q .1; serial-most = r .1 }
 
 abbrev ParsedInRange : Parsed → Type 0
 ParsedInRange (Readable l) = KindInRange (l .kind)

@@ -1,3 +1,2 @@
--- What holds of the fields of a line, and of the entries in it.
+-- What holds of the fields of a line.
 pub mod Grammar
-pub mod Promises

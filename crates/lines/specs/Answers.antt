@@ -7,8 +7,8 @@ use Prim.Native.Nat.{ℕ, _+_, _≤_}
 use lib.Dec.{ltb}
 use lib.ListN.{length, drop}
 use Rattle.text.specs.Fields.{fieldsOf, decimalFrom, isNumber}
-use Rattle.lines.specs.Grammar.{isClass, isUnit, isSerial, entry}
-use Rattle.lines.specs.declared.Entry.{Entry}
+use Rattle.entries.specs.Entries.{isClass, isUnit, isSerial, entry}
+use Rattle.entries.specs.declared.Entry.{Entry}
 use Rattle.lines.specs.declared.NumberRead.{NumberRead}
 use Rattle.lines.specs.declared.NumberRead.the-variants.{Number, NoNumber}
 use Rattle.lines.specs.declared.EntryRead.{EntryRead}

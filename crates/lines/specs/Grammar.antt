@@ -1,45 +1,18 @@
 -- The grammar of a line: The order program 1 to 4.
 use mathlib.Core.Bool.{Bool, cond, _&&_}
 use mathlib.Core.List.{List, [], _∷_}
-use Prim.Native.Nat.{ℕ, _+_, _*_, _≤_}
+use Prim.Native.Nat.{ℕ}
 use lib.Dec.{leb}
 use lib.ListN.{length}
 use Rattle.lists.specs.Lists.{same}
 use Rattle.text.specs.Fields.{fieldsOf, decimalFrom, isNumber}
 use Rattle.text.specs.Lines.{mostBytes}
-use Rattle.lines.specs.declared.Entry.{Entry}
+use Rattle.entries.specs.Entries.{isClass, isUnit, isSerial, InRange, entry}
+use Rattle.entries.specs.declared.Entry.{Entry}
 use Rattle.lines.specs.declared.Kind.{Kind}
 use Rattle.lines.specs.declared.Kind.the-variants.{Insert, Find, Finish, Take, Sweep}
 use Rattle.lines.specs.declared.Parsed.{Parsed}
 use Rattle.lines.specs.declared.Parsed.the-variants.{Readable, Unreadable}
-
--- Entries 1: the ranges of class, unit and serial.
-abbrev pub leastClass : ℕ
-leastClass = 0
-
-abbrev pub mostClass : ℕ
-mostClass = 15
-
-abbrev pub leastUnit : ℕ
-leastUnit = 1
-
-abbrev pub mostUnit : ℕ
-mostUnit = 65535
-
-abbrev pub leastSerial : ℕ
-leastSerial = 0
-
-abbrev pub mostSerial : ℕ
-mostSerial = 4095
-
-abbrev pub isClass : List ℕ → Bool
-isClass field = isNumber leastClass mostClass field
-
-abbrev pub isUnit : List ℕ → Bool
-isUnit field = isNumber leastUnit mostUnit field
-
-abbrev pub isSerial : List ℕ → Bool
-isSerial field = isNumber leastSerial mostSerial field
 
 -- Numbers 2: any value
 abbrev pub leastValue : ℕ
@@ -51,12 +24,6 @@ mostValue = 4294967295
 abbrev pub isValue : List ℕ → Bool
 isValue field = isNumber leastValue mostValue field
 
-pub record InRange (e : Entry) : Type 0 where
-  pub class-most : e .class ≤ mostClass
-  pub unit-least : leastUnit ≤ e .unit
-  pub unit-most : e .unit ≤ mostUnit
-  pub serial-most : e .serial ≤ mostSerial
-
 -- the entry of a kind of line, where it has one, is in range
 abbrev pub KindInRange : Kind → Type 0
 KindInRange (Insert e value) = InRange e
@@ -64,19 +31,6 @@ KindInRange (Find e) = InRange e
 KindInRange (Finish e) = InRange e
 KindInRange Take = Unit {0}
 KindInRange Sweep = Unit {0}
-
--- Entries 2: the key. A unit has a key for each serial, a class for each unit from 0 on.
-abbrev pub keysPerUnit : ℕ
-keysPerUnit = 4096
-
-abbrev pub keysPerClass : ℕ
-keysPerClass = 268435456
-
-abbrev pub entryKey : Entry → ℕ
-entryKey e = e .class * keysPerClass + e .unit * keysPerUnit + e .serial
-
-abbrev pub entry : List ℕ → List ℕ → List ℕ → Entry
-entry class unit serial = record { class = decimalFrom 0 class; unit = decimalFrom 0 unit; serial = decimalFrom 0 serial }
 
 abbrev pub readable : Bool → Kind → Parsed
 readable test kind = cond test (Readable (record { kind = kind })) Unreadable

@@ -1,4 +1,3 @@
--- Entries and the lines of the order program: Entries, The order program (docs/REFERENCE.md).
+-- The lines of the order program: The order program (docs/REFERENCE.md).
 pub mod Grammar
 pub mod Answers
-pub mod Promises

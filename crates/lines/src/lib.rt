@@ -1,20 +1,14 @@
-// Entries and the lines of the order program: each line is one of five kinds with its own fields. The fields are read one
+// The lines of the order program: each line is one of five kinds with its own fields. The fields are read one
 // after the other, each by where the one before it ends: at a space, or with the line.
 ghost use mathlib.Core.Path.{_≡_};
 ghost use mathlib.Core.List.{[], _∷_};
 ghost use Prim.Native.Nat.{_≤_};
 ghost use lib.ListN.{length};
-ghost use Rattle.lines.specs.Grammar.{entryKey, insertFields, entryFields, noFields, kindOf, parsedOf, InRange};
+ghost use Rattle.lines.specs.Grammar.{insertFields, entryFields, noFields, kindOf, parsedOf};
 ghost use Rattle.lines.specs.Answers.{fieldsAfter, NumberAfter, EntryAfter};
 ghost use Rattle.lines.specs.declared.Kind.the-variants.{Find, Finish};
+use entries::Entry;
 use text::fields::Numeral;
-
-// Entries 1.
-pub struct Entry {
-    pub class: u32,
-    pub unit: u32,
-    pub serial: u32,
-}
 
 pub enum Kind {
     // N class unit serial value
@@ -51,22 +45,6 @@ enum EntryRead {
     NoEntry,
 }
 
-const LEAST_CLASS: u32 = 0;
-
-const MOST_CLASS: u32 = 15;
-
-const LEAST_UNIT: u32 = 1;
-
-const MOST_UNIT: u32 = 65535;
-
-const LEAST_SERIAL: u32 = 0;
-
-const MOST_SERIAL: u32 = 4095;
-
-const KEYS_PER_UNIT: u32 = 4096;
-
-const KEYS_PER_CLASS: u32 = 268435456;
-
 // Numbers 2: any value.
 const LEAST_VALUE: u32 = 0;
 
@@ -84,14 +62,6 @@ const LETTER_S: u8 = 83;
 
 // Where the first field ends, which is a letter: one byte.
 const LETTER_END: usize = 1;
-
-// Entries 2.
-pub fn entry_key(e: Entry) -> u32
-    requires { ⌜ InRange e ⌝ }
-    ensures { λ r. ⌜ r ≡ entryKey e ⌝ }
-{
-    e.class * KEYS_PER_CLASS + e.unit * KEYS_PER_UNIT + e.serial
-}
 
 // The number from `least` to `most` that is the field after the one that ends at `at`.
 fn number_after(line: &[u8], at: usize, least: u32, most: u32) -> NumberRead
@@ -115,15 +85,15 @@ fn entry_after(line: &[u8], at: usize) -> EntryRead
     requires { ⌜ at ≤ length (now line) ⌝ }
     ensures { λ r. ⌜ EntryAfter (now (line .entry)) at r ⌝ }
 {
-    let first = number_after(line, at, LEAST_CLASS, MOST_CLASS);
+    let first = number_after(line, at, entries::LEAST_CLASS, entries::MOST_CLASS);
     let NumberRead::Number(class, next) = first else {
         return EntryRead::NoEntry;
     };
-    let second = number_after(line, next, LEAST_UNIT, MOST_UNIT);
+    let second = number_after(line, next, entries::LEAST_UNIT, entries::MOST_UNIT);
     let NumberRead::Number(unit, last) = second else {
         return EntryRead::NoEntry;
     };
-    let third = number_after(line, last, LEAST_SERIAL, MOST_SERIAL);
+    let third = number_after(line, last, entries::LEAST_SERIAL, entries::MOST_SERIAL);
     let NumberRead::Number(serial, end) = third else {
         return EntryRead::NoEntry;
     };

@@ -1,11 +1,42 @@
 -- The two ways of an exported function: words that are no list are refused by number 3, and a list goes to the inner function.
-use mathlib.Core.Path.{_≡_, _∙_, sym, ap}
+use mathlib.Core.Path.{_≡_, _∙_, sym, ap, subst}
 use mathlib.Core.List.{List}
 use Prim.Native.Nat.{ℕ}
+use Rattle.records.specs.Notes.{noteBy}
+use Rattle.records.specs.declared.note.Logged.{Logged}
+use Rattle.meaning.specs.Reading.{readingOf}
 use Rattle.meaning.specs.Refusals.{Outcome, Meets, answer, notAList, refused}
 use Rattle.meaning.specs.declared.Answer.{Answer}
 use Rattle.meaning.specs.Operations.{findOut}
+use Rattle.meaning.specs.Records.{Lent, lentOf, noteOn, noteOut, recordOut}
+use Rattle.meaning.specs.Calls.{onWords}
+use Rattle.meaning.specs.declared.Reading.the-variants.{NotAList}
+use Rattle.insert_record.specs.Noted.{Noted}
 use Rattle.meaning.proofs.Outcomes.{find-writes-nothing}
+
+-- a call on the words alone leaves all else that was lent
+pub words-meets :
+    {o : Outcome (List ℕ)} {r : Answer} {us : List ℕ} (lent : Lent) → Meets o r us → Meets (onWords lent o) r (lentOf us (lent .bytes) (lent .last))
+words-meets lent meets = record { answered = meets .answered; left = λ i. lentOf (meets .left i) (lent .bytes) (lent .last) }
+
+-- a note on words that are no list
+pub no-note-meets :
+    {ws : List ℕ} {last : ℕ} {r : Answer} (logged : Logged) → readingOf ws ≡ NotAList → r ≡ answer 3 0 0 0 → Noted logged ws last r ws last
+unfolding noteOut
+no-note-meets {ws} {last} logged none answers =
+    record {
+      meets = λ bytes.
+          let o = ap (noteOn (lentOf ws bytes last) logged) none in
+          record { answered = answers ∙ sym (ap (λ (p : Outcome Lent). p .answered) o); left = sym (ap (λ (p : Outcome Lent). p .left) o) };
+    }
+
+-- a record that is read notes what its bytes say
+pub record-meets :
+    {logged : Logged} {ws us : List ℕ} {last after : ℕ} {r : Answer} (bytes : List ℕ) → logged ≡ noteBy bytes →
+    Noted logged ws last r us after → Meets (recordOut (lentOf ws bytes last)) r (lentOf us bytes after)
+unfolding recordOut
+record-meets {ws = ws} {us = us} {last = last} {after = after} {r = r} bytes says noted =
+    subst (λ (l : Logged). Meets (noteOut l (lentOf ws bytes last)) r (lentOf us bytes after)) says (noted .meets bytes)
 
 -- words that are no list
 pub refused-meets : {o : Outcome (List ℕ)} {ws : List ℕ} {r : Answer} → o ≡ refused notAList ws → r ≡ answer 3 0 0 0 → Meets o r ws

@@ -1,12 +1,16 @@
-// The waiting list as a Rust host calls it: six operations by number and slice. Each is a thin exported function: it checks that the
+// The waiting list as a Rust host calls it: seven operations by number and slice. Each is a thin exported function: it checks that the
 // lent words are a list, refuses by number 3 if they are not, and calls the inner function of the crate of its name. No one has a
-// `requires`, and each contract is the whole outcome of the call (docs/REFERENCE.md): the four numbers and every word.
+// `requires`, and each contract is the whole outcome of the call (docs/REFERENCE.md): the four numbers, every word, and the last number.
+ghost use Rattle.records.specs.Notes.{Within};
+ghost use Rattle.insert_record.specs.Noted.{Noted};
 ghost use Rattle.meaning.specs.Refusals.{Meets};
 ghost use Rattle.meaning.specs.Operations.{setUpOut, insertOut, findOut, finishOut, takeOut, sweepOut};
+ghost use Rattle.meaning.specs.Records.{lentOf, recordOut};
 ghost use Rattle.meaning.specs.Calls.{outcome};
 use meaning::Answer;
 use meaning::Call;
 use meaning::Reading;
+use records::note::Logged;
 
 // Makes the lent words a fresh list with D dimensions, largest key K and C cells.
 #[no_mangle]
@@ -71,9 +75,28 @@ pub extern "C" fn mdlist_sweep(list: &mut [u32]) -> Answer
     sweep::sweep(list, s)
 }
 
-// Makes a call: for programs that read calls and make them one after the other.
-pub fn make(list: &mut [u32], call: Call) -> Answer
-    ensures { λ r. ⌜ Meets (outcome call (now (list .entry))) r (now (list .exit)) ⌝ }
+// Puts what a record of the logger's export notes into the list, with its full number as the value; `last` is the last full number.
+#[no_mangle]
+pub extern "C" fn mdlist_record(list: &mut [u32], record: &[u8], last: &mut u64) -> Answer
+    ensures { λ r. ⌜ Meets (recordOut (lentOf (now (list .entry)) (now («record» .entry)) (now (last .entry)))) r (lentOf (now (list .exit)) (now («record» .entry)) (now (last .exit))) ⌝ }
+{
+    enter(list, records::note::note_by(record), last)
+}
+
+// Puts a note into the list: what a record does once it is read.
+pub fn enter(list: &mut [u32], logged: Logged, last: &mut u64) -> Answer
+    requires { ⌜ Within logged ⌝ }
+    ensures { λ r. ⌜ Noted logged (now (list .entry)) (now (last .entry)) r (now (list .exit)) (now (last .exit)) ⌝ }
+{
+    let Reading::IsList(s) = is_list::is_list(list) else {
+        return meaning::refused(meaning::NOT_A_LIST);
+    };
+    insert_record::insert_record(list, s, logged, last)
+}
+
+// Makes a call: for programs that read calls and make them one after the other. A call that is no record leaves the bytes unread.
+pub fn make(list: &mut [u32], bytes: &[u8], last: &mut u64, call: Call) -> Answer
+    ensures { λ r. ⌜ Meets (outcome call (lentOf (now (list .entry)) (now (bytes .entry)) (now (last .entry)))) r (lentOf (now (list .exit)) (now (bytes .entry)) (now (last .exit))) ⌝ }
 {
     match call {
         Call::SetUp(d, k, c) => return mdlist_set_up(d, k, c, list),
@@ -82,5 +105,6 @@ pub fn make(list: &mut [u32], call: Call) -> Answer
         Call::Finish(key) => return mdlist_finish(list, key),
         Call::Take => return mdlist_take(list),
         Call::Sweep => return mdlist_sweep(list),
+        Call::Record => return mdlist_record(list, bytes, last),
     }
 }

@@ -17,11 +17,9 @@ use Rattle.meaning.specs.Picture.{picture}
 use Rattle.meaning.specs.Reading.{isList}
 use Rattle.meaning.specs.Refusals.{Outcome, accepted, nothingLive, refused}
 use Rattle.meaning.specs.Operations.{fresh, setUpOut, fromLive, keysAbove, keysPassed, taken, takeOut}
-use Rattle.meaning.specs.Calls.{outcome, afterCalls}
+use Rattle.meaning.specs.Calls.{Made, madeOn, afterCalls}
 use Rattle.meaning.specs.Book.{Pair, pair, livePairs, bookOf, bookedAll}
 use Rattle.meaning.specs.Promises.{ListsStayLists, CallsKeepLists, takes, TakesInTurn, TakesEnd, CallsAreBooked}
-use Rattle.meaning.specs.declared.Call.the-variants.{SetUp}
-use Rattle.meaning.specs.declared.Call.{Call}
 use Rattle.meaning.proofs.State.{Sound}
 use Rattle.meaning.proofs.Picture.{picture-largest, picture-cells}
 use Rattle.meaning.proofs.ReadBack.{read-of-picture, picture-is-list}
@@ -35,15 +33,15 @@ use Rattle.meaning.proofs.BookCalls.{bookIn, call-booked, taken-pairs}
 -- Lists stay lists
 
 pub calls-keep-lists : CallsKeepLists
-calls-keep-lists call =
-    on-lists (λ ws. isList (outcome call ws .left) ≡ true) (λ s v.
-    let r = call-booked call s v in
+calls-keep-lists made =
+    on-lists (λ ws. isList (madeOn made ws .left .words) ≡ true) (λ s v.
+    let r = call-booked made s v in
     ap isList (r .left) ∙ picture-is-list (r .after) (r .sound))
 
-calls-after-keep : (calls : List Call) (ws : List ℕ) → isList ws ≡ true → isList (afterCalls calls ws) ≡ true
+calls-after-keep : (calls : List Made) (ws : List ℕ) → isList ws ≡ true → isList (afterCalls calls ws) ≡ true
 unfolding afterCalls
 calls-after-keep [] ws e = e
-calls-after-keep (call ∷ calls) ws e = calls-after-keep calls (outcome call ws .left) (calls-keep-lists call ws e)
+calls-after-keep (made ∷ calls) ws e = calls-after-keep calls (madeOn made ws .left .words) (calls-keep-lists made ws e)
 
 -- The live pairs and the standing keys
 
@@ -59,11 +57,11 @@ book-of-picture s v =
       standing = keysIn (read-of-picture s v i .row);
     }
 
-calls-booked : (calls : List Call) (s : State) → Sound s → bookOf (afterCalls calls (picture s)) ≡ bookedAll calls (length (picture s)) (bookIn s)
+calls-booked : (calls : List Made) (s : State) → Sound s → bookOf (afterCalls calls (picture s)) ≡ bookedAll calls (length (picture s)) (bookIn s)
 unfolding afterCalls bookedAll
 calls-booked [] s v = book-of-picture s v
-calls-booked (call ∷ calls) s v =
-    let r = call-booked call s v in
+calls-booked (made ∷ calls) s v =
+    let r = call-booked made s v in
     ap (λ ws. bookOf (afterCalls calls ws)) (r .left)
     ∙ calls-booked calls (r .after) (r .sound)
     ∙ ap₂ (bookedAll calls) (r .long) (r .book)
@@ -137,8 +135,7 @@ takes-end = on-lists (λ ws. (takeOut ws .answered .refusal ≡ 7) ↔ (livePair
 
 -- From a fresh list on
 
-set-up-list : (D K C : ℕ) (ws : List ℕ) → outcome (SetUp D K C) ws .answered .refusal ≡ 0 → isList (outcome (SetUp D K C) ws .left) ≡ true
-unfolding outcome
+set-up-list : (D K C : ℕ) (ws : List ℕ) → setUpOut D K C ws .answered .refusal ≡ 0 → isList (setUpOut D K C ws .left) ≡ true
 set-up-list D K C ws accepted = at (inRange D K C) refl (ℕ-discrete (length ws) (lengthOf D C))
   where
     at : (t : Bool) → inRange D K C ≡ t → Dec (length ws ≡ lengthOf D C) → isList (setUpOut D K C ws .left) ≡ true
@@ -148,5 +145,5 @@ set-up-list D K C ws accepted = at (inRange D K C) refl (ℕ-discrete (length ws
 
 pub lists-stay-lists : ListsStayLists
 lists-stay-lists ws f =
-    ap isList (f .left) ∙ calls-after-keep (f .calls) (outcome (SetUp (f .D) (f .K) (f .C)) (f .lent) .left)
+    ap isList (f .left) ∙ calls-after-keep (f .calls) (setUpOut (f .D) (f .K) (f .C) (f .lent) .left)
     (set-up-list (f .D) (f .K) (f .C) (f .lent) (f .accepted))

@@ -17,14 +17,18 @@ use Rattle.meaning.specs.State.{State}
 use Rattle.meaning.specs.Picture.{picture}
 use Rattle.meaning.specs.Operations.{fresh, paid, finished, withRow, revivedNode, revived, Slot, newNode, slotFor, slotOwes, added, deadFront}
 use Rattle.meaning.specs.Operations.{fromLive, deadNode, taken, swept}
-use Rattle.meaning.specs.Calls.{outcome}
-use Rattle.meaning.specs.Book.{Pair, pair, Book, hasKey, putPair, putKey, inserted, keptFrom, booked}
-use Rattle.meaning.specs.declared.Call.the-variants.{SetUp, Insert, Find, Finish, Take, Sweep}
+use Rattle.meaning.specs.Operations.{setUpOut, insertOut, findOut, finishOut, takeOut, sweepOut}
+use Rattle.meaning.specs.Refusals.{Outcome}
+use Rattle.meaning.specs.Records.{Lent, Asked, nothing, insertion, askedOut}
+use Rattle.meaning.specs.Calls.{outcome, Made, lending, madeOn}
+use Rattle.meaning.specs.Book.{Pair, pair, Book, hasKey, putPair, putKey, inserted, keyInserted, keptFrom, bookedCall, askedIn, booked}
+use Rattle.meaning.specs.declared.Call.the-variants.{SetUp, Insert, Find, Finish, Take, Sweep, Record}
 use Rattle.meaning.specs.declared.Call.{Call}
 use Rattle.meaning.proofs.AscendingRow.{Asc}
 use Rattle.meaning.proofs.State.{Sound}
 use Rattle.meaning.proofs.StateCells.{free-length}
 use Rattle.meaning.proofs.Picture.{picture-length}
+use Rattle.meaning.proofs.ReadBack.{picture-is-list}
 use Rattle.meaning.proofs.Places.{asc-smaller, asc-larger, onCell, onCell-cases, keys-changed, asc-changed}
 use Rattle.meaning.proofs.KeepsState.{deadFront-dead, live-split}
 use Rattle.meaning.proofs.KeepsSetUp.{fresh-sound}
@@ -35,7 +39,7 @@ use Rattle.meaning.proofs.KeepsInsert.{node-split, revived-keeping, rev
 use Rattle.meaning.proofs.Outcomes.{set-up-outcome-out-of-range, set-up-outcome-wrong-length, set-up-outcome, insert-outcome-bad-key}
 use Rattle.meaning.proofs.Outcomes.{insert-outcome-live, insert-outcome-dead, insert-outcome-full, insert-outcome-new, find-writes-nothing}
 use Rattle.meaning.proofs.Outcomes.{finish-outcome-bad-key, finish-outcome-absent, finish-outcome-standing, take-outcome-none}
-use Rattle.meaning.proofs.Outcomes.{take-outcome-first, sweep-outcome, key-cases, live-cases, free-cases}
+use Rattle.meaning.proofs.Outcomes.{take-outcome-first, sweep-outcome, key-cases, live-cases, free-cases, record-asks}
 use Rattle.meaning.proofs.BookRow.{pairsIn, keysIn, pairs-dead, pairs-past, pairs-after, pairs-changed, pairs-put, isThere, isLive, key-stands}
 use Rattle.meaning.proofs.BookRow.{key-lives, node-key, changed-alone, pairs-empty, pairs-first, kept-keys, kept-pairs, absent-changed}
 use Rattle.meaning.proofs.BookRow.{put-pairs, put-keys}
@@ -44,17 +48,21 @@ use Rattle.meaning.proofs.BookRow.{put-pairs, put-keys}
 abbrev pub bookIn : State → Book
 bookIn s = record { largest = s .settings .largest; cells = s .settings .cells; pairs = pairsIn (s .row); standing = keysIn (s .row) }
 
-pub record Booking (call : Call) (s : State) : Type 0 where
+-- the words that a call leaves are those of a state in order, with this book
+pub record Booking (s : State) (words : List ℕ) (done : Book) : Type 0 where
   pub after : State
   pub sound : Sound after
-  pub left : outcome call (picture s) .left ≡ picture after
+  pub left : words ≡ picture after
   pub long : length (picture after) ≡ length (picture s)
-  pub book : bookIn after ≡ booked call (length (picture s)) (bookIn s)
+  pub book : bookIn after ≡ done
 
 -- a call that writes nothing
-still : (call : Call) (s : State) → Sound s → outcome call (picture s) .left ≡ picture s → booked call (length (picture s)) (bookIn s) ≡ bookIn s →
-    Booking call s
-still call s v words book = record { after = s; sound = v; left = words; long = refl; book = sym book }
+still : (s : State) (words : List ℕ) (book : Book) → Sound s → words ≡ picture s → book ≡ bookIn s → Booking s words book
+still s words book v same kept = record { after = s; sound = v; left = same; long = refl; book = sym kept }
+
+-- what a call does to a state's book, where a record asks for this
+abbrev bookedIn : Call → Asked → State → Book
+bookedIn call asked s = bookedCall call asked (length (picture s)) (bookIn s)
 
 -- the book of a state with the settings of another one
 book-is : (s t : State) (pairs : List Pair) (keys : List ℕ) → t .settings ≡ s .settings → pairsIn (t .row) ≡ pairs → keysIn (t .row) ≡ keys →
@@ -67,9 +75,10 @@ same-length s t e = picture-length t ∙ ap (λ n. lengthOf (n .dimensions) (n .
 
 -- Set up
 
-pub set-up-booked : (D K C : ℕ) (s : State) → Sound s → Booking (SetUp D K C) s
-unfolding outcome booked fresh those
-set-up-booked D K C s v = at (inRange D K C) refl (ℕ-discrete (length (picture s)) (lengthOf D C))
+pub set-up-booked :
+    (asked : Asked) (D K C : ℕ) (s : State) → Sound s → Booking s (setUpOut D K C (picture s) .left) (bookedIn (SetUp D K C) asked s)
+unfolding bookedCall fresh those
+set-up-booked asked D K C s v = at (inRange D K C) refl (ℕ-discrete (length (picture s)) (lengthOf D C))
   where
     long : ℕ
     long = length (picture s)
@@ -77,12 +86,12 @@ set-up-booked D K C s v = at (inRange D K C) refl (ℕ-discrete (length (picture
     new : Book
     new = record { largest = K; cells = C; pairs = []; standing = [] }
 
-    at : (t : Bool) → inRange D K C ≡ t → Dec (long ≡ lengthOf D C) → Booking (SetUp D K C) s
+    at : (t : Bool) → inRange D K C ≡ t → Dec (long ≡ lengthOf D C) → Booking s (setUpOut D K C (picture s) .left) (bookedIn (SetUp D K C) asked s)
     at false e l =
-        still (SetUp D K C) s v (ap (λ o. o .left) (set-up-outcome-out-of-range D K C (picture s) e))
+        still s _ _ v (ap (λ o. o .left) (set-up-outcome-out-of-range D K C (picture s) e))
         (ap (λ t. cond (t && eqb long (lengthOf D C)) new (bookIn s)) e)
     at true e (no l) =
-        still (SetUp D K C) s v (ap (λ o. o .left) (set-up-outcome-wrong-length D K C (picture s) e l))
+        still s _ _ v (ap (λ o. o .left) (set-up-outcome-wrong-length D K C (picture s) e l))
         (ap₂ (λ t u. cond (t && u) new (bookIn s)) e (ne-eqb long (lengthOf D C) l))
     at true e (yes l) =
         record {
@@ -119,13 +128,13 @@ unfolding inserted
 inserted-new key value k e f h = rw (e, f, lt-ltb (suc (length (k .standing))) (k .cells) h) refl
 
 -- a key in range is tried, another one is not
-booked-tried : (key value long : ℕ) (k : Book) → 1 ≤ key → key ≤ k .largest → booked (Insert key value) long k ≡ inserted key value k
-unfolding booked
-booked-tried key value long k l h = rw (le-leb 1 key l, le-leb key (k .largest) h) refl
+booked-tried : (key value : ℕ) (k : Book) → 1 ≤ key → key ≤ k .largest → keyInserted key value k ≡ inserted key value k
+unfolding keyInserted
+booked-tried key value k l h = rw (le-leb 1 key l, le-leb key (k .largest) h) refl
 
-booked-untried : (key value long : ℕ) (k : Book) → (1 ≤ key → k .largest < key) → booked (Insert key value) long k ≡ k
-unfolding booked
-booked-untried key value long k f = at (decLe 1 key)
+booked-untried : (key value : ℕ) (k : Book) → (1 ≤ key → k .largest < key) → keyInserted key value k ≡ k
+unfolding keyInserted
+booked-untried key value k f = at (decLe 1 key)
   where
     at : Dec (1 ≤ key) → cond (leb 1 key && leb key (k .largest)) (inserted key value k) k ≡ k
     at (yes l) = rw (le-leb 1 key l, lt-leb key (k .largest) (f l)) refl
@@ -197,9 +206,13 @@ module _ (s : State) (v : Sound s) (key value : ℕ) (t : Slot) (absent : nodeAt
       put-keys (newNode (t .n) key value (slotOwes t)) finishedRow finishedRow-ascends finishedRow-absent
       ∙ ap (putKey key) (finished-keys (t .c) (finished (t .parent) (s .row)) ∙ finished-keys (t .parent) (s .row))
 
+-- what an insert does to a state
+abbrev InsertBooking : State → ℕ → ℕ → Type 0
+InsertBooking s key value = Booking s (insertOut (picture s) key value .left) (keyInserted key value (bookIn s))
+
 module _ (s : State) (v : Sound s) (key value : ℕ) (l : 1 ≤ key) (h : key ≤ s .settings .largest) where
-  tried : booked (Insert key value) (length (picture s)) (bookIn s) ≡ inserted key value (bookIn s)
-  tried = booked-tried key value (length (picture s)) (bookIn s) l h
+  tried : keyInserted key value (bookIn s) ≡ inserted key value (bookIn s)
+  tried = booked-tried key value (bookIn s) l h
 
   lives : (o : Option Node) → nodeAt key (s .row) ≡ o → hasKey key (map (λ p. p .key) (pairsIn (s .row))) ≡ isLive o
   lives o e = key-lives 0 key (s .row) (v .ascends) ∙ ap isLive e
@@ -207,14 +220,13 @@ module _ (s : State) (v : Sound s) (key value : ℕ) (l : 1 ≤ key) (h : key �
   stands : (o : Option Node) → nodeAt key (s .row) ≡ o → hasKey key (keysIn (s .row)) ≡ isThere o
   stands o e = key-stands key (s .row) ∙ ap isThere e
 
-  insert-live-booked : (x : Node) → nodeAt key (s .row) ≡ some x → x .live ≡ true → Booking (Insert key value) s
-  unfolding outcome
+  insert-live-booked : (x : Node) → nodeAt key (s .row) ≡ some x → x .live ≡ true → InsertBooking s key value
   insert-live-booked x e live =
-      still (Insert key value) s v (ap (λ o. o .left) (insert-outcome-live s v key value l h x e live))
+      still s _ _ v (ap (λ o. o .left) (insert-outcome-live s v key value l h x e live))
       (tried ∙ inserted-live key value (bookIn s) (lives (some x) e ∙ live))
 
-  insert-dead-booked : (x : Node) → nodeAt key (s .row) ≡ some x → x .live ≡ false → Booking (Insert key value) s
-  unfolding outcome revived
+  insert-dead-booked : (x : Node) → nodeAt key (s .row) ≡ some x → x .live ≡ false → InsertBooking s key value
+  unfolding revived
   insert-dead-booked x e dead =
       record {
         after = revived s x value;
@@ -227,14 +239,13 @@ module _ (s : State) (v : Sound s) (key value : ℕ) (l : 1 ≤ key) (h : key �
             ∙ sym (tried ∙ inserted-dead key value (bookIn s) (lives (some x) e ∙ dead) (stands (some x) e));
       }
 
-  insert-full-booked : nodeAt key (s .row) ≡ none → length (s .free) ≡ 0 → Booking (Insert key value) s
-  unfolding outcome
+  insert-full-booked : nodeAt key (s .row) ≡ none → length (s .free) ≡ 0 → InsertBooking s key value
   insert-full-booked e full =
-      still (Insert key value) s v (ap (λ o. o .left) (insert-outcome-full s v key value l h e full))
+      still s _ _ v (ap (λ o. o .left) (insert-outcome-full s v key value l h e full))
       (tried ∙ inserted-full key value (bookIn s) (lives none e) (stands none e) (let n = room s v in omega arith))
 
-  insert-new-booked : nodeAt key (s .row) ≡ none → 0 < length (s .free) → Booking (Insert key value) s
-  unfolding outcome added
+  insert-new-booked : nodeAt key (s .row) ≡ none → 0 < length (s .free) → InsertBooking s key value
+  unfolding added
   insert-new-booked e space =
       let t = slotFor s key in
       record {
@@ -248,29 +259,28 @@ module _ (s : State) (v : Sound s) (key value : ℕ) (l : 1 ≤ key) (h : key �
             ∙ sym (tried ∙ inserted-new key value (bookIn s) (lives none e) (stands none e) (let n = room s v in omega arith));
       }
 
-pub insert-booked : (key value : ℕ) (s : State) → Sound s → Booking (Insert key value) s
-unfolding outcome
+pub insert-booked : (key value : ℕ) (s : State) → Sound s → InsertBooking s key value
 insert-booked key value s v =
     key-cases s key
-    (λ n. still (Insert key value) s v (ap (λ o. o .left) (insert-outcome-bad-key s v key value n))
-    (booked-untried key value (length (picture s)) (bookIn s) n))
+    (λ n. still s _ _ v (ap (λ o. o .left) (insert-outcome-bad-key s v key value n))
+    (booked-untried key value (bookIn s) n))
     (λ l h e. free-cases s (insert-full-booked s v key value l h e) (insert-new-booked s v key value l h e))
     (λ l h x e. live-cases x (insert-live-booked s v key value l h x e) (insert-dead-booked s v key value l h x e))
 
 -- Find
 
-pub find-booked : (key : ℕ) (s : State) → Sound s → Booking (Find key) s
-unfolding outcome booked
-find-booked key s v = still (Find key) s v (find-writes-nothing (picture s) key) refl
+pub find-booked : (asked : Asked) (key : ℕ) (s : State) → Sound s → Booking s (findOut (picture s) key .left) (bookedIn (Find key) asked s)
+unfolding bookedCall
+find-booked asked key s v = still s _ _ v (find-writes-nothing (picture s) key) refl
 
 -- Finish
 
-pub finish-booked : (key : ℕ) (s : State) → Sound s → Booking (Finish key) s
-unfolding outcome booked
-finish-booked key s v =
+pub finish-booked : (asked : Asked) (key : ℕ) (s : State) → Sound s → Booking s (finishOut (picture s) key .left) (bookedIn (Finish key) asked s)
+unfolding bookedCall
+finish-booked asked key s v =
     key-cases s key
-    (λ n. still (Finish key) s v (ap (λ o. o .left) (finish-outcome-bad-key s v key n)) refl)
-    (λ l h e. still (Finish key) s v (ap (λ o. o .left) (finish-outcome-absent s v key l h e)) refl)
+    (λ n. still s _ _ v (ap (λ o. o .left) (finish-outcome-bad-key s v key n)) refl)
+    (λ l h e. still s _ _ v (ap (λ o. o .left) (finish-outcome-absent s v key l h e)) refl)
     (λ l h x e.
     let t = withRow s (finished (x .cell) (s .row)) in
     record {
@@ -295,17 +305,17 @@ pub taken-keys : (s : State) (x : Node) → keysIn (taken s x .row) ≡ keysIn (
 unfolding taken
 taken-keys s x = keys-changed (onCell (x .cell) deadNode) (dead-keeping (x .cell)) (s .row)
 
-pub take-booked : (s : State) → Sound s → Booking Take s
-unfolding outcome booked taken
-take-booked s v = at (fromLive (s .row)) refl
+pub take-booked : (asked : Asked) (s : State) → Sound s → Booking s (takeOut (picture s) .left) (bookedIn Take asked s)
+unfolding bookedCall taken
+take-booked asked s v = at (fromLive (s .row)) refl
   where
     gone : List Pair → Book
     gone pairs = record { largest = s .settings .largest; cells = s .settings .cells; pairs = drop 1 pairs; standing = keysIn (s .row) }
 
-    at : (rest : List Node) → fromLive (s .row) ≡ rest → Booking Take s
+    at : (rest : List Node) → fromLive (s .row) ≡ rest → Booking s (takeOut (picture s) .left) (bookedIn Take asked s)
     at [] e =
         let none = pairs-empty (s .row) e in
-        still Take s v (ap (λ o. o .left) (take-outcome-none s v e))
+        still s _ _ v (ap (λ o. o .left) (take-outcome-none s v e))
         (ap gone none ∙ sym (book-is s s [] (keysIn (s .row)) refl none refl))
     at (x ∷ later) e =
         record {
@@ -328,9 +338,9 @@ pub swept-keys : (s : State) → Sound s → keysIn (swept s .row) ≡ keptFrom 
 unfolding swept
 swept-keys s v = keys-changed paid paid-all-keeping (keptBy (s .row)) ∙ sym (kept-keys (s .row) (v .ascends))
 
-pub sweep-booked : (s : State) → Sound s → Booking Sweep s
-unfolding outcome booked swept
-sweep-booked s v =
+pub sweep-booked : (asked : Asked) (s : State) → Sound s → Booking s (sweepOut (picture s) .left) (bookedIn Sweep asked s)
+unfolding bookedCall swept
+sweep-booked asked s v =
     record {
       after = swept s;
       sound = swept-sound s v;
@@ -339,12 +349,26 @@ sweep-booked s v =
       book = book-is s (swept s) (pairsIn (s .row)) (keptFrom (pairsIn (s .row)) (keysIn (s .row))) refl (swept-pairs s) (swept-keys s v);
     }
 
+-- Record
+
+asked-booked : (made : Made) (asked : Asked) (s : State) → Sound s → Booking s (askedOut (lending made (picture s)) asked .left .words) (bookedIn Record asked s)
+unfolding bookedCall
+asked-booked made (nothing refusal) s v = still s _ _ v refl refl
+asked-booked made (insertion key number) s v = insert-booked key number s v
+
 -- Every call
 
-pub call-booked : (call : Call) (s : State) → Sound s → Booking call s
-call-booked (SetUp D K C) s v = set-up-booked D K C s v
-call-booked (Insert key value) s v = insert-booked key value s v
-call-booked (Find key) s v = find-booked key s v
-call-booked (Finish key) s v = finish-booked key s v
-call-booked Take s v = take-booked s v
-call-booked Sweep s v = sweep-booked s v
+pub call-booked : (made : Made) (s : State) → Sound s → Booking s (madeOn made (picture s) .left .words) (booked made (length (picture s)) (bookIn s))
+unfolding outcome bookedCall
+call-booked made s v = at (made .call)
+  where
+    at : (call : Call) → Booking s (outcome call (lending made (picture s)) .left .words) (bookedIn call (askedIn made) s)
+    at (SetUp D K C) = set-up-booked (askedIn made) D K C s v
+    at (Insert key value) = insert-booked key value s v
+    at (Find key) = find-booked (askedIn made) key s v
+    at (Finish key) = finish-booked (askedIn made) key s v
+    at Take = take-booked (askedIn made) s v
+    at Sweep = sweep-booked (askedIn made) s v
+    at Record =
+        subst (λ (o : Outcome Lent). Booking s (o .left .words) (bookedIn Record (askedIn made) s)) (sym (record-asks (lending made (picture s)) (picture-is-list s v)))
+        (asked-booked made (askedIn made) s v)

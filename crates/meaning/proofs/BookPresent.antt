@@ -14,7 +14,6 @@ use Rattle.meaning.specs.State.{State}
 use Rattle.meaning.specs.Picture.{mark, standingWords, wordsOf, picture, nextFree}
 use Rattle.meaning.specs.Words.{keyAt, markAt, largestAt}
 use Rattle.meaning.specs.Operations.{insertOut, findOut}
-use Rattle.meaning.specs.Calls.{outcome}
 use Rattle.meaning.specs.Promises.{Live, PresentMeansThatKey}
 use Rattle.meaning.proofs.State.{Sound}
 use Rattle.meaning.proofs.StateCells.{row-range}
@@ -125,7 +124,6 @@ module _ (s : State) (v : Sound s) (key : ℕ) where
 -- On lists
 
 pub present-means-that-key : PresentMeansThatKey
-unfolding outcome
 present-means-that-key =
     on-lists (λ ws. (key value : ℕ) → 1 ≤ key → key ≤ largestAt ws →
     ((insertOut ws key value .answered .refusal ≡ 5) ↔ Live ws key) × ((findOut ws key .answered .refusal ≡ 0) ↔ Live ws key))

@@ -15,18 +15,20 @@ use Rattle.meaning.specs.Row.{Node, nodeAt}
 use Rattle.meaning.specs.State.{State}
 use Rattle.meaning.specs.Picture.{picture}
 use Rattle.meaning.specs.Refusals.{Outcome}
-use Rattle.meaning.specs.Operations.{fromLive}
-use Rattle.meaning.specs.Calls.{outcome}
-use Rattle.meaning.specs.Book.{Book, bookOf, Reply, replies, replyIn, hasKey, valueIn, liveIn, keyed, insertReply, takeReply, replyTo}
+use Rattle.meaning.specs.Operations.{setUpOut, insertOut, findOut, finishOut, fromLive, takeOut}
+use Rattle.meaning.specs.Records.{Lent, Asked, nothing, insertion, askedOut}
+use Rattle.meaning.specs.Calls.{outcome, Made, lending, madeOn}
+use Rattle.meaning.specs.Book.{Book, bookOf, Reply, replies, replyIn, hasKey, valueIn, liveIn, keyed, insertReply, takeReply, replyToCall, askedIn, replyTo}
 use Rattle.meaning.specs.Promises.{AnswersAreBooked}
-use Rattle.meaning.specs.declared.Call.the-variants.{SetUp, Insert, Find, Finish, Take, Sweep}
+use Rattle.meaning.specs.declared.Call.the-variants.{SetUp, Insert, Find, Finish, Take, Sweep, Record}
 use Rattle.meaning.specs.declared.Call.{Call}
 use Rattle.meaning.proofs.State.{Sound}
 use Rattle.meaning.proofs.Outcomes.{on-lists, set-up-outcome-out-of-range, set-up-outcome-wrong-length, set-up-outcome, insert-outcome-bad-key}
 use Rattle.meaning.proofs.Outcomes.{insert-outcome-live, insert-outcome-dead, insert-outcome-full, insert-outcome-new, find-outcome-bad-key}
 use Rattle.meaning.proofs.Outcomes.{find-outcome-absent, find-outcome-dead, find-outcome-live, finish-outcome-bad-key, finish-outcome-absent}
 use Rattle.meaning.proofs.Outcomes.{finish-outcome-standing, take-outcome-none, take-outcome-first, sweep-outcome}
-use Rattle.meaning.proofs.Outcomes.{key-cases, live-cases, free-cases}
+use Rattle.meaning.proofs.Outcomes.{key-cases, live-cases, free-cases, record-asks}
+use Rattle.meaning.proofs.ReadBack.{picture-is-list}
 use Rattle.meaning.proofs.BookRow.{pairsIn, keysIn, pairs-live, pairs-dead, isThere, isLive, key-stands, key-lives, pairs-empty, pairs-first}
 use Rattle.meaning.proofs.BookCalls.{bookIn, room}
 use Rattle.meaning.proofs.Book.{book-of-picture}
@@ -62,19 +64,19 @@ keyed-bad key k reply f = at (decLe 1 key)
     at (yes l) = rw (le-leb 1 key l, lt-leb key (k .largest) (f l)) refl
     at (no l) = let below : key < 1 = omega arith in rw (lt-leb 1 key below) refl
 
--- a call on a state replies what the state's book tells
-abbrev Replied : Call → State → Type 0
-Replied call s = replyIn (outcome call (picture s) .answered) ≡ replyTo call (length (picture s)) (bookIn s)
+-- what an outcome on a state answers is what the state's book tells, where a record asks for this
+abbrev Replied : Call → Asked → State → Outcome (List ℕ) → Type 0
+Replied call asked s o = replyIn (o .answered) ≡ replyToCall call asked (length (picture s)) (bookIn s)
 
 -- what an outcome answers
 answering : {o p : Outcome (List ℕ)} → o ≡ p → replyIn (o .answered) ≡ replyIn (p .answered)
 answering e = ap (λ (o : Outcome (List ℕ)). replyIn (o .answered)) e
 
-set-up-reply : (D K C : ℕ) (s : State) → Replied (SetUp D K C) s
-unfolding outcome replyTo
-set-up-reply D K C s = at (inRange D K C) refl (ℕ-discrete (length (picture s)) (lengthOf D C))
+set-up-reply : (asked : Asked) (D K C : ℕ) (s : State) → Replied (SetUp D K C) asked s (setUpOut D K C (picture s))
+unfolding replyToCall
+set-up-reply asked D K C s = at (inRange D K C) refl (ℕ-discrete (length (picture s)) (lengthOf D C))
   where
-    at : (t : Bool) → inRange D K C ≡ t → Dec (length (picture s) ≡ lengthOf D C) → Replied (SetUp D K C) s
+    at : (t : Bool) → inRange D K C ≡ t → Dec (length (picture s) ≡ lengthOf D C) → Replied (SetUp D K C) asked s (setUpOut D K C (picture s))
     at false e l = answering (set-up-outcome-out-of-range D K C (picture s) e) ∙ rw e refl
     at true e (no l) = answering (set-up-outcome-wrong-length D K C (picture s) e l) ∙ rw (e, ne-eqb (length (picture s)) (lengthOf D C) l) refl
     at true e (yes l) = answering (set-up-outcome D K C (picture s) e l) ∙ rw (e, eq-eqb (length (picture s)) (lengthOf D C) l) refl
@@ -87,8 +89,8 @@ module _ (s : State) (v : Sound s) (key : ℕ) where
   stands : (o : Option Node) → nodeAt key (s .row) ≡ o → hasKey key (keysIn (s .row)) ≡ isThere o
   stands o e = key-stands key (s .row) ∙ ap isThere e
 
-  insert-reply : (value : ℕ) → Replied (Insert key value) s
-  unfolding outcome replyTo insertReply
+  insert-reply : (value : ℕ) → replyIn (insertOut (picture s) key value .answered) ≡ keyed key (bookIn s) (insertReply key (bookIn s))
+  unfolding insertReply
   insert-reply value =
       key-cases s key
       (λ n. answering (insert-outcome-bad-key s v key value n) ∙ sym (keyed-bad key (bookIn s) _ n))
@@ -102,9 +104,9 @@ module _ (s : State) (v : Sound s) (key : ℕ) where
       (λ q. answering (insert-outcome-dead s v key value l h x e q) ∙ sym (keyed-good key (bookIn s) _ l h
       ∙ rw (lives (some x) e ∙ q, stands (some x) e) refl)))
 
-  find-reply : Replied (Find key) s
-  unfolding outcome replyTo
-  find-reply =
+  find-reply : (asked : Asked) → Replied (Find key) asked s (findOut (picture s) key)
+  unfolding replyToCall
+  find-reply asked =
       key-cases s key
       (λ n. answering (find-outcome-bad-key s v key n) ∙ sym (keyed-bad key (bookIn s) _ n))
       (λ l h e. answering (find-outcome-absent s v key l h e) ∙ sym (keyed-good key (bookIn s) _ l h ∙ rw (lives none e) refl))
@@ -113,32 +115,45 @@ module _ (s : State) (v : Sound s) (key : ℕ) where
       ∙ rw (lives (some x) e ∙ q, pair-value key x (s .row) e q) refl))
       (λ q. answering (find-outcome-dead s v key l h x e q) ∙ sym (keyed-good key (bookIn s) _ l h ∙ rw (lives (some x) e ∙ q) refl)))
 
-  finish-reply : Replied (Finish key) s
-  unfolding outcome replyTo
-  finish-reply =
+  finish-reply : (asked : Asked) → Replied (Finish key) asked s (finishOut (picture s) key)
+  unfolding replyToCall
+  finish-reply asked =
       key-cases s key
       (λ n. answering (finish-outcome-bad-key s v key n) ∙ sym (keyed-bad key (bookIn s) _ n))
       (λ l h e. answering (finish-outcome-absent s v key l h e) ∙ sym (keyed-good key (bookIn s) _ l h ∙ rw (stands none e) refl))
       (λ l h x e. answering (finish-outcome-standing s v key l h x e) ∙ sym (keyed-good key (bookIn s) _ l h ∙ rw (stands (some x) e) refl))
 
-take-reply : (s : State) → Sound s → Replied Take s
-unfolding outcome replyTo
-take-reply s v = at (fromLive (s .row)) refl
+take-reply : (asked : Asked) (s : State) → Sound s → Replied Take asked s (takeOut (picture s))
+unfolding replyToCall
+take-reply asked s v = at (fromLive (s .row)) refl
   where
-    at : (rest : List Node) → fromLive (s .row) ≡ rest → Replied Take s
+    at : (rest : List Node) → fromLive (s .row) ≡ rest → Replied Take asked s (takeOut (picture s))
     at [] e = answering (take-outcome-none s v e) ∙ sym (ap takeReply (pairs-empty (s .row) e))
     at (x ∷ later) e = answering (take-outcome-first s v x later e) ∙ sym (ap takeReply (pairs-first (s .row) x later e))
 
-call-reply : (call : Call) (s : State) → Sound s → Replied call s
-unfolding outcome replyTo
-call-reply (SetUp D K C) s v = set-up-reply D K C s
-call-reply (Insert key value) s v = insert-reply s v key value
-call-reply (Find key) s v = find-reply s v key
-call-reply (Finish key) s v = finish-reply s v key
-call-reply Take s v = take-reply s v
-call-reply Sweep s v = answering (sweep-outcome s v)
+asked-reply :
+    (made : Made) (asked : Asked) (s : State) → Sound s →
+    replyIn (askedOut (lending made (picture s)) asked .answered) ≡ replyToCall Record asked (length (picture s)) (bookIn s)
+unfolding replyToCall
+asked-reply made (nothing refusal) s v = refl
+asked-reply made (insertion key number) s v = insert-reply s v key number
+
+call-reply : (made : Made) (s : State) → Sound s → replyIn (madeOn made (picture s) .answered) ≡ replyTo made (length (picture s)) (bookIn s)
+unfolding outcome replyToCall
+call-reply made s v = at (made .call)
+  where
+    at :
+        (call : Call) →
+        replyIn (outcome call (lending made (picture s)) .answered) ≡ replyToCall call (askedIn made) (length (picture s)) (bookIn s)
+    at (SetUp D K C) = set-up-reply (askedIn made) D K C s
+    at (Insert key value) = insert-reply s v key value
+    at (Find key) = find-reply s v key (askedIn made)
+    at (Finish key) = finish-reply s v key (askedIn made)
+    at Take = take-reply (askedIn made) s v
+    at Sweep = answering (sweep-outcome s v)
+    at Record = ap (λ (o : Outcome Lent). replyIn (o .answered)) (record-asks (lending made (picture s)) (picture-is-list s v)) ∙ asked-reply made (askedIn made) s v
 
 pub answers-are-booked : AnswersAreBooked
-answers-are-booked call =
-    on-lists (λ ws. replyIn (outcome call ws .answered) ≡ replyTo call (length ws) (bookOf ws)) (λ s v.
-    call-reply call s v ∙ ap (replyTo call (length (picture s))) (sym (book-of-picture s v)))
+answers-are-booked made =
+    on-lists (λ ws. replyIn (madeOn made ws .answered) ≡ replyTo made (length ws) (bookOf ws)) (λ s v.
+    call-reply made s v ∙ ap (replyTo made (length (picture s))) (sym (book-of-picture s v)))

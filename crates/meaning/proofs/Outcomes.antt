@@ -18,19 +18,22 @@ use Rattle.settings.specs.Checked.{checkedOf, settingsOf}
 use Rattle.settings.specs.declared.Checked.the-variants.{Accepted, OutOfRange}
 use Rattle.lists.proofs.All.{All, all-zip}
 use Rattle.lists.proofs.Tests.{cond-has}
+use Rattle.records.specs.Notes.{noteBy}
+use Rattle.records.specs.declared.note.Logged.{Logged}
 use Rattle.meaning.specs.Row.{Node, firstOf, Place, places, owed, placeOf, nodeAt}
 use Rattle.meaning.specs.State.{State, positionKey, placesOf}
 use Rattle.meaning.specs.Picture.{mark, standingWords, wordsOf, picture, nextFree}
-use Rattle.meaning.specs.Reading.{read, isList, readingOf}
+use Rattle.meaning.specs.Reading.{read, settingsAt, isList, readingOf}
 use Rattle.meaning.specs.Refusals.{Outcome, accepted, Refusal, outOfRange, wrongLength, notAList, badKey, keyLive, noFreeCell, nothingLive}
 use Rattle.meaning.specs.Refusals.{keyNotLive, keyNotStanding, owedNotStanding, refused}
 use Rattle.meaning.specs.Words.{markAt, owedAt}
 use Rattle.meaning.specs.Operations.{onList, onKey, owesFromFree, looked, fresh, setUpOut, finished, withRow, linksMoved, finishAt, finishOut, onReading, setUpBy}
 use Rattle.meaning.specs.Operations.{findAt, findOut, revived, slotFor, added, insertNew, insertAt, insertOut, fromLive, keysAbove, keysPassed}
 use Rattle.meaning.specs.Operations.{taken, takeFrom, takeOut, freedBy, swept, someOwesFromFree, sweepOn, sweepOut}
-use Rattle.meaning.specs.Calls.{outcome}
+use Rattle.meaning.specs.Records.{Lent, Asked, nothing, insertion, noteAsks, recorded, askedOut, noteOn, noteOut, recordOut}
+use Rattle.meaning.specs.Calls.{onWords, outcome}
 use Rattle.meaning.specs.Promises.{RefusedAltersNothing}
-use Rattle.meaning.specs.declared.Call.the-variants.{SetUp, Insert, Find, Finish, Take, Sweep}
+use Rattle.meaning.specs.declared.Call.the-variants.{SetUp, Insert, Find, Finish, Take, Sweep, Record}
 use Rattle.meaning.specs.declared.Reading.{Reading}
 use Rattle.meaning.specs.declared.Reading.the-variants.{IsList, NotAList}
 use Rattle.meaning.proofs.State.{Sound}
@@ -370,14 +373,61 @@ module _ (P : Outcome (List ℕ) → Type 0) (ws : List ℕ) (turned : (r : Refu
 abbrev Kept : List ℕ → Outcome (List ℕ) → Type 0
 Kept ws o = (o .answered .refusal ≡ 0 → ⊥) → o .left ≡ ws
 
+-- .. and so nothing else that was lent
+kept-lent : (lent : Lent) (o : Outcome (List ℕ)) → Kept (lent .words) o → (o .answered .refusal ≡ 0 → ⊥) → onWords lent o .left ≡ lent
+kept-lent lent o kept ne = λ i. record { words = kept ne i; bytes = lent .bytes; last = lent .last }
+
+-- a refused insert alters neither the words nor the last number
+kept-recorded :
+    (lent : Lent) (number : ℕ) (o : Outcome (List ℕ)) → Kept (lent .words) o → (o .answered .refusal ≡ 0 → ⊥) → recorded lent number o .left ≡ lent
+kept-recorded lent number o kept ne =
+    let same : cond (eqb (o .answered .refusal) 0) number (lent .last) ≡ lent .last = rw (ne-eqb (o .answered .refusal) 0 ne) refl in
+    λ i. record { words = kept ne i; bytes = lent .bytes; last = same i }
+
+insert-kept : (ws : List ℕ) (key value : ℕ) → Kept ws (insertOut ws key value)
+insert-kept ws key value = insert-has (Kept ws) ws (λ r ne. refl) key value (λ count s ne. absurd (ne refl))
+
+asked-kept : (lent : Lent) (asked : Asked) → (askedOut lent asked .answered .refusal ≡ 0 → ⊥) → askedOut lent asked .left ≡ lent
+asked-kept lent (nothing refusal) ne = refl
+asked-kept lent (insertion key number) ne = kept-recorded lent number (insertOut (lent .words) key number) (insert-kept (lent .words) key number) ne
+
+note-kept : (logged : Logged) (lent : Lent) → (noteOut logged lent .answered .refusal ≡ 0 → ⊥) → noteOut logged lent .left ≡ lent
+unfolding noteOut
+note-kept logged lent = at (readingOf (lent .words))
+  where
+    at : (reading : Reading) → (noteOn lent logged reading .answered .refusal ≡ 0 → ⊥) → noteOn lent logged reading .left ≡ lent
+    at (IsList s) ne = asked-kept lent (noteAsks (lent .last) logged) ne
+    at NotAList ne = refl
+
 pub refused-alters-nothing : RefusedAltersNothing
-unfolding outcome
-refused-alters-nothing (SetUp D K C) ws = set-up-has (Kept ws) ws (λ r ne. refl) D K C (λ ne. absurd (ne refl))
-refused-alters-nothing (Insert key value) ws = insert-has (Kept ws) ws (λ r ne. refl) key value (λ count s ne. absurd (ne refl))
-refused-alters-nothing (Find key) ws = find-has (Kept ws) ws (λ r ne. refl) key (λ value count ne. refl)
-refused-alters-nothing (Finish key) ws = finish-has (Kept ws) ws (λ r ne. refl) key (λ count s ne. absurd (ne refl))
-refused-alters-nothing Take ws = take-has (Kept ws) ws (λ r ne. refl) (λ key value count s ne. absurd (ne refl))
-refused-alters-nothing Sweep ws = sweep-has (Kept ws) ws (λ r ne. refl) (λ count s ne. absurd (ne refl))
+unfolding outcome recordOut
+refused-alters-nothing (SetUp D K C) lent =
+    kept-lent lent (setUpOut D K C (lent .words)) (set-up-has (Kept (lent .words)) (lent .words) (λ r ne. refl) D K C (λ ne. absurd (ne refl)))
+refused-alters-nothing (Insert key value) lent = kept-lent lent (insertOut (lent .words) key value) (insert-kept (lent .words) key value)
+refused-alters-nothing (Find key) lent =
+    kept-lent lent (findOut (lent .words) key) (find-has (Kept (lent .words)) (lent .words) (λ r ne. refl) key (λ value count ne. refl))
+refused-alters-nothing (Finish key) lent =
+    kept-lent lent (finishOut (lent .words) key) (finish-has (Kept (lent .words)) (lent .words) (λ r ne. refl) key (λ count s ne. absurd (ne refl)))
+refused-alters-nothing Take lent =
+    kept-lent lent (takeOut (lent .words)) (take-has (Kept (lent .words)) (lent .words) (λ r ne. refl) (λ key value count s ne. absurd (ne refl)))
+refused-alters-nothing Sweep lent =
+    kept-lent lent (sweepOut (lent .words)) (sweep-has (Kept (lent .words)) (lent .words) (λ r ne. refl) (λ count s ne. absurd (ne refl)))
+refused-alters-nothing Record lent = note-kept (noteBy (lent .bytes)) lent
+
+-- on a list a record does what it asks for
+pub record-asks : (lent : Lent) → isList (lent .words) ≡ true → recordOut lent ≡ askedOut lent (noteAsks (lent .last) (noteBy (lent .bytes)))
+unfolding recordOut noteOut readingOf
+record-asks lent e = rw e refl
+
+-- .. and what is accepted was asked of a list
+pub accepted-on-list : (lent : Lent) → recordOut lent .answered .refusal ≡ 0 → isList (lent .words) ≡ true
+unfolding recordOut noteOut readingOf
+accepted-on-list lent = at (isList (lent .words))
+  where
+    at :
+        (t : Bool) → noteOn lent (noteBy (lent .bytes)) (cond t (IsList (settingsAt (lent .words))) NotAList) .answered .refusal ≡ 0 → t ≡ true
+    at true z = refl
+    at false z = absurd (omega arith)
 
 -- a find writes nothing
 pub find-writes-nothing : (ws : List ℕ) (key : ℕ) → findOut ws key .left ≡ ws

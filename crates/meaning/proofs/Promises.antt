@@ -1,11 +1,12 @@
 -- The promises of specs/Promises.antt, each proved: the laws of states, carried to lists.
 use mathlib.Core.Path.{_≡_, refl, _∙_, sym, ap, ap₂, subst}
-use mathlib.Core.Bool.{true, false, true≢false}
+use mathlib.Core.Bool.{true, false, cond, true≢false}
 use mathlib.Core.List.{List, map}
 use mathlib.Core.Logic.{_↔_}
 use Prim.Native.Nat.{ℕ, _*_, _-_, _^_, _≤_, _<_}
 use native.Mathlib.Omega.{arith}
 use lib.ListN.{length}
+use borrow.Author.Tests.{eq-eqb}
 use Rattle.settings.specs.Numbers.{baseOf}
 use Rattle.lists.specs.Lists.{occurrences}
 use Rattle.lists.proofs.Occurrences.{distinct-once}
@@ -14,7 +15,7 @@ use Rattle.meaning.specs.Picture.{picture}
 use Rattle.meaning.specs.Reading.{read, isList}
 use Rattle.meaning.specs.Refusals.{Outcome, badKey, refused}
 use Rattle.meaning.specs.Operations.{looked, insertOut, findOut}
-use Rattle.meaning.specs.Calls.{outcome}
+use Rattle.meaning.specs.Records.{Lent, askedOut}
 use Rattle.meaning.specs.Rule.{rule}
 use Rattle.meaning.specs.Words.{keyAt, dimensionsAt, largestAt, baseAt}
 use Rattle.meaning.specs.Walk.{trailFrom, trail, ends, walk}
@@ -23,7 +24,7 @@ use Rattle.meaning.specs.Promises.{ListsStayLists, CallsKeepLists, Refus
 use Rattle.meaning.specs.Promises.{PresentMeansThatKey, TakesInTurn, TakesEnd, CallsAreBooked, FindWritesNothing, TakeWrites, ReviveWrites}
 use Rattle.meaning.specs.Promises.{InsertWrites, FinishWrites, SweepWrites, EachCellOnce, SweptCellsFirst, InsertUsesFirst, SharedMeansLeading}
 use Rattle.meaning.specs.Promises.{ListMeansSentences, WalkIsRule, WalkOnce, WalkBounded, WalkEnds, WalkByKeysAlone, OrderIsLexicographic}
-use Rattle.meaning.specs.Promises.{ShapeByKeysAlone, AnswersAreBooked, OneOutcome}
+use Rattle.meaning.specs.Promises.{ShapeByKeysAlone, AnswersAreBooked, OneOutcome, RecordIsInsert, LastIsValue}
 use Rattle.meaning.proofs.Keys.{shared-agreed, lexicographic, coordinates-determine}
 use Rattle.meaning.proofs.AscendingKeys.{asc-rising, rising-equal}
 use Rattle.meaning.proofs.State.{Sound, base-positive, base-above}
@@ -31,7 +32,7 @@ use Rattle.meaning.proofs.ReadBack.{list-sound, picture-is-list, read-o
 use Rattle.meaning.proofs.Outcomes as outcomes
 use Rattle.meaning.proofs.Outcomes.{on-lists, insert-outcome-bad-key, insert-outcome-live, insert-outcome-dead, insert-outcome-full}
 use Rattle.meaning.proofs.Outcomes.{insert-outcome-new, find-outcome-bad-key, find-outcome-absent, find-outcome-dead, find-outcome-live}
-use Rattle.meaning.proofs.Outcomes.{key-cases, live-cases, free-cases}
+use Rattle.meaning.proofs.Outcomes.{key-cases, live-cases, free-cases, record-asks, accepted-on-list}
 use Rattle.meaning.proofs.Book as book
 use Rattle.meaning.proofs.BookReplies as replies
 use Rattle.meaning.proofs.Writes as leaves
@@ -170,7 +171,6 @@ looks s v key o c =
     }
 
 pub looked-is-walk : LookedIsWalk
-unfolding outcome
 looked-is-walk ws fresh =
     on-lists
     (λ ws. (key value : ℕ)
@@ -183,6 +183,19 @@ looked-is-walk ws fresh =
     ))
     ws
     (book.lists-stay-lists ws fresh)
+
+-- Records
+
+pub record-is-insert : RecordIsInsert
+record-is-insert lent e key number asks =
+    let o = record-asks lent e ∙ ap (askedOut lent) asks in
+    (ap (λ (p : Outcome Lent). p .answered) o, ap (λ (p : Outcome Lent). p .left .words) o)
+
+pub last-is-value : LastIsValue
+last-is-value lent key number asks z =
+    let o = record-asks lent (accepted-on-list lent z) ∙ ap (askedOut lent) asks in
+    let y = sym (ap (λ (p : Outcome Lent). p .answered .refusal) o) ∙ z in
+    ap (λ (p : Outcome Lent). p .left .last) o ∙ ap (λ t. cond t number (lent .last)) (eq-eqb (insertOut (lent .words) key number .answered .refusal) 0 y)
 
 -- Promises whose law is stated elsewhere, of lists already.
 

@@ -14,7 +14,6 @@ use Rattle.meaning.specs.Picture.{picture}
 use Rattle.meaning.specs.Reading.{read}
 use Rattle.meaning.specs.Refusals.{Outcome, refused, badKey, noFreeCell}
 use Rattle.meaning.specs.Operations.{sweepOut, insertOut, swept, freedBy, added, slotFor, slotOwes, newNode, finished, looked}
-use Rattle.meaning.specs.Calls.{outcome}
 use Rattle.meaning.specs.Promises.{EachCellOnce, SweptCellsFirst, UsesFirst, InsertUsesFirst}
 use Rattle.meaning.specs.Words.{cellsAt}
 use Rattle.meaning.proofs.StateCells.{cells-cover}
@@ -38,7 +37,7 @@ each-cell-once =
     on-read-lists (λ s ws. (x : ℕ) → 0 < x → x < cellsAt ws → occurrences x (map (λ e. e .cell) (s .row)) + occurrences x (s .free) ≡ 1) cell-once
 
 pub swept-cells-first : SweptCellsFirst
-unfolding outcome swept
+unfolding swept
 swept-cells-first =
     on-read-lists
     (λ s ws. read (sweepOut ws .left) .free ≡ reverseAux (map (λ e. e .cell) (freedBy (s .row))) (s .free))
@@ -97,7 +96,6 @@ uses-first : (s : State) → Sound s → (key value : ℕ) → nodeAt key (s .ro
 uses-first s v key value a z = let (h, l, f) = new-accepted s v key value a z in made-uses-first s v key value h l a f
 
 pub insert-uses-first : InsertUsesFirst
-unfolding outcome
 insert-uses-first =
     on-read-lists
     (λ s ws. (key value : ℕ) → nodeAt key (s .row) ≡ none → insertOut ws key value .answered .refusal ≡ 0 → UsesFirst ws (insertOut ws key value .left) key)

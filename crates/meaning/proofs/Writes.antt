@@ -18,7 +18,6 @@ use Rattle.meaning.specs.Refusals.{Outcome, refused, badKey, keyLive, no
 use Rattle.meaning.specs.Words.{keyAt, markAt, positionAt, wordAt, dimensionsAt}
 use Rattle.meaning.specs.Operations.{looked, insertOut, finishOut, takeOut, sweepOut, deadFront, fromLive, taken, revived, revivedNode}
 use Rattle.meaning.specs.Operations.{parentIn, positionAfter, slotFor, finished, withRow, linksMoved, keysAbove}
-use Rattle.meaning.specs.Calls.{outcome}
 use Rattle.meaning.specs.Writes.{Parent, Inserted, Taken, Revived, Swept, Marked}
 use Rattle.meaning.specs.Sentences.{Standing, Settled}
 use Rattle.meaning.specs.Promises.{FindWritesNothing, TakeWrites, ReviveWrites, InsertWrites, Finishes, FinishWrites, SweepWrites}
@@ -52,7 +51,6 @@ use Rattle.meaning.proofs.SweepSentences.{live-marked, swept-leaves}
 use Rattle.meaning.proofs.Serves.{refused-not, new-accepted}
 
 pub find-writes : FindWritesNothing
-unfolding outcome
 find-writes = find-writes-nothing
 
 -- a fact of all nodes of a row at the first live one
@@ -158,7 +156,6 @@ take-taken s v z = go (fromLive (s .row)) refl
         }
 
 pub take-writes : TakeWrites
-unfolding outcome
 take-writes =
     on-read-lists (λ s ws. takeOut ws .answered .refusal ≡ 0 → Taken ws (takeOut ws .left) (takeOut ws .answered .key)) take-taken
 
@@ -231,7 +228,6 @@ revive-revived s v key value stands z =
     (revived-leaves s x value v (subst (λ (m : ℕ). nodeAt m (s .row) ≡ some x) (sym k) a) q)))
 
 pub revive-writes : ReviveWrites
-unfolding outcome
 revive-writes =
     on-read-lists
     (λ s ws. (key value : ℕ) → (nodeAt key (s .row) ≡ none → ⊥) → insertOut ws key value .answered .refusal ≡ 0 →
@@ -246,7 +242,6 @@ insert-inserted s v key value a z =
     (ap (λ (p : Outcome (List ℕ)). p .left) (sym (insert-outcome-new s v key value h l a f))) (added-inserted s v key value h l a f)
 
 pub insert-writes : InsertWrites
-unfolding outcome
 insert-writes =
     on-read-lists
     (λ s ws. (key value : ℕ) → nodeAt key (s .row) ≡ none → insertOut ws key value .answered .refusal ≡ 0 →
@@ -282,14 +277,12 @@ finish-finishes s v key z =
         }
 
 pub finish-writes : FinishWrites
-unfolding outcome
 finish-writes =
     on-read-lists
     (λ s ws. (key : ℕ) → finishOut ws key .answered .refusal ≡ 0 → Finishes ws (finishOut ws key .left) key (finishOut ws key .answered .count))
     finish-finishes
 
 pub sweep-writes : SweepWrites
-unfolding outcome
 sweep-writes =
     on-read-lists (λ s ws. Swept ws (sweepOut ws .left))
     (λ s v. subst (Swept (picture s)) (sym (ap (λ (p : Outcome (List ℕ)). p .left) (sweep-outcome s v))) (swept-leaves s v))

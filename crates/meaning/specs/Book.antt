@@ -6,11 +6,15 @@ use lib.Dec.{eqb, leb, ltb}
 use lib.ListN.{length, drop}
 use Rattle.settings.specs.Numbers.{inRange, lengthOf}
 use Rattle.lists.specs.Lists.{those}
+use Rattle.records.specs.Notes.{noteBy}
 use Rattle.meaning.specs.declared.Answer.{Answer}
 use Rattle.meaning.specs.Row.{Node}
 use Rattle.meaning.specs.Reading.{read}
 use Rattle.meaning.specs.Words.{largestAt, cellsAt}
-use Rattle.meaning.specs.declared.Call.the-variants.{SetUp, Insert, Find, Finish, Take, Sweep}
+use Rattle.meaning.specs.Refusals.{answerOf}
+use Rattle.meaning.specs.Records.{Asked, nothing, insertion, noteAsks}
+use Rattle.meaning.specs.Calls.{Made}
+use Rattle.meaning.specs.declared.Call.the-variants.{SetUp, Insert, Find, Finish, Take, Sweep, Record}
 use Rattle.meaning.specs.declared.Call.{Call}
 
 pub record Pair : Type 0 where
@@ -66,20 +70,34 @@ keptFrom pairs (x ∷ []) = x ∷ []
 keptFrom [] (x ∷ y ∷ keys) = keptFrom [] (y ∷ keys)
 keptFrom (p ∷ pairs) (x ∷ y ∷ keys) = cond (ltb y (p .key)) (keptFrom (p ∷ pairs) (y ∷ keys)) (x ∷ y ∷ keys)
 
--- what a call on a buffer of `long` words does
-unfoldable pub booked : Call → ℕ → Book → Book
-booked (SetUp D K C) long k =
+-- .. if it is a key of the list
+unfoldable pub keyInserted : ℕ → ℕ → Book → Book
+keyInserted key value k = cond (leb 1 key && leb key (k .largest)) (inserted key value k) k
+
+-- what a call on a buffer of `long` words does, where a record asks for this
+unfoldable pub bookedCall : Call → Asked → ℕ → Book → Book
+bookedCall (SetUp D K C) asked long k =
     cond (inRange D K C && eqb long (lengthOf D C)) (record { largest = K; cells = C; pairs = []; standing = [] }) k
-booked (Insert key value) long k = cond (leb 1 key && leb key (k .largest)) (inserted key value k) k
-booked (Find key) long k = k
-booked (Finish key) long k = k
-booked Take long k = record { largest = k .largest; cells = k .cells; pairs = drop 1 (k .pairs); standing = k .standing }
-booked Sweep long k = record { largest = k .largest; cells = k .cells; pairs = k .pairs; standing = keptFrom (k .pairs) (k .standing) }
+bookedCall (Insert key value) asked long k = keyInserted key value k
+bookedCall (Find key) asked long k = k
+bookedCall (Finish key) asked long k = k
+bookedCall Take asked long k = record { largest = k .largest; cells = k .cells; pairs = drop 1 (k .pairs); standing = k .standing }
+bookedCall Sweep asked long k =
+    record { largest = k .largest; cells = k .cells; pairs = k .pairs; standing = keptFrom (k .pairs) (k .standing) }
+bookedCall Record (nothing refusal) long k = k
+bookedCall Record (insertion key number) long k = keyInserted key number k
+
+-- what the record asks for that is lent to a call
+abbrev pub askedIn : Made → Asked
+askedIn made = noteAsks (made .last) (noteBy (made .bytes))
+
+abbrev pub booked : Made → ℕ → Book → Book
+booked made long k = bookedCall (made .call) (askedIn made) long k
 
 -- what a sequence of calls does
-unfoldable pub bookedAll : List Call → ℕ → Book → Book
+unfoldable pub bookedAll : List Made → ℕ → Book → Book
 bookedAll [] long k = k
-bookedAll (call ∷ calls) long k = bookedAll calls long (booked call long k)
+bookedAll (made ∷ calls) long k = bookedAll calls long (booked made long k)
 
 -- What a call answers, but for its count, which the pairs and keys do not tell.
 pub record Reply : Type 0 where
@@ -118,10 +136,15 @@ takeReply [] = replies 7 0 0
 takeReply (p ∷ pairs) = replies 0 (p .key) (p .value)
 
 -- what a call on a list of `long` words replies: *The operations*, with the refusals in the order of *Refusals 1*; 3 and 9 are no list's
-unfoldable pub replyTo : Call → ℕ → Book → Reply
-replyTo (SetUp D K C) long k = cond (inRange D K C) (cond (eqb long (lengthOf D C)) (replies 0 0 0) (replies 2 0 0)) (replies 1 0 0)
-replyTo (Insert key value) long k = keyed key k (insertReply key k)
-replyTo (Find key) long k = keyed key k (cond (liveIn key k) (replies 0 key (valueIn key (k .pairs))) (replies 8 key 0))
-replyTo (Finish key) long k = keyed key k (cond (hasKey key (k .standing)) (replies 0 key 0) (replies 8 key 0))
-replyTo Take long k = takeReply (k .pairs)
-replyTo Sweep long k = replies 0 0 0
+unfoldable pub replyToCall : Call → Asked → ℕ → Book → Reply
+replyToCall (SetUp D K C) asked long k = cond (inRange D K C) (cond (eqb long (lengthOf D C)) (replies 0 0 0) (replies 2 0 0)) (replies 1 0 0)
+replyToCall (Insert key value) asked long k = keyed key k (insertReply key k)
+replyToCall (Find key) asked long k = keyed key k (cond (liveIn key k) (replies 0 key (valueIn key (k .pairs))) (replies 8 key 0))
+replyToCall (Finish key) asked long k = keyed key k (cond (hasKey key (k .standing)) (replies 0 key 0) (replies 8 key 0))
+replyToCall Take asked long k = takeReply (k .pairs)
+replyToCall Sweep asked long k = replies 0 0 0
+replyToCall Record (nothing refusal) long k = replyIn (answerOf refusal)
+replyToCall Record (insertion key number) long k = keyed key k (insertReply key k)
+
+abbrev pub replyTo : Made → ℕ → Book → Reply
+replyTo made long k = replyToCall (made .call) (askedIn made) long k

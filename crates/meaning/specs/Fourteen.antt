@@ -14,8 +14,9 @@ use Rattle.meaning.specs.State.{positionKey}
 use Rattle.meaning.specs.Reading.{read}
 use Rattle.meaning.specs.Refusals.{answer}
 use Rattle.meaning.specs.Words.{owedAt, lowAt, highAt}
-use Rattle.meaning.specs.Calls.{outcome}
-use Rattle.meaning.specs.declared.Call.the-variants.{SetUp, Insert, Find, Take, Sweep}
+use Rattle.meaning.specs.Operations.{setUpOut}
+use Rattle.meaning.specs.Calls.{alone, madeOn}
+use Rattle.meaning.specs.declared.Call.the-variants.{Insert, Find, Take, Sweep}
 use Rattle.meaning.specs.declared.Call.{Call}
 
 -- the remarks beside the steps, of the words after the step
@@ -89,11 +90,11 @@ expected l = record { answered = l .answered; remarked = true }
 unfoldable pub ran : List Line → List ℕ → List Seen
 ran [] ws = []
 ran (l ∷ lines) ws =
-    let o = outcome (l .call) ws in
-    record { answered = o .answered; remarked = holds (l .remark) (o .left) } ∷ ran lines (o .left)
+    let o = madeOn (alone (l .call)) ws in
+    record { answered = o .answered; remarked = holds (l .remark) (o .left .words) } ∷ ran lines (o .left .words)
 
 unfoldable pub freshWords : List ℕ
-freshWords = outcome (SetUp 2 15 8) (replicate (lengthOf 2 8) 0) .left
+freshWords = setUpOut 2 15 8 (replicate (lengthOf 2 8) 0) .left
 
 -- the base of the list of these steps: Numbers 3
 abbrev pub BaseOfSteps : Type 0

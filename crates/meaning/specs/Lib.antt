@@ -1,5 +1,5 @@
 -- The meaning: docs/REFERENCE.md, rule by rule, in its words and its order.
--- What to believe: who believes these files, and those of the crates settings and lists, believes all that is proved.
+-- What to believe: who believes these files, and those of the crates settings, lists, text, entries and records, believes all that is proved.
 pub mod Keys
 pub mod Row
 pub mod State
@@ -10,6 +10,7 @@ pub mod Operations
 pub mod Words
 pub mod Rule
 pub mod Walk
+pub mod Records
 pub mod Calls
 -- What cross-checks it: the conditions on the words one by one, what a call writes, what an ordered map would do, the fourteen steps, and
 -- what is promised.

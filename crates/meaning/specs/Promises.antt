@@ -10,6 +10,7 @@ use lib.Dec.{eqb}
 use lib.ListN.{length, drop}
 use Rattle.lists.specs.Lists.{occurrences, firstNumber}
 use Rattle.lists.specs.Compared.{agreed, precedes}
+use Rattle.records.specs.Notes.{noteBy}
 use Rattle.meaning.specs.declared.Answer.{Answer}
 use Rattle.meaning.specs.Keys.{coordinates, shared}
 use Rattle.meaning.specs.Row.{Node, nodeAt}
@@ -18,12 +19,12 @@ use Rattle.meaning.specs.Refusals.{Outcome, Meets}
 use Rattle.meaning.specs.Rule.{rule}
 use Rattle.meaning.specs.Words.{keyAt, markAt, owedAt, lowAt, highAt, linkAt, dimensionsAt, largestAt, cellsAt, baseAt, liveMark}
 use Rattle.meaning.specs.Walk.{walk, trailFrom, trail, ends}
-use Rattle.meaning.specs.Operations.{takeOut, freedBy, slotFor}
+use Rattle.meaning.specs.Operations.{setUpOut, insertOut, findOut, finishOut, takeOut, sweepOut, freedBy, slotFor}
+use Rattle.meaning.specs.Records.{Lent, insertion, noteAsks, recordOut}
 use Rattle.meaning.specs.Writes.{OwesNothing, OwesSame, Finished, Inserted, Taken, Revived, Swept}
-use Rattle.meaning.specs.Calls.{outcome, afterCalls, Lent}
+use Rattle.meaning.specs.Calls.{outcome, Made, madeOn, afterCalls}
 use Rattle.meaning.specs.Sentences.{Standing, AList}
 use Rattle.meaning.specs.Book.{Pair, livePairs, standingKeys, bookOf, bookedAll, replyIn, replyTo}
-use Rattle.meaning.specs.declared.Call.the-variants.{SetUp, Insert, Find, Finish, Take, Sweep}
 use Rattle.meaning.specs.declared.Call.{Call}
 
 -- a buffer after an accepted set up and any calls since
@@ -32,9 +33,9 @@ pub record FromFresh (ws : List ℕ) : Type 0 where
   pub K : ℕ
   pub C : ℕ
   pub lent : List ℕ
-  pub calls : List Call
-  pub accepted : outcome (SetUp D K C) lent .answered .refusal ≡ 0
-  pub left : ws ≡ afterCalls calls (outcome (SetUp D K C) lent .left)
+  pub calls : List Made
+  pub accepted : setUpOut D K C lent .answered .refusal ≡ 0
+  pub left : ws ≡ afterCalls calls (setUpOut D K C lent .left)
 
 -- key is live, on the words
 pub record Live (ws : List ℕ) (key : ℕ) : Type 0 where
@@ -49,9 +50,9 @@ ListsStayLists = (ws : List ℕ) → FromFresh ws → isList ws ≡ true
 
 -- .. and each call takes a list to a list, however it came about.
 abbrev pub CallsKeepLists : Type 0
-CallsKeepLists = (call : Call) (ws : List ℕ) → isList ws ≡ true → isList (outcome call ws .left) ≡ true
+CallsKeepLists = (made : Made) (ws : List ℕ) → isList ws ≡ true → isList (madeOn made ws .left .words) ≡ true
 
--- 2. A refused call alters nothing of what was lent: every operation, every list of words, all numbers.
+-- 2. A refused call alters nothing of what was lent: every operation, all words, bytes and numbers.
 abbrev pub RefusedAltersNothing : Type 0
 RefusedAltersNothing = (call : Call) (lent : Lent) → (outcome call lent .answered .refusal ≡ 0 → ⊥) → outcome call lent .left ≡ lent
 
@@ -121,15 +122,28 @@ answersLooked refusal = eqb refusal 0 || (eqb refusal 5 || (eqb refusal 6 || eqb
 abbrev pub LookedIsWalk : Type 0
 LookedIsWalk =
     (ws : List ℕ) → FromFresh ws → (key value : ℕ)
-    → (answersLooked (outcome (Insert key value) ws .answered .refusal) ≡ true → Looks ws key (outcome (Insert key value) ws .answered .count))
-    × (answersLooked (outcome (Find key) ws .answered .refusal) ≡ true → Looks ws key (outcome (Find key) ws .answered .count))
+    → (answersLooked (insertOut ws key value .answered .refusal) ≡ true → Looks ws key (insertOut ws key value .answered .count))
+    × (answersLooked (findOut ws key .answered .refusal) ≡ true → Looks ws key (findOut ws key .answered .count))
+
+-- .. and so is that of a record's insert: the answer and the words are those of the insert that it asks for.
+abbrev pub RecordIsInsert : Type 0
+RecordIsInsert =
+    (lent : Lent) → isList (lent .words) ≡ true → (key number : ℕ) → noteAsks (lent .last) (noteBy (lent .bytes)) ≡ insertion key number
+    → (recordOut lent .answered ≡ insertOut (lent .words) key number .answered)
+    × (recordOut lent .left .words ≡ insertOut (lent .words) key number .left)
+
+-- .. An accepted record makes the last number the value that it inserts.
+abbrev pub LastIsValue : Type 0
+LastIsValue =
+    (lent : Lent) (key number : ℕ) → noteAsks (lent .last) (noteBy (lent .bytes)) ≡ insertion key number
+    → recordOut lent .answered .refusal ≡ 0 → recordOut lent .left .last ≡ number
 
 -- 6. Present means that same key: insert answers 5, and find 0, exactly if that key itself is live.
 abbrev pub PresentMeansThatKey : Type 0
 PresentMeansThatKey =
     (ws : List ℕ) → isList ws ≡ true → (key value : ℕ) → 1 ≤ key → key ≤ largestAt ws
-    → ((outcome (Insert key value) ws .answered .refusal ≡ 5) ↔ Live ws key)
-    × ((outcome (Find key) ws .answered .refusal ≡ 0) ↔ Live ws key)
+    → ((insertOut ws key value .answered .refusal ≡ 5) ↔ Live ws key)
+    × ((findOut ws key .answered .refusal ≡ 0) ↔ Live ws key)
 
 -- 7. Each node once, in its turn: taking until 7 hands out exactly the live pairs, ascending.
 unfoldable pub takes : ℕ → List ℕ → List Pair
@@ -150,35 +164,35 @@ TakesEnd = (ws : List ℕ) → isList ws ≡ true → (takeOut ws .answered .ref
 -- 8. The pairs: what a sequence of calls does to the live pairs and the standing keys is what an ordered map would do.
 abbrev pub CallsAreBooked : Type 0
 CallsAreBooked =
-    (calls : List Call) (ws : List ℕ) → isList ws ≡ true → bookOf (afterCalls calls ws) ≡ bookedAll calls (length ws) (bookOf ws)
+    (calls : List Made) (ws : List ℕ) → isList ws ≡ true → bookOf (afterCalls calls ws) ≡ bookedAll calls (length ws) (bookOf ws)
 
 -- .. and each call answers what an ordered map would: its refusal, key and value follow from the pairs and the keys alone.
 abbrev pub AnswersAreBooked : Type 0
 AnswersAreBooked =
-    (call : Call) (ws : List ℕ) → isList ws ≡ true → replyIn (outcome call ws .answered) ≡ replyTo call (length ws) (bookOf ws)
+    (made : Made) (ws : List ℕ) → isList ws ≡ true → replyIn (madeOn made ws .answered) ≡ replyTo made (length ws) (bookOf ws)
 
 -- 9. What a call leaves alone. A find writes nothing.
 abbrev pub FindWritesNothing : Type 0
-FindWritesNothing = (ws : List ℕ) (key : ℕ) → outcome (Find key) ws .left ≡ ws
+FindWritesNothing = (ws : List ℕ) (key : ℕ) → findOut ws key .left ≡ ws
 
 -- A take writes the taken cell's value 0 and mark 2, and the path, whose last word becomes that cell. No link changes.
 abbrev pub TakeWrites : Type 0
 TakeWrites =
-    (ws : List ℕ) → isList ws ≡ true → outcome Take ws .answered .refusal ≡ 0
-    → Taken ws (outcome Take ws .left) (outcome Take ws .answered .key)
+    (ws : List ℕ) → isList ws ≡ true → takeOut ws .answered .refusal ≡ 0
+    → Taken ws (takeOut ws .left) (takeOut ws .answered .key)
 
 -- A revived key gets the new value and mark 1, with no link changed and nothing finished; and the path, if the key is not above the
 -- position's.
 abbrev pub ReviveWrites : Type 0
 ReviveWrites =
     (ws : List ℕ) → isList ws ≡ true → (key value : ℕ) → (nodeAt key (read ws .row) ≡ none → ⊥)
-    → outcome (Insert key value) ws .answered .refusal ≡ 0 → Revived ws (outcome (Insert key value) ws .left) key value
+    → insertOut ws key value .answered .refusal ≡ 0 → Revived ws (insertOut ws key value .left) key value
 
 -- An insert of a key that does not stand: the parent, p, c, q and the links moved; every other word of a cell as before.
 abbrev pub InsertWrites : Type 0
 InsertWrites =
     (ws : List ℕ) → isList ws ≡ true → (key value : ℕ) → nodeAt key (read ws .row) ≡ none
-    → outcome (Insert key value) ws .answered .refusal ≡ 0 → Inserted ws (outcome (Insert key value) ws .left) key value (slotFor (read ws) key)
+    → insertOut ws key value .answered .refusal ≡ 0 → Inserted ws (insertOut ws key value .left) key value (slotFor (read ws) key)
 
 -- A finish of a key that stands: its cell's debt is finished and no other.
 pub record Finishes (ws us : List ℕ) (k count : ℕ) : Type 0 where
@@ -194,12 +208,12 @@ pub record Finishes (ws us : List ℕ) (k count : ℕ) : Type 0 where
 
 abbrev pub FinishWrites : Type 0
 FinishWrites =
-    (ws : List ℕ) → isList ws ≡ true → (key : ℕ) → outcome (Finish key) ws .answered .refusal ≡ 0
-    → Finishes ws (outcome (Finish key) ws .left) key (outcome (Finish key) ws .answered .count)
+    (ws : List ℕ) → isList ws ≡ true → (key : ℕ) → finishOut ws key .answered .refusal ≡ 0
+    → Finishes ws (finishOut ws key .left) key (finishOut ws key .answered .count)
 
 -- A sweep leaves what The operations 6 says.
 abbrev pub SweepWrites : Type 0
-SweepWrites = (ws : List ℕ) → isList ws ≡ true → Swept ws (outcome Sweep ws .left)
+SweepWrites = (ws : List ℕ) → isList ws ≡ true → Swept ws (sweepOut ws .left)
 
 -- 10. A cell freed by a sweep serves again: each cell but the head stands or is free, exactly one of the two, in every list;
 abbrev pub EachCellOnce : Type 0
@@ -211,7 +225,7 @@ EachCellOnce =
 abbrev pub SweptCellsFirst : Type 0
 SweptCellsFirst =
     (ws : List ℕ) → isList ws ≡ true
-    → read (outcome Sweep ws .left) .free ≡ reverseAux (map (λ e. e .cell) (freedBy (read ws .row))) (read ws .free)
+    → read (sweepOut ws .left) .free ≡ reverseAux (map (λ e. e .cell) (freedBy (read ws .row))) (read ws .free)
 
 -- .. and an insert of a key that does not stand uses the first cell of the chain.
 pub record UsesFirst (ws after : List ℕ) (key : ℕ) : Type 0 where
@@ -223,7 +237,7 @@ pub record UsesFirst (ws after : List ℕ) (key : ℕ) : Type 0 where
 abbrev pub InsertUsesFirst : Type 0
 InsertUsesFirst =
     (ws : List ℕ) → isList ws ≡ true → (key value : ℕ) → nodeAt key (read ws .row) ≡ none
-    → outcome (Insert key value) ws .answered .refusal ≡ 0 → UsesFirst ws (outcome (Insert key value) ws .left) key
+    → insertOut ws key value .answered .refusal ≡ 0 → UsesFirst ws (insertOut ws key value .left) key
 
 -- 11. Key order is the lexicographic order of the coordinates; a key's coordinates determine it.
 abbrev pub OrderIsLexicographic : Type 0
@@ -232,7 +246,7 @@ OrderIsLexicographic =
     → ((x < y) ↔ (precedes (coordinates (baseAt ws) (dimensionsAt ws) x) (coordinates (baseAt ws) (dimensionsAt ws) y) ≡ true))
     × (coordinates (baseAt ws) (dimensionsAt ws) x ≡ coordinates (baseAt ws) (dimensionsAt ws) y → x ≡ y)
 
--- Any two outcomes that a contract allows are equal: the six exported functions all ensure `Meets o r lent`, of the outcome o of their call
+-- Any two outcomes that a contract allows are equal: the seven exported functions all ensure `Meets o r lent`, of the outcome o of their call
 -- and whatever was lent to it.
 abbrev pub OneOutcome : Type 1
 OneOutcome =

@@ -44,6 +44,10 @@ pub data Refusal : Type 0 where
   owedNotStanding : Refusal
   -- program: line not readable
   lineNotReadable : Refusal
+  -- record: it breaks the grammar, or a field's range
+  badRecord : Refusal
+  -- record: the full number does not fit into 32 bits
+  numberOutside : Refusal
 
 -- the table's numbers, and the answers after the number
 abbrev pub answerOf : Refusal → Answer
@@ -58,6 +62,8 @@ answerOf (keyNotLive key looked) = answer 8 key 0 looked
 answerOf (keyNotStanding key) = answer 8 key 0 0
 answerOf owedNotStanding = answer 9 0 0 0
 answerOf lineNotReadable = answer 10 0 0 0
+answerOf badRecord = answer 13 0 0 0
+answerOf numberOutside = answer 14 0 0 0
 
 -- Refusals: a refused call alters nothing of what was lent.
 abbrev pub refused : {Lent : Type 0} → Refusal → Lent → Outcome Lent

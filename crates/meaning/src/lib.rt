@@ -36,6 +36,10 @@ pub const OWED_NOT_STANDING: u32 = 9;
 
 pub const LINE_NOT_READABLE: u32 = 10;
 
+pub const BAD_RECORD: u32 = 13;
+
+pub const NUMBER_OUTSIDE: u32 = 14;
+
 // A call of the list, with its numbers.
 pub enum Call {
     // D, K, C
@@ -48,6 +52,8 @@ pub enum Call {
     Finish(u32),
     Take,
     Sweep,
+    // its bytes and the last number are lent beside the list
+    Record,
 }
 
 // What a buffer is read as: a list with its settings, or none, which is refused by number 3.

@@ -1,42 +1,22 @@
--- What the functions of the order program rest on: the list that it starts with is fresh, and what is taken byte by byte, or in parts, is
--- taken as a whole.
+-- What the functions of the order program rest on: what is taken byte by byte, or in parts, is taken as a whole.
 use mathlib.Core.Path.{_≡_, refl, sym, _∙_, ap}
 use mathlib.Core.Bool.{Bool, true, false, not}
 use mathlib.Core.List.{List, [], _∷_, _++_, append-nil}
 use Prim.Native.Nat.{ℕ, _+_, _<_}
 use native.Mathlib.Numerals.{add-one}
 use native.Mathlib.Omega.{arith}
-use lib.ListN.{length, getD, take, replicate, length-replicate}
+use lib.ListN.{length, getD, take}
 use lib.Seq.{take-suc}
 use Rattle.text.specs.Lines.{mostBytes, Handed}
-use Rattle.text.specs.Feeding.{handedBy, handedAtEnd, begunAfterPart, handedByPart, begunIn, toldIn, Ready, Stepped, FeedEnded}
+use Rattle.text.specs.Parts.{begunOver, handedOver}
+use Rattle.text.specs.Feeding.{begunAfter, handedBy, handedAtEnd, begunAfterPart, handedByPart, begunIn, toldIn, Ready, Stepped, FeedEnded}
 use Rattle.text.specs.declared.feed.Feed.{Feed}
 use Rattle.text.specs.declared.feed.Fed.{Fed}
 use Rattle.text.specs.declared.feed.Told.{Told}
-use Rattle.text.proofs.Feeding.{begun-append, handed-append}
-use Rattle.meaning.specs.Refusals.{Outcome, Meets, accepted}
-use Rattle.meaning.specs.Operations.{setUpOut}
-use Rattle.meaning.specs.declared.Answer.{Answer}
-use Rattle.meaning.proofs.Computing.{computing}
-use Rattle.meaning.proofs.Outcomes.{set-up-outcome}
+use Rattle.text.proofs.Parts.{begun-append, handed-append}
 use Rattle.order_step.specs.Step.{lineOutcome}
 use Rattle.order_step.specs.Printed.{wordsAfter}
-use Rattle.order.specs.Input.{BytesTaken, listDimensions, listLargest, listCells, listWords, freshWords, BaseOfOrder}
-
--- The program's numbers are in range and its array has the length for them.
-numbers-accepted :
-    (ws : List ℕ) → length ws ≡ listWords → setUpOut listDimensions listLargest listCells ws ≡ accepted 0 0 0 freshWords
-unfolding computing
-numbers-accepted ws long = set-up-outcome listDimensions listLargest listCells ws refl long
-
-pub base-of-order-is-16 : BaseOfOrder
-unfolding computing
-base-of-order-is-16 = refl
-
-pub set-up-fresh :
-    {after : List ℕ} {r : Answer} → Meets (setUpOut listDimensions listLargest listCells (replicate listWords 0)) r after → after ≡ freshWords
-set-up-fresh met =
-    met .left ∙ ap (λ (o : Outcome (List ℕ)). o .left) (numbers-accepted (replicate listWords 0) (length-replicate {A = ℕ} listWords 0))
+use Rattle.order.specs.Input.{BytesTaken}
 
 -- The end of the input: what the feed tells of is what the end hands on.
 pub end-words :
@@ -48,7 +28,7 @@ end-words buffer ws long finished e = e ∙ ap (λ (hs : List Handed). wordsAfte
 pub byte-taken :
     (before ws : List ℕ) {buffer after : List ℕ} {feed : Feed} {byte : ℕ} {r : Fed} → Stepped before buffer feed byte r →
     after ≡ wordsAfter (toldIn buffer (r .told)) ws → BytesTaken (byte ∷ []) (begunIn before feed) ws buffer (r .feed) after
-unfolding begunAfterPart handedByPart
+unfolding begunOver handedOver
 byte-taken before ws {feed = feed} {byte} step e =
     record {
       ready = step .ready;
@@ -64,7 +44,7 @@ words-append (h ∷ hs) more ws = words-append hs more (lineOutcome h ws .left)
 -- Some bytes, and then more.
 
 pub none-taken : {buffer ws : List ℕ} {feed : Feed} → Ready buffer feed → BytesTaken [] (begunIn buffer feed) ws buffer feed ws
-unfolding begunAfterPart handedByPart wordsAfter
+unfolding begunOver handedOver wordsAfter
 none-taken ready = record { ready = ready; kept = refl; words = refl }
 
 module _ {begun : Handed} {ws before words buffer after : List ℕ} {feed next : Feed} where
@@ -74,12 +54,12 @@ module _ {begun : Handed} {ws before words buffer after : List ℕ} {feed next :
   both-taken bytes more a b =
       record {
         ready = b .ready;
-        kept = b .kept ∙ ap (λ (h : Handed). begunAfterPart h more) (a .kept) ∙ sym (begun-append begun bytes more);
+        kept = b .kept ∙ ap (λ (h : Handed). begunAfterPart h more) (a .kept) ∙ sym (begun-append begunAfter handedBy begun bytes more);
         words =
             b .words ∙ ap (λ (h : Handed). wordsAfter (handedByPart h more) words) (a .kept)
             ∙ ap (wordsAfter (handedByPart (begunAfterPart begun bytes) more)) (a .words)
             ∙ sym (words-append (handedByPart begun bytes) (handedByPart (begunAfterPart begun bytes) more) ws)
-            ∙ ap (λ (hs : List Handed). wordsAfter hs ws) (sym (handed-append begun bytes more));
+            ∙ ap (λ (hs : List Handed). wordsAfter hs ws) (sym (handed-append begunAfter handedBy begun bytes more));
       }
 
   pub one-more-taken :

@@ -1,38 +1,14 @@
--- The list that the order program sets up, and what the lines of the input do to it: The order program 1.
+-- What the lines of the input do to the order program's list: The order program 1.
 use mathlib.Core.Path.{_≡_}
 use mathlib.Core.Bool.{true}
 use mathlib.Core.List.{List, [], _∷_}
 use Prim.Native.Nat.{ℕ}
 use lib.ListN.{length, take}
-use Rattle.settings.specs.Numbers.{baseOf, lengthOf}
-use Rattle.meaning.specs.Picture.{picture}
-use Rattle.meaning.specs.Operations.{fresh}
 use Rattle.text.specs.Lines.{Handed}
 use Rattle.text.specs.Feeding.{begunAfterPart, handedByPart, begunIn, Ready}
 use Rattle.text.specs.declared.feed.Feed.{Feed}
 use Rattle.order_step.specs.Printed.{wordsAfter, linesText}
 use Rattle.order.specs.declared.State.{State}
-
--- D, K, C and the words of the program's list
-abbrev pub listDimensions : ℕ
-listDimensions = 8
-
-abbrev pub listLargest : ℕ
-listLargest = 4294967295
-
-abbrev pub listCells : ℕ
-listCells = 512
-
-abbrev pub listWords : ℕ
-listWords = lengthOf listDimensions listCells
-
--- .. as it is set up
-abbrev pub freshWords : List ℕ
-freshWords = picture (fresh listDimensions listLargest listCells)
-
--- .. and its base
-abbrev pub BaseOfOrder : Type 0
-BaseOfOrder = baseOf listDimensions listLargest ≡ 16
 
 -- Bytes are what is printed for these lines, which took the list from some words to the words afterwards.
 pub record TextOf (bytes : List ℕ) (hs : List Handed) (after : List ℕ) : Type 0 where

@@ -18,18 +18,10 @@ ghost use lib.ListN.{length};
 ghost use Rattle.text.specs.Lines.{mostBytes};
 ghost use Rattle.text.specs.Feeding.{handedAtEnd, begunIn, toldIn, Ready, LineIn};
 ghost use Rattle.order_step.specs.Printed.{wordsAfter};
-ghost use Rattle.order.specs.Input.{freshWords, TextOf, BytesTaken, PartTaken};
+ghost use Rattle.entry_list.specs.EntryList.{freshWords};
+ghost use Rattle.order.specs.Input.{TextOf, BytesTaken, PartTaken};
 use text::feed::Feed;
 use text::feed::Told;
-
-const DIMENSIONS: u32 = 8;
-
-const LARGEST_KEY: u32 = 4294967295;
-
-const CELLS: u32 = 512;
-
-// The words 1: 5 + D + C x (6 + 2D).
-const WORDS: usize = 11277;
 
 // What is kept from one byte to the next, beside the words and the bytes of the line begun: whether every answer has been written.
 pub struct State {
@@ -137,9 +129,9 @@ fn take_all(words: &mut [u32], line: &mut [u8]) -> End
 }
 
 fn main() {
-    let mut words = [0u32; WORDS];
+    let mut words = [0u32; entry_list::WORDS];
     let mut line = [0u8; text::feed::MOST_BYTES];
-    mdlist::mdlist_set_up(DIMENSIONS, LARGEST_KEY, CELLS, &mut words);
+    entry_list::set_up(&mut words);
     let end = take_all(&mut words, &mut line);
     match end {
         End::AllAnswered => return,

@@ -1,17 +1,15 @@
 -- What a line of the order program meets: what is not readable is answered 10, and of what is readable the line's outcome is that of its
--- call.
+-- kind.
 use mathlib.Core.Path.{_≡_, refl}
 use mathlib.Core.List.{List}
 use Prim.Native.Nat.{ℕ}
 use Rattle.text.specs.Lines.{line, tooLong}
 use Rattle.meaning.specs.Refusals.{Meets, answer}
-use Rattle.meaning.specs.Calls.{outcome}
 use Rattle.meaning.specs.declared.Answer.{Answer}
-use Rattle.meaning.specs.declared.Call.{Call}
 use Rattle.lines.specs.Grammar.{parsedOf}
 use Rattle.lines.specs.declared.Line.{Line}
 use Rattle.lines.specs.declared.Parsed.the-variants.{Readable, Unreadable}
-use Rattle.order_step.specs.Step.{unreadable, lineOutcome, callOf}
+use Rattle.order_step.specs.Step.{unreadable, kindOutcome, lineOutcome}
 
 unreadable-meets : {ws : List ℕ} {r : Answer} → r ≡ answer 10 0 0 0 → Meets (unreadable ws) r ws
 unreadable-meets q = record { answered = q; left = refl }
@@ -28,7 +26,7 @@ not-read-meets bytes ws none q = rw none (unreadable-meets q)
 
 -- a line that is read
 pub read-meets :
-    (bytes ws : List ℕ) {after : List ℕ} {r : Answer} {l : Line} {call : Call} → parsedOf bytes ≡ Readable l → call ≡ callOf (l .kind) →
-    Meets (outcome call ws) r after → Meets (lineOutcome (line bytes) ws) r after
+    (bytes ws : List ℕ) {after : List ℕ} {r : Answer} {l : Line} → parsedOf bytes ≡ Readable l → Meets (kindOutcome (l .kind) ws) r after →
+    Meets (lineOutcome (line bytes) ws) r after
 unfolding lineOutcome
-read-meets bytes ws reads is met = rw (reads, ← is) met
+read-meets bytes ws reads met = rw reads met

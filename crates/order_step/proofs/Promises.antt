@@ -11,20 +11,47 @@ use Rattle.settings.specs.Numbers.{mostLargest}
 use Rattle.text.specs.Lines.{Handed, line, tooLong}
 use Rattle.meaning.specs.Words.{largestAt}
 use Rattle.meaning.specs.Reading.{isList}
-use Rattle.meaning.specs.Calls.{afterCalls}
-use Rattle.meaning.specs.Book.{Pair, Book, bookOf, hasKey, liveIn, inserted, booked, bookedAll}
-use Rattle.meaning.specs.Book.{Reply, keyed, insertReply, takeReply, replyTo}
+use Rattle.meaning.specs.Calls.{outcome, Made, alone, madeOn, afterCalls}
+use Rattle.meaning.specs.declared.Answer.{Answer}
+use Rattle.meaning.specs.declared.Call.the-variants as calls
+use Rattle.meaning.specs.Book.{Pair, Book, bookOf, hasKey, liveIn, inserted, keyInserted, bookedCall, booked, bookedAll}
+use Rattle.meaning.specs.Book.{Reply, keyed, insertReply, takeReply, replyToCall, replyTo}
 use Rattle.meaning.proofs.Promises.{answers-are-booked, calls-are-booked, calls-keep-lists}
-use Rattle.lines.specs.Grammar.{entryKey, parsedOf, KindInRange}
+use Rattle.entries.specs.Entries.{entryKey}
+use Rattle.entries.proofs.Promises.{key-within}
+use Rattle.lines.specs.Grammar.{parsedOf, KindInRange}
 use Rattle.lines.specs.declared.Kind.{Kind}
 use Rattle.lines.specs.declared.Kind.the-variants.{Insert, Find, Finish, Take, Sweep}
 use Rattle.lines.specs.declared.Parsed.{Parsed}
 use Rattle.lines.specs.declared.Parsed.the-variants.{Readable, Unreadable}
 use Rattle.lines.proofs.Grammar.{read-in-range}
-use Rattle.lines.proofs.Promises.{key-within}
-use Rattle.order_step.specs.Step.{callOf, parsedOutcome, lineOutcome}
+use Rattle.order_step.specs.Step.{kindOutcome, parsedOutcome, lineOutcome}
 use Rattle.order_step.specs.Printed.{wordsAfter}
 use Rattle.order_step.specs.Promises.{NeverFour}
+
+-- a kind of line as a call, and that its outcome is the call's
+abbrev callOf : Kind → Made
+callOf (Insert e value) = alone (calls.Insert (entryKey e) value)
+callOf (Find e) = alone (calls.Find (entryKey e))
+callOf (Finish e) = alone (calls.Finish (entryKey e))
+callOf Take = alone calls.Take
+callOf Sweep = alone calls.Sweep
+
+kind-answers : (kind : Kind) (ws : List ℕ) → madeOn (callOf kind) ws .answered ≡ kindOutcome kind ws .answered
+unfolding outcome
+kind-answers (Insert e value) ws = refl
+kind-answers (Find e) ws = refl
+kind-answers (Finish e) ws = refl
+kind-answers Take ws = refl
+kind-answers Sweep ws = refl
+
+kind-leaves : (kind : Kind) (ws : List ℕ) → madeOn (callOf kind) ws .left .words ≡ kindOutcome kind ws .left
+unfolding outcome
+kind-leaves (Insert e value) ws = refl
+kind-leaves (Find e) ws = refl
+kind-leaves (Finish e) ws = refl
+kind-leaves Take ws = refl
+kind-leaves Sweep ws = refl
 
 -- a reply that is not 4
 abbrev NotFour : Reply → Type 0
@@ -41,7 +68,7 @@ in-range key k r least most p = rw (le-leb 1 key least, le-leb key (k .largest) 
 
 -- the call that a kind of line asks for
 kind-reply : (kind : Kind) → KindInRange kind → (long : ℕ) (k : Book) → k .largest ≡ mostLargest → NotFour (replyTo (callOf kind) long k)
-unfolding replyTo insertReply
+unfolding replyToCall insertReply
 kind-reply (Insert e value) i long k top =
     let w = key-within e i in
     in-range (entryKey e) k (insertReply (entryKey e) k) (omega arith) (omega arith)
@@ -69,7 +96,8 @@ line-not-four (line bytes) ws list top = at (parsedOf bytes) refl
     at : (p : Parsed) → parsedOf bytes ≡ p → parsedOutcome p ws .answered .refusal ≡ 4 → ⊥
     at (Readable l) reads q =
         kind-reply (l .kind) (read-in-range bytes reads) (length ws) (bookOf ws) top
-        (ap (λ (r : Reply). r .refusal) (sym (answers-are-booked (callOf (l .kind)) ws list)) ∙ q)
+        (ap (λ (r : Reply). r .refusal) (sym (answers-are-booked (callOf (l .kind)) ws list)) ∙
+        (ap (λ (a : Answer). a .refusal) (kind-answers (l .kind) ws) ∙ q))
     at Unreadable reads q = omega arith
 
 -- K stays as it is
@@ -85,7 +113,7 @@ inserted-largest key value k =
     (either-largest (ltb (suc (length (k .standing))) (k .cells)) _ _ (k .largest) refl refl))
 
 kind-largest : (kind : Kind) (long : ℕ) (k : Book) → booked (callOf kind) long k .largest ≡ k .largest
-unfolding booked
+unfolding bookedCall keyInserted
 kind-largest (Insert e value) long k =
     either-largest (leb 1 (entryKey e) && leb (entryKey e) (k .largest)) _ _ (k .largest) (inserted-largest (entryKey e) value k) refl
 kind-largest (Find e) long k = refl
@@ -106,8 +134,10 @@ line-keeps (line bytes) ws list = at (parsedOf bytes)
     at (Readable l) =
         let call = callOf (l .kind) in
         record {
-          list = calls-keep-lists call ws list;
-          largest = ap (λ (k : Book). k .largest) (calls-are-booked (call ∷ []) ws list) ∙ kind-largest (l .kind) (length ws) (bookOf ws);
+          list = ap isList (sym (kind-leaves (l .kind) ws)) ∙ calls-keep-lists call ws list;
+          largest =
+              ap largestAt (sym (kind-leaves (l .kind) ws)) ∙
+              (ap (λ (k : Book). k .largest) (calls-are-booked (call ∷ []) ws list) ∙ kind-largest (l .kind) (length ws) (bookOf ws));
         }
     at Unreadable = record { list = list; largest = refl }
 

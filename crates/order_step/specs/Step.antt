@@ -3,29 +3,28 @@ use mathlib.Core.List.{List}
 use Prim.Native.Nat.{ℕ}
 use Rattle.text.specs.Lines.{Handed, line, tooLong}
 use Rattle.meaning.specs.Refusals.{Outcome, lineNotReadable, refused}
-use Rattle.meaning.specs.Calls.{outcome}
-use Rattle.meaning.specs.declared.Call.the-variants as calls
-use Rattle.meaning.specs.declared.Call.{Call}
-use Rattle.lines.specs.Grammar.{entryKey, parsedOf}
+use Rattle.meaning.specs.Operations.{insertOut, findOut, finishOut, takeOut, sweepOut}
+use Rattle.entries.specs.Entries.{entryKey}
+use Rattle.lines.specs.Grammar.{parsedOf}
 use Rattle.lines.specs.declared.Kind.{Kind}
 use Rattle.lines.specs.declared.Kind.the-variants.{Insert, Find, Finish, Take, Sweep}
 use Rattle.lines.specs.declared.Parsed.{Parsed}
 use Rattle.lines.specs.declared.Parsed.the-variants.{Readable, Unreadable}
 
--- the call that a kind of line asks for
-abbrev pub callOf : Kind → Call
-callOf (Insert e value) = calls.Insert (entryKey e) value
-callOf (Find e) = calls.Find (entryKey e)
-callOf (Finish e) = calls.Finish (entryKey e)
-callOf Take = calls.Take
-callOf Sweep = calls.Sweep
+-- the operation that a kind of line asks for, on its entry's key
+abbrev pub kindOutcome : Kind → List ℕ → Outcome (List ℕ)
+kindOutcome (Insert e value) ws = insertOut ws (entryKey e) value
+kindOutcome (Find e) ws = findOut ws (entryKey e)
+kindOutcome (Finish e) ws = finishOut ws (entryKey e)
+kindOutcome Take ws = takeOut ws
+kindOutcome Sweep ws = sweepOut ws
 
 -- Refusal 10, which is given before the list is called
 abbrev pub unreadable : List ℕ → Outcome (List ℕ)
 unreadable ws = refused lineNotReadable ws
 
 abbrev pub parsedOutcome : Parsed → List ℕ → Outcome (List ℕ)
-parsedOutcome (Readable l) ws = outcome (callOf (l .kind)) ws
+parsedOutcome (Readable l) ws = kindOutcome (l .kind) ws
 parsedOutcome Unreadable ws = unreadable ws
 
 -- the outcome of a line as it is handed on

@@ -1,5 +1,5 @@
-// One line of the order program on the list's words: 10 for a line that is not readable, before the list is called; else the call that
-// the line asks for. And the bytes that are printed for it.
+// One line of the order program on the list's words: 10 for a line that is not readable, before the list is called; else the operation
+// that the line asks for. And the bytes that are printed for it.
 ghost use mathlib.Core.Path.{_≡_};
 ghost use Prim.Native.Nat.{_≤_};
 ghost use lib.ListN.{length};
@@ -8,25 +8,24 @@ ghost use Rattle.text.specs.Feeding.{toldIn, LineIn};
 ghost use Rattle.meaning.specs.Refusals.{Meets};
 ghost use Rattle.lines.specs.Grammar.{KindInRange};
 ghost use Rattle.report.specs.Report.{answerBytes};
-ghost use Rattle.order_step.specs.Step.{callOf, lineOutcome};
+ghost use Rattle.order_step.specs.Step.{kindOutcome, lineOutcome};
 ghost use Rattle.order_step.specs.Printed.{LinesAnswered};
 use lines::Kind;
 use lines::Parsed;
 use meaning::Answer;
-use meaning::Call;
 use text::feed::Told;
 
-// The call that a kind of line asks for.
-fn call_of(kind: Kind) -> Call
+// The operation that a kind of line asks for.
+fn make(list: &mut [u32], kind: Kind) -> Answer
     requires { ⌜ KindInRange kind ⌝ }
-    ensures { λ r. ⌜ r ≡ callOf kind ⌝ }
+    ensures { λ r. ⌜ Meets (kindOutcome kind (now (list .entry))) r (now (list .exit)) ⌝ }
 {
     match kind {
-        Kind::Insert(e, value) => return Call::Insert(lines::entry_key(e), value),
-        Kind::Find(e) => return Call::Find(lines::entry_key(e)),
-        Kind::Finish(e) => return Call::Finish(lines::entry_key(e)),
-        Kind::Take => return Call::Take,
-        Kind::Sweep => return Call::Sweep,
+        Kind::Insert(e, value) => return mdlist::mdlist_insert(list, entries::entry_key(e), value),
+        Kind::Find(e) => return mdlist::mdlist_find(list, entries::entry_key(e)),
+        Kind::Finish(e) => return mdlist::mdlist_finish(list, entries::entry_key(e)),
+        Kind::Take => return mdlist::mdlist_take(list),
+        Kind::Sweep => return mdlist::mdlist_sweep(list),
     }
 }
 
@@ -45,7 +44,7 @@ fn step(list: &mut [u32], bytes: &[u8]) -> Answer
         return meaning::refused(meaning::LINE_NOT_READABLE);
     };
     let kind = l.kind;
-    mdlist::make(list, call_of(kind))
+    make(list, kind)
 }
 
 // Answers the line that is told of, if one is: puts the bytes that are printed for it into `out`, from the first on; how many they are.

@@ -12,6 +12,7 @@ use Rattle.records.specs.declared.Adds.{Adds}
 use Rattle.records.specs.declared.Adds.the-variants.{ItsByte, AField, NoPart}
 use Rattle.records.specs.declared.Step.{Step}
 
+-- the stand after a byte, and what the byte adds
 abbrev pub to : Stand → Adds → Step
 to stand adds = record { stand = stand; adds = adds }
 

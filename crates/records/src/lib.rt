@@ -1,7 +1,11 @@
-// The grammar of the logger's records, read byte by byte: where a record stands is a value, so no byte of it need be kept.
+// The logger's records: their grammar, read byte by byte. Where a record stands is a value, so no byte of it need be kept.
+pub mod note; // note.rt: what a record notes
+pub mod full_number; // full_number.rt: the logger's number in full
+pub mod feed; // feed.rt: the records of an export, out of bytes that come in parts
+
 ghost use mathlib.Core.Path.{_≡_};
 ghost use Rattle.records.specs.Grammar.{isText, standsInQuotes};
-ghost use Rattle.records.specs.Reading.{to, stepOn, afterField};
+ghost use Rattle.records.specs.Reading.{to, stepOn, afterField, mayEnd};
 ghost use Rattle.records.specs.declared.Stand.the-variants.{AtField, InPlain, InQuotes, AtQuote, AtReturn, Broken};
 ghost use Rattle.records.specs.declared.Adds.the-variants.{NoPart};
 
@@ -40,11 +44,11 @@ pub struct Step {
 
 const COMMA: u8 = 44;
 
-const QUOTE: u8 = 34;
+pub const QUOTE: u8 = 34;
 
-const CARRIAGE_RETURN: u8 = 13;
+pub const CARRIAGE_RETURN: u8 = 13;
 
-const LINE_FEED: u8 = 10;
+pub const LINE_FEED: u8 = 10;
 
 const LEAST_TEXT: u8 = 32;
 
@@ -188,5 +192,20 @@ pub fn read_byte(stand: Stand, byte: u8) -> Step
         Stand::AtReturn => return at_return(byte),
         Stand::Closed => return broken(),
         Stand::Broken => return broken(),
+    }
+}
+
+// Whether a record may end here.
+pub fn may_end(stand: Stand) -> bool
+    ensures { λ r. ⌜ r ≡ mayEnd stand ⌝ }
+{
+    match stand {
+        Stand::AtField => return true,
+        Stand::InPlain => return true,
+        Stand::InQuotes => return false,
+        Stand::AtQuote => return true,
+        Stand::AtReturn => return false,
+        Stand::Closed => return true,
+        Stand::Broken => return false,
     }
 }

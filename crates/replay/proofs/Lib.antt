@@ -1,2 +1,2 @@
--- What the functions of the replay rest on.
+-- What a line of a trace does and prints.
 pub mod Printed

@@ -1,32 +1,67 @@
--- A line of a trace is answered: the call is made on the buffer that the line leaves it, and what is put tells of the buffer afterwards.
-use mathlib.Core.Path.{_≡_, _∙_, ap, ap₂}
-use mathlib.Core.List.{List}
+-- A line of a trace is answered: the call is made on what the line leaves it, and what is put tells of what is held afterwards.
+use mathlib.Core.Path.{_≡_, sym, _∙_, ap, ap₂}
+use mathlib.Core.Bool.{Bool}
+use mathlib.Core.List.{List, _++_}
 use Prim.Native.Nat.{ℕ, _-_, _≤_}
 use native.Mathlib.Nat.{sub-zero}
 use lib.ListN.{length, take}
+use Rattle.meaning.specs.Records.{Lent, lentOf}
 use Rattle.report.specs.Report.{Put}
-use Rattle.report.proofs.Puts.{put-start}
-use Rattle.trace.specs.Trace.{Held, Holds, bufferAfter}
-use Rattle.trace.specs.Calling.{replyOf, afterCall}
+use Rattle.report.proofs.Puts.{put-more, put-start}
+use Rattle.trace.specs.Trace.{mostWords, mostHeld, bufferAfter, bytesAfter, lastAfter, alteredBy, Held, Holds}
+use Rattle.trace.specs.Calling.{replyOf, afterCall, Called}
 use Rattle.trace.specs.declared.Kind.{Kind}
 use Rattle.trace.specs.declared.call.Reply.{Reply}
-use Rattle.replay.specs.Printed.{replyText, leftBy, lineText, LineAnswered}
+use Rattle.replay.specs.Kept.{heldIn}
+use Rattle.replay.specs.declared.answer.Answered.{Answered}
+use Rattle.replay.specs.Printed.{headText, tailText, tells, leftBy, lineText, LineAnswered}
 
--- `altered` are the words when the call is made, `left` those of the buffer after it
-pub line-answered :
-    (kind : Kind) (before : List ℕ) {altered left words room out : List ℕ} {n end : ℕ} {reply : Reply} → Holds altered n (bufferAfter kind before) →
-    reply ≡ replyOf kind (take (n - 0) altered) → left ≡ afterCall kind (take (n - 0) altered) → Held words n → take n words ≡ left →
-    Put room 0 (replyText reply (take (n - 0) words)) out end → end ≤ length room →
-    LineAnswered kind before words out (record { used = n; text = end })
-unfolding leftBy lineText
-line-answered kind before {altered} {left} {words} {n = n} holds answered leaves held first put fits =
-    let buffer = ap (λ (m : ℕ). take m altered) (sub-zero n) ∙ holds .is in
-    let after = first ∙ leaves ∙ ap (afterCall kind) buffer in
-    let bytes = put-start put fits in
-    record {
-      holds = record { held = held; is = after };
-      is =
-          bytes .0
-          ∙ ap₂ replyText (answered ∙ ap (replyOf kind) buffer) (ap (λ (m : ℕ). take m words) (sub-zero n) ∙ after);
-      within = bytes .1;
-    }
+-- what the line leaves its call: n words and m bytes, and the last number
+module _
+    (kind : Kind) (line : List ℕ) (before : Lent) {words bytes : List ℕ} {n m last : ℕ} (holds : Holds mostWords words n (bufferAfter kind (before .words)))
+    (holds-bytes : Holds mostHeld bytes m (bytesAfter kind line (before .bytes))) (is-last : last ≡ lastAfter kind (before .last)) where
+  altered-is : lentOf (take (n - 0) words) (take (m - 0) bytes) last ≡ alteredBy kind line before
+  altered-is =
+      let first = ap (λ (k : ℕ). take k words) (sub-zero n) ∙ holds .is in
+      let front = ap (λ (k : ℕ). take k bytes) (sub-zero m) ∙ holds-bytes .is in
+      λ i. lentOf (first i) (front i) (is-last i)
+
+  module _
+      {reply : Reply} {called after : List ℕ} {now-last : ℕ}
+      (made : Called kind (lentOf (take (n - 0) words) (take (m - 0) bytes) last) reply (lentOf called (take (m - 0) bytes) now-last))
+      (held : Held mostWords after n) (first : take n after ≡ called) where
+    left-is : lentOf called (take (m - 0) bytes) now-last ≡ leftBy kind line before
+    unfolding leftBy
+    left-is = made .left ∙ ap (afterCall kind) altered-is
+
+    told-is : lentOf (take (n - 0) after) (take (m - 0) bytes) now-last ≡ leftBy kind line before
+    told-is =
+        let front = ap (λ (k : ℕ). take k after) (sub-zero n) ∙ first in
+        ap (λ (ws : List ℕ). lentOf ws (take (m - 0) bytes) now-last) front ∙ left-is
+
+    pub line-answered :
+        {room middle out : List ℕ} {at end : ℕ} {told : Bool} → told ≡ tells kind → Put room 0 (headText reply) middle at →
+        Put middle at (tailText told (lentOf (take (n - 0) after) (take (m - 0) bytes) now-last)) out end → end ≤ length room →
+        LineAnswered kind line before after bytes now-last out (record { used = n; filled = m; text = end })
+    unfolding lineText
+    line-answered tell head tail fits =
+        let put = put-start (put-more head tail) fits in
+        record {
+          words-are = record { held = held; is = first ∙ ap (λ (l : Lent). l .words) left-is };
+          bytes-are =
+              record {
+                held = holds-bytes .held;
+                is = sym (ap (λ (k : ℕ). take k bytes) (sub-zero m)) ∙ ap (λ (l : Lent). l .bytes) left-is;
+              };
+          last-is = ap (λ (l : Lent). l .last) left-is;
+          is =
+              put .0 ∙
+              ap₂ (λ (xs ys : List ℕ). xs ++ ys) (ap headText (made .reply ∙ ap (replyOf kind) altered-is)) (ap₂ tailText tell told-is);
+          within = put .1;
+        }
+
+-- what a line that is answered leaves
+pub line-leaves :
+    {kind : Kind} {line : List ℕ} {before : Lent} {words bytes out : List ℕ} {last : ℕ} {r : Answered} →
+    LineAnswered kind line before words bytes last out r → heldIn words bytes last (record { used = r .used; filled = r .filled }) ≡ leftBy kind line before
+line-leaves done = λ i. lentOf (done .words-are .is i) (done .bytes-are .is i) (done .last-is i)

@@ -1,17 +1,22 @@
--- What the replay prints for a line: refusal, key, value, count and the checksum of the buffer afterwards, with one space between; for P
--- and L `- - - -` and the checksum.
+-- What the replay prints for a line: refusal, key, value and count, or `- - - -` for a line that makes no call; then the checksum of the words
+-- afterwards; and for the lines that tell of the bytes, the checksum of the bytes and the last number after it.
+use mathlib.Core.Bool.{Bool, true, false, cond}
 use mathlib.Core.List.{List, [], _∷_, _++_}
 use mathlib.Core.Path.{_≡_}
-use Prim.Native.Nat.{ℕ, _≤_}
+use Prim.Native.Nat.{ℕ, _+_, _*_, _≤_}
 use lib.ListN.{length, take}
 use Rattle.text.specs.Fields.{space}
+use Rattle.text.specs.Lines.{lineFeed}
 use Rattle.text.specs.declared.feed.Told.{Told}
 use Rattle.text.specs.declared.feed.Told.the-variants.{NoLine, Line, LongLine}
-use Rattle.report.specs.Report.{checksumText, checkedText}
-use Rattle.trace.specs.Trace.{Holds, bufferAfter}
+use Rattle.meaning.specs.Records.{Lent}
+use Rattle.meaning.specs.declared.Call.{Call}
+use Rattle.meaning.specs.declared.Call.the-variants.{SetUp, Insert, Find, Finish, Take, Sweep, Record}
+use Rattle.report.specs.Report.{decimal, answerText, checksumOf, checksumText, fieldBytes, answerBytes}
+use Rattle.trace.specs.Trace.{mostWords, mostHeld, Holds, alteredBy}
 use Rattle.trace.specs.Calling.{replyOf, afterCall}
 use Rattle.trace.specs.declared.Kind.{Kind}
-use Rattle.trace.specs.declared.Kind.the-variants.{Unreadable}
+use Rattle.trace.specs.declared.Kind.the-variants.{Fresh, Make, Put, Length, Bytes, Add, PutByte, Last, Unreadable}
 use Rattle.trace.specs.declared.call.Reply.{Reply}
 use Rattle.trace.specs.declared.call.Reply.the-variants.{Four, NoCall}
 use Rattle.replay.specs.declared.answer.Answered.{Answered}
@@ -19,34 +24,67 @@ use Rattle.replay.specs.declared.answer.Answered.{Answered}
 abbrev pub dash : ℕ
 dash = 45
 
--- for a line that makes no call, and the words of the buffer afterwards
-unfoldable pub noCallText : List ℕ → List ℕ
-noCallText ws = (dash ∷ space ∷ dash ∷ space ∷ dash ∷ space ∷ dash ∷ space ∷ []) ++ checksumText ws
+-- the first four fields, and a space
+unfoldable pub headText : Reply → List ℕ
+headText (Four a) = answerText a space
+headText NoCall = dash ∷ space ∷ dash ∷ space ∷ dash ∷ space ∷ dash ∷ space ∷ []
 
--- for a reply, and the words of the buffer afterwards
-abbrev pub replyText : Reply → List ℕ → List ℕ
-replyText (Four a) ws = checkedText a ws
-replyText NoCall ws = noCallText ws
+-- the checksum of the words and that of the bytes, and the last number
+unfoldable pub lentText : Lent → List ℕ
+lentText lent =
+    decimal (checksumOf (lent .words)) ++ (space ∷ (decimal (checksumOf (lent .bytes)) ++ (space ∷ (decimal (lent .last) ++ (lineFeed ∷ [])))))
 
--- the buffer after a line: what the line itself does to it, and then its call
-unfoldable pub leftBy : Kind → List ℕ → List ℕ
-leftBy kind ws = afterCall kind (bufferAfter kind ws)
+-- B, H, Q, O and G tell of the bytes and the last number
+abbrev pub isRecord : Call → Bool
+isRecord (SetUp D K C) = false
+isRecord (Insert key value) = false
+isRecord (Find key) = false
+isRecord (Finish key) = false
+isRecord Take = false
+isRecord Sweep = false
+isRecord Record = true
 
--- the bytes printed for a line, on the buffer before it
-unfoldable pub lineText : Kind → List ℕ → List ℕ
-lineText kind ws = replyText (replyOf kind (bufferAfter kind ws)) (leftBy kind ws)
+abbrev pub tells : Kind → Bool
+tells (Fresh n call) = false
+tells (Make call) = isRecord call
+tells (Put index value) = false
+tells (Length n) = false
+tells (Bytes n) = true
+tells Add = true
+tells (PutByte index value) = true
+tells (Last number) = true
+tells Unreadable = false
 
--- A line was done on a buffer: the first words are the buffer that it leaves, and the first bytes of `out` are what is printed.
-pub record LineAnswered (kind : Kind) (before words out : List ℕ) (r : Answered) : Type 0 where
-  pub holds : Holds words (r .used) (leftBy kind before)
-  pub is : take (r .text) out ≡ lineText kind before
+-- the fields after the first four
+abbrev pub tailText : Bool → Lent → List ℕ
+tailText told lent = cond told (lentText lent) (checksumText (lent .words))
+
+-- what is held after a line: what the line itself does to it, and then its call
+unfoldable pub leftBy : Kind → List ℕ → Lent → Lent
+leftBy kind line lent = afterCall kind (alteredBy kind line lent)
+
+-- the bytes printed for a line, on what is held before it
+unfoldable pub lineText : Kind → List ℕ → Lent → List ℕ
+lineText kind line lent = headText (replyOf kind (alteredBy kind line lent)) ++ tailText (tells kind) (leftBy kind line lent)
+
+-- the room for a line
+abbrev pub lineBytes : ℕ
+lineBytes = answerBytes + 3 * fieldBytes
+
+-- A line was done on what was held: the first words and bytes are what it leaves, and so is the last number; the first bytes of `out` are
+-- what is printed.
+pub record LineAnswered (kind : Kind) (line : List ℕ) (before : Lent) (words bytes : List ℕ) (last : ℕ) (out : List ℕ) (r : Answered) : Type 0 where
+  pub words-are : Holds mostWords words (r .used) (leftBy kind line before .words)
+  pub bytes-are : Holds mostHeld bytes (r .filled) (leftBy kind line before .bytes)
+  pub last-is : last ≡ leftBy kind line before .last
+  pub is : take (r .text) out ≡ lineText kind line before
   pub within : r .text ≤ length out
 
--- Bytes are what is printed for a line, which took some buffer to the buffer afterwards.
-pub record TextOf (bytes : List ℕ) (kind : Kind) (after : List ℕ) : Type 0 where
-  pub before : List ℕ
-  pub left : after ≡ leftBy kind before
-  pub is : bytes ≡ lineText kind before
+-- Bytes are what is printed for a line, which took what was held to this.
+pub record TextOf (bytes : List ℕ) (kind : Kind) (line : List ℕ) (after : Lent) : Type 0 where
+  pub before : Lent
+  pub left : after ≡ leftBy kind line before
+  pub is : bytes ≡ lineText kind line before
 
 -- What is told of is read as this kind: a line that is too long is not readable, and where no line ended there is nothing to read.
 abbrev pub ReadAs : Told → Kind → Type 0

@@ -9,79 +9,143 @@
 //     S                sweep
 //     P index value    writes one word of the buffer; nothing where the index is past its end
 //     L LEN            makes the buffer LEN words long: cut, or extended with words 0
+//     B LEN            makes the bytes LEN long, every byte 165
+//     H hex            puts 1 to 30 bytes after the bytes that are there, two digits 0-9 a-f each; nothing where there would be more than 40,000
+//     Q index value    writes one byte; nothing where the index is past the end
+//     O number         makes the last number this one
+//     G                record: hands the bytes over as one record of the logger's export, with the last number
 //
-// LEN is 0 to 155,670, every other number 0 to 4,294,967,295. One space between fields, decimal, no leading zeros, at most 64 bytes before
-// the line feed; a last line without line feed counts. Before the first U the buffer has no words.
+// LEN of U and L is 0 to 155,670, of B 0 to 40,000; value of Q 0 to 255, number of O 0 to 4,294,967,296, every other number 0 to
+// 4,294,967,295. One space between fields, decimal, no leading zeros, at most 64 bytes before the line feed; a last line without line feed
+// counts. Before the first U the buffer has no words; there are no bytes at first, and the last number is 4,294,967,296: no record accepted yet.
 //
-// A call prints refusal, key, value, count and the checksum of the buffer afterwards; P and L print `- - - -` and the checksum. A line that
-// is none of these, or empty, or longer, prints `10 0 0 0` and the checksum, and nothing is done. The checksum h starts at the number of words;
-// for each word in order h becomes (h x 1,000,003 + word) mod 2,147,483,647.
+// A call prints refusal, key, value, count and the checksum of the buffer afterwards; P and L print `- - - -` and the checksum. B, H, Q and O
+// print `- - - -`, G its four numbers; then the words' checksum, the bytes' checksum and the last number. A line that is none of these, or
+// empty, or longer, prints `10 0 0 0` and the words' checksum, and nothing is done. The checksum h starts at the number of words, or bytes; for
+// each in order h becomes (h x 1,000,003 + it) mod 2,147,483,647.
 //
 // The file stdout has the answers of the separate ordered set: compare/ordered_set/target/release/ordered_set replay < stdin > stdout
 mod answer; // answer.rt: what a line does, and the line printed
 
 ghost use mathlib.Core.Path.{_≡_};
-ghost use Prim.Native.Nat.{_≤_};
-ghost use lib.ListN.{length, take};
+ghost use lib.ListN.{length};
 ghost use Rattle.text.specs.Lines.{mostBytes};
 ghost use Rattle.text.specs.Feeding.{LineIn};
-ghost use Rattle.trace.specs.Trace.{mostWords, lengthIn, Held, Holds};
-ghost use Rattle.replay.specs.Kept.{Kept};
+ghost use Rattle.trace.specs.Trace.{mostWords, mostHeld, Fits};
+ghost use Rattle.replay.specs.Kept.{Room, Kept, heldIn};
 ghost use Rattle.replay.specs.Printed.{leftBy, ReadAs};
+use answer::Sizes;
 use text::feed::Feed;
 use text::feed::Told;
 use trace::Kind;
 
-// What is kept from one byte to the next, beside the words and the bytes of the line begun: how many of the words are the buffer's.
+// What is kept from one byte to the next, beside the arrays, the last number and the bytes of the line begun: how much is held.
 pub struct State {
     pub feed: Feed,
-    pub used: usize,
+    pub sizes: Sizes,
 }
 
-// Does what a line says and prints its answer; the buffer's length afterwards.
-fn reply(words: &mut [u32], used: usize, ended: Told, kind: Kind) -> usize
-    requires { ⌜ (Held (now words) used × (lengthIn kind ≤ mostWords)) × ReadAs ended kind ⌝ }
-    ensures { λ r. ⌜ Holds (now (words .exit)) r (leftBy kind (take used (now (words .entry)))) ⌝ }
+// Does what a line says and prints its answer; how much is held afterwards.
+fn reply(
+    words: &mut [u32],
+    bytes: &mut [u8],
+    last: &mut u64,
+    sizes: Sizes,
+    line: &[u8],
+    ended: Told,
+    kind: Kind,
+) -> Sizes
+    requires { ⌜ (Room (now words) (now bytes) sizes × Fits kind) × ReadAs ended kind ⌝ }
+    ensures held { λ r. ⌜ Room (now (words .exit)) (now (bytes .exit)) r ⌝ }
+    ensures left { λ r. ⌜ heldIn (now (words .exit)) (now (bytes .exit)) (now (last .exit)) r ≡ leftBy kind (now (line .entry)) (heldIn (now (words .entry)) (now (bytes .entry)) (now (last .entry)) sizes) ⌝ }
 {
-    let mut out = [0u8; report::CHECKED_BYTES];
-    let done = answer::line_text(words, used, kind, &mut out);
+    let mut out = [0u8; answer::LINE_BYTES];
+    let done = answer::line_text(words, bytes, last, sizes, line, kind, &mut out);
     let n = done.used;
+    let m = done.filled;
     let end = done.text;
-    answer::write(&out[..end], ended, kind, &words[..n]);
-    n
+    let number = *last;
+    answer::write(
+        &out[..end],
+        ended,
+        line,
+        kind,
+        &words[..n],
+        &bytes[..m],
+        number,
+    );
+    Sizes { used: n, filled: m }
 }
 
 // The line that ended, if one did.
-fn take_line(words: &mut [u32], line: &[u8], used: usize, ended: Told) -> usize
-    requires { ⌜ Held (now words) used × LineIn (now line) ended ⌝ }
-    ensures { λ r. ⌜ Held (now (words .exit)) r ⌝ }
+fn take_line(
+    words: &mut [u32],
+    bytes: &mut [u8],
+    last: &mut u64,
+    sizes: Sizes,
+    line: &[u8],
+    ended: Told,
+) -> Sizes
+    requires { ⌜ Room (now words) (now bytes) sizes × LineIn (now line) ended ⌝ }
+    ensures { λ r. ⌜ Room (now (words .exit)) (now (bytes .exit)) r ⌝ }
 {
     match ended {
-        Told::NoLine => return used,
-        Told::Line(n) => return reply(words, used, ended, trace::parse(&line[0..n])),
-        Told::LongLine => return reply(words, used, ended, Kind::Unreadable),
+        Told::NoLine => return sizes,
+        Told::Line(n) => return reply(
+            words,
+            bytes,
+            last,
+            sizes,
+            &line[0..n],
+            ended,
+            trace::parse(&line[0..n]),
+        ),
+        Told::LongLine => return reply(
+            words,
+            bytes,
+            last,
+            sizes,
+            &line[0..0],
+            ended,
+            Kind::Unreadable,
+        ),
     }
 }
 
-fn take_byte(words: &mut [u32], line: &mut [u8], state: State, byte: u8) -> State
-    requires { ⌜ Kept (now words) (now line) state ⌝ }
-    ensures { λ r. ⌜ Kept (now (words .exit)) (now (line .exit)) r ⌝ }
+fn take_byte(
+    words: &mut [u32],
+    bytes: &mut [u8],
+    last: &mut u64,
+    line: &mut [u8],
+    state: State,
+    byte: u8,
+) -> State
+    requires { ⌜ Kept (now words) (now bytes) (now line) state ⌝ }
+    ensures { λ r. ⌜ Kept (now (words .exit)) (now (bytes .exit)) (now (line .exit)) r ⌝ }
 {
     let fed = text::feed::feed_byte(line, state.feed, byte);
     let feed = fed.feed;
     let ended = fed.told;
-    let used = take_line(words, line, state.used, ended);
-    State { feed, used }
+    let before = state.sizes;
+    let sizes = take_line(words, bytes, last, before, line, ended);
+    State { feed, sizes }
 }
 
-fn take_part(words: &mut [u32], line: &mut [u8], state: State, part: &[u8]) -> State
-    requires { ⌜ Kept (now words) (now line) state ⌝ }
-    ensures { λ r. ⌜ Kept (now (words .exit)) (now (line .exit)) r ⌝ }
+fn take_part(
+    words: &mut [u32],
+    bytes: &mut [u8],
+    last: &mut u64,
+    line: &mut [u8],
+    state: State,
+    part: &[u8],
+) -> State
+    requires { ⌜ Kept (now words) (now bytes) (now line) state ⌝ }
+    ensures { λ r. ⌜ Kept (now (words .exit)) (now (bytes .exit)) (now (line .exit)) r ⌝ }
 {
     let mut s = state;
     let mut i = 0;
     while i < part.len() {
-        s = take_byte(words, line, s, part[i]);
+        s = take_byte(words, bytes, last, line, s, part[i]);
         i += 1;
     }
     s
@@ -89,12 +153,12 @@ fn take_part(words: &mut [u32], line: &mut [u8], state: State, part: &[u8]) -> S
 
 // The input, in parts, to its end or to a read that fails. Nothing says that an input ends, so the turns are counted down from a number
 // that no run uses up.
-fn take_all(words: &mut [u32], line: &mut [u8])
-    requires { ⌜ (length (now words) ≡ mostWords) × (length (now line) ≡ mostBytes) ⌝ }
+fn take_all(words: &mut [u32], bytes: &mut [u8], last: &mut u64, line: &mut [u8])
+    requires { ⌜ (length (now words) ≡ mostWords) × ((length (now bytes) ≡ mostHeld) × (length (now line) ≡ mostBytes)) ⌝ }
 {
     let mut s = State {
         feed: text::feed::start(),
-        used: 0,
+        sizes: Sizes { used: 0, filled: 0 },
     };
     let mut part = io::large_buffer();
     let mut turns = u64::MAX;
@@ -104,15 +168,18 @@ fn take_all(words: &mut [u32], line: &mut [u8])
             break;
         }
         let n = io::count(got, &part);
-        s = take_part(words, line, s, &part[..n]);
+        s = take_part(words, bytes, last, line, s, &part[..n]);
         turns -= 1;
     }
-    let last = text::feed::finish(s.feed);
-    take_line(words, line, s.used, last);
+    let ended = text::feed::finish(s.feed);
+    let sizes = s.sizes;
+    take_line(words, bytes, last, sizes, line, ended);
 }
 
 fn main() {
     let mut words = [0u32; trace::MOST_WORDS];
+    let mut bytes = [0u8; trace::MOST_HELD];
+    let mut last = records::full_number::NO_NUMBER;
     let mut line = [0u8; text::feed::MOST_BYTES];
-    take_all(&mut words, &mut line);
+    take_all(&mut words, &mut bytes, &mut last, &mut line);
 }

@@ -74,6 +74,20 @@ pub fn checksum(part: &[u32]) -> u64
     h
 }
 
+// The same of bytes.
+pub fn checksum_of_bytes(part: &[u8]) -> u64
+    ensures { λ r. ⌜ r ≡ checksumOf (now (part .entry)) ⌝ }
+{
+    let mut h = part.len() as u64 % MODULUS;
+    let mut i = 0;
+    while i < part.len() {
+        let byte = part[i] as u64;
+        h = (h * FACTOR + byte) % MODULUS;
+        i += 1;
+    }
+    h
+}
+
 // Puts the checksum of a buffer's words, and a line feed.
 pub fn put_checksum(out: &mut [u8], at: usize, part: &[u32]) -> usize
     requires { ⌜ at + fieldBytes ≤ length (now out) ⌝ }

@@ -1,19 +1,20 @@
 -- Sample buffers, made by calls from a fresh list: with debts, a position, dead cells and freed ones.
 use mathlib.Core.Bool.{cond}
-use mathlib.Core.List.{List, [], _∷_}
+use mathlib.Core.List.{List, [], _∷_, map}
 use Prim.Native.Nat.{ℕ, zero, suc, _+_}
 use lib.Dec.{eqb}
 use lib.ListN.{length, getD, set, replicate}
 use Rattle.settings.specs.Numbers.{lengthOf}
 use Rattle.lists.specs.Lists.{those}
 use Rattle.meaning.specs.Reading.{read, isList}
-use Rattle.meaning.specs.Calls.{outcome, afterCalls}
-use Rattle.meaning.specs.declared.Call.the-variants.{SetUp, Insert, Finish, Take, Sweep}
+use Rattle.meaning.specs.Operations.{setUpOut}
+use Rattle.meaning.specs.Calls.{alone, afterCalls}
+use Rattle.meaning.specs.declared.Call.the-variants.{Insert, Finish, Take, Sweep}
 use Rattle.meaning.specs.declared.Call.{Call}
 
 -- a fresh list with D, K and C
 abbrev pub freshWith : ℕ → ℕ → ℕ → List ℕ
-freshWith D K C = outcome (SetUp D K C) (replicate (lengthOf D C) 0) .left
+freshWith D K C = setUpOut D K C (replicate (lengthOf D C) 0) .left
 
 abbrev pub inserts : List ℕ → List Call
 inserts [] = []
@@ -28,26 +29,26 @@ joined ((call ∷ calls) ∷ parts) = call ∷ joined (calls ∷ parts)
 unfoldable pub larger : List ℕ
 larger =
     afterCalls
-    (joined
+    (map alone (joined
     (inserts (1 ∷ 2 ∷ 3 ∷ 5 ∷ 9 ∷ 20 ∷ 21 ∷ 22 ∷ 26 ∷ 27 ∷ 30 ∷ 31 ∷ 37 ∷ 38 ∷ 41 ∷ 50 ∷ 51 ∷ 60 ∷ [])
     ∷ replicate 9 Take
     ∷ (Sweep ∷ [])
     ∷ inserts (62 ∷ 61 ∷ 33 ∷ 32 ∷ 17 ∷ 16 ∷ [])
     ∷ (Take ∷ Finish 61 ∷ Take ∷ Take ∷ Insert 17 7 ∷ [])
-    ∷ []))
+    ∷ [])))
     (freshWith 3 63 40)
 
 -- D = 2, K = 15, C = 10, so b = 4
 unfoldable pub smaller : List ℕ
 smaller =
     afterCalls
-    (joined
+    (map alone (joined
     (inserts (1 ∷ 2 ∷ 5 ∷ 6 ∷ 9 ∷ [])
     ∷ replicate 4 Take
     ∷ (Sweep ∷ [])
     ∷ inserts (13 ∷ 12 ∷ [])
     ∷ (Take ∷ [])
-    ∷ []))
+    ∷ [])))
     (freshWith 2 15 10)
 
 -- how many cells owe, are live, stand, are free; the position; the first two of the free chain

@@ -8,9 +8,11 @@ use native.Mathlib.Omega.{arith}
 use lib.Dec.{eqb, leb}
 use lib.ListN.{length, length-append}
 use borrow.Author.Tests.{lt-leb, leb-false}
+use Rattle.text.specs.Parts.{begunOver, handedOver}
 use Rattle.text.specs.Lines.{lineFeed, mostBytes, linesAfter, linesOf, Handed, line, tooLong, handed, handedOf}
 use Rattle.text.specs.Feeding.{longer, begunAfter, handedBy, handedAtEnd, begunAfterPart, handedByPart, handedByParts, started, begunIn, toldIn}
 use Rattle.text.specs.Feeding.{Ready, Stepped, FeedEnded}
+use Rattle.text.proofs.Parts.{parts-join}
 use Rattle.text.specs.declared.feed.Feed.{Feed}
 use Rattle.text.specs.declared.feed.Fed.{Fed}
 use Rattle.text.specs.declared.feed.Told.{Told}
@@ -51,7 +53,7 @@ lines-more (b ∷ begun) byte input = refl
 hands-after :
     (begun input : List ℕ) →
     handedByPart (handed begun) input ++ handedAtEnd (begunAfterPart (handed begun) input) ≡ map handed (linesAfter begun input)
-unfolding handedByPart begunAfterPart handedBy begunAfter
+unfolding handedOver begunOver handedBy begunAfter
 hands-after begun [] = end-handed begun
 hands-after begun (byte ∷ input) =
     rw (lines-more begun byte input, longer-handed begun byte) (at-test (eqb byte lineFeed) (λ b. hands-after b input))
@@ -74,39 +76,9 @@ pub input-hands : (input : List ℕ) → handedByPart (line []) input ++ handedA
 unfolding handedOf linesOf
 input-hands input = hands-after [] input
 
--- Parts
-
-pub begun-append :
-    (begun : Handed) (part rest : List ℕ) → begunAfterPart begun (part ++ rest) ≡ begunAfterPart (begunAfterPart begun part) rest
-unfolding begunAfterPart
-begun-append begun [] rest = refl
-begun-append begun (byte ∷ part) rest = begun-append (begunAfter begun byte) part rest
-
-pub handed-append :
-    (begun : Handed) (part rest : List ℕ) →
-    handedByPart begun (part ++ rest) ≡ handedByPart begun part ++ handedByPart (begunAfterPart begun part) rest
-unfolding begunAfterPart handedByPart
-handed-append begun [] rest = refl
-handed-append begun (byte ∷ part) rest =
-    rw (handed-append (begunAfter begun byte) part rest)
-    (sym (append-assoc (handedBy begun byte) (handedByPart (begunAfter begun byte) part) _))
-
-parts-join :
-    (begun : Handed) (parts : List (List ℕ)) →
-    handedByParts begun parts ≡ handedByPart begun (flatten parts) ++ handedAtEnd (begunAfterPart begun (flatten parts))
-unfolding flatten handedByParts handedByPart begunAfterPart
-parts-join begun [] = refl
-parts-join begun (part ∷ parts) =
-    rw (
-      handed-append begun part (flatten parts),
-      begun-append begun part (flatten parts),
-      parts-join (begunAfterPart begun part) parts,
-    )
-    (sym (append-assoc (handedByPart begun part) (handedByPart (begunAfterPart begun part) (flatten parts)) _))
-
 -- However an input is cut into parts, they hand on its lines.
 pub parts-hand : (parts : List (List ℕ)) → handedByParts (line []) parts ≡ handedOf (flatten parts)
-parts-hand parts = parts-join (line []) parts ∙ input-hands (flatten parts)
+parts-hand parts = parts-join begunAfter handedBy handedAtEnd (line []) parts ∙ input-hands (flatten parts)
 
 -- A run of the code
 
@@ -125,7 +97,7 @@ pub data Run : List ℕ → Feed → List ℕ → List Handed → Type 0 where
 run-on :
     {buffer : List ℕ} {feed : Feed} {input : List ℕ} {told : List Handed} → Ready buffer feed → Run buffer feed input told →
     told ≡ handedByPart (begunIn buffer feed) input ++ handedAtEnd (begunAfterPart (begunIn buffer feed) input)
-unfolding handedByPart begunAfterPart
+unfolding handedOver begunOver
 run-on {buffer} ready (ends finished e) = e ∙ finished .told buffer (ready .long)
 run-on ready (goes step run e) = rw (e, run-on (step .ready) run, step .begun, step .told) (simp append-assoc)
 

@@ -5,6 +5,7 @@ use mathlib.Core.Path.{_≡_}
 use Prim.Native.Nat.{ℕ, _≤_}
 use lib.Dec.{eqb}
 use lib.ListN.{length, take}
+use Rattle.text.specs.Parts.{begunOver, handedOver, handedOverAll}
 use Rattle.text.specs.Lines.{lineFeed, mostBytes, Handed, line, tooLong, handed}
 use Rattle.text.specs.declared.feed.Feed.{Feed}
 use Rattle.text.specs.declared.feed.Fed.{Fed}
@@ -32,20 +33,16 @@ handedAtEnd (line []) = []
 handedAtEnd (line (b ∷ bytes)) = line (b ∷ bytes) ∷ []
 handedAtEnd tooLong = tooLong ∷ []
 
--- the line begun after a part of the input
-unfoldable pub begunAfterPart : Handed → List ℕ → Handed
-begunAfterPart begun [] = begun
-begunAfterPart begun (byte ∷ part) = begunAfterPart (begunAfter begun byte) part
+-- the line begun after a part of the input, and the lines that the part hands on
+abbrev pub begunAfterPart : Handed → List ℕ → Handed
+begunAfterPart = begunOver begunAfter
 
--- the lines that a part of the input hands on
-unfoldable pub handedByPart : Handed → List ℕ → List Handed
-handedByPart begun [] = []
-handedByPart begun (byte ∷ part) = handedBy begun byte ++ handedByPart (begunAfter begun byte) part
+abbrev pub handedByPart : Handed → List ℕ → List Handed
+handedByPart = handedOver begunAfter handedBy
 
 -- the lines that parts of the input hand on, one part after the other, and then the end of the input
-unfoldable pub handedByParts : Handed → List (List ℕ) → List Handed
-handedByParts begun [] = handedAtEnd begun
-handedByParts begun (part ∷ parts) = handedByPart begun part ++ handedByParts (begunAfterPart begun part) parts
+abbrev pub handedByParts : Handed → List (List ℕ) → List Handed
+handedByParts = handedOverAll begunAfter handedBy handedAtEnd
 
 -- What the code's values mean.
 

@@ -2,7 +2,8 @@
 ghost use mathlib.Core.Path.{_≡_};
 ghost use Prim.Native.Nat.{_≤_};
 ghost use lib.ListN.{length};
-ghost use Rattle.text.specs.Answers.{FieldEnd, digitsFrom, atLeast, numberOf};
+ghost use Rattle.text.specs.Answers.{FieldEnd, upTo, digitOn, endedAt, numberOf};
+ghost use Rattle.text.specs.declared.fields.Begun.the-variants.{NoDigit, Value};
 
 const SPACE: u8 = 32;
 
@@ -14,6 +15,14 @@ const DIGIT_9: u8 = 57;
 pub enum Numeral {
     Value(u32),
     Unreadable,
+}
+
+// What is known of a number while its digits come in: none yet, the value of those so far, or that no number up to the most asked for begins
+// with them.
+pub enum Begun {
+    NoDigit,
+    Value(u32),
+    NoNumber,
 }
 
 // The index of the first space at or after `at`, or the line's length: where the field that starts at `at` ends.
@@ -31,43 +40,70 @@ pub fn field_end(line: &[u8], at: usize) -> usize
     i
 }
 
-// The value of a field of digits alone, if it is at most `most`. It stops as soon as the value is above `most`, which further digits
-// cannot undo; so the value before a digit is below 2 to the power 32, and nothing wraps, however long the field.
-fn digits(field: &[u8], most: u32) -> Numeral
-    ensures { λ r. ⌜ r ≡ digitsFrom most 0 (now (field .entry)) ⌝ }
+// The value of the digits so far, if it is at most `most`.
+fn up_to(value: u64, most: u32) -> Begun
+    ensures { λ r. ⌜ r ≡ upTo most value ⌝ }
 {
-    let top = most as u64;
-    let mut value: u64 = 0;
-    let mut i = 0;
-    while i < field.len() {
-        let byte = field[i];
-        if byte < DIGIT_0 {
-            return Numeral::Unreadable;
-        }
-        if DIGIT_9 < byte {
-            return Numeral::Unreadable;
-        }
-        value = value * 10 + (byte - DIGIT_0) as u64;
-        if top < value {
-            return Numeral::Unreadable;
-        }
-        i += 1;
+    if value <= most as u64 {
+        return Begun::Value(value as u32);
     }
-    Numeral::Value(value as u32)
+    Begun::NoNumber
 }
 
-// A numeral whose value is not below `least`.
-fn at_least(numeral: Numeral, least: u32) -> Numeral
-    ensures { λ r. ⌜ r ≡ atLeast least numeral ⌝ }
+// A digit after the value n. After a single 0 there is none, which would make it a leading zero.
+fn further(n: u32, byte: u8, most: u32) -> Begun
+    ensures { λ r. ⌜ r ≡ digitOn most (Value n) byte ⌝ }
 {
-    match numeral {
-        Numeral::Value(n) => {
+    if n == 0 {
+        return Begun::NoNumber;
+    }
+    if byte < DIGIT_0 {
+        return Begun::NoNumber;
+    }
+    if DIGIT_9 < byte {
+        return Begun::NoNumber;
+    }
+    up_to(n as u64 * 10 + (byte - DIGIT_0) as u64, most)
+}
+
+// The first digit.
+fn first(byte: u8, most: u32) -> Begun
+    ensures { λ r. ⌜ r ≡ digitOn most NoDigit byte ⌝ }
+{
+    if byte < DIGIT_0 {
+        return Begun::NoNumber;
+    }
+    if DIGIT_9 < byte {
+        return Begun::NoNumber;
+    }
+    up_to((byte - DIGIT_0) as u64, most)
+}
+
+// One byte more of a number up to `most`. Where the value passes it there is no number, which further digits cannot undo; so nothing
+// wraps, however many digits there are.
+pub fn digit(begun: Begun, byte: u8, most: u32) -> Begun
+    ensures { λ r. ⌜ r ≡ digitOn most begun byte ⌝ }
+{
+    match begun {
+        Begun::NoDigit => return first(byte, most),
+        Begun::Value(n) => return further(n, byte, most),
+        Begun::NoNumber => return Begun::NoNumber,
+    }
+}
+
+// The numeral that ends here, if its value is not below `least`.
+pub fn ended_at(begun: Begun, least: u32) -> Numeral
+    ensures { λ r. ⌜ r ≡ endedAt least begun ⌝ }
+{
+    match begun {
+        Begun::NoDigit => return Numeral::Unreadable,
+        Begun::Value(n) => {
             if n < least {
                 return Numeral::Unreadable;
             }
             return Numeral::Value(n);
         }
-        Numeral::Unreadable => return Numeral::Unreadable,
+        Begun::NoNumber => return Numeral::Unreadable,
     }
 }
 
@@ -75,15 +111,11 @@ fn at_least(numeral: Numeral, least: u32) -> Numeral
 pub fn number(field: &[u8], least: u32, most: u32) -> Numeral
     ensures { λ r. ⌜ r ≡ numberOf least most (now (field .entry)) ⌝ }
 {
-    if field.len() == 0 {
-        return Numeral::Unreadable;
+    let mut begun = Begun::NoDigit;
+    let mut i = 0;
+    while i < field.len() {
+        begun = digit(begun, field[i], most);
+        i += 1;
     }
-    if field.len() == 1 {
-        return at_least(digits(field, most), least);
-    }
-    // A first byte of several that is not above `0` is a leading zero, or no digit.
-    if field[0] <= DIGIT_0 {
-        return Numeral::Unreadable;
-    }
-    at_least(digits(field, most), least)
+    ended_at(begun, least)
 }

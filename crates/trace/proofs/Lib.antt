@@ -1,2 +1,3 @@
--- What the buffer's words are after a line: laws of the first words of an array.
-pub mod BufferWords
+-- What is held after a line: laws of the first elements of an array, and of the bytes that digits write.
+pub mod Held
+pub mod HexBytes

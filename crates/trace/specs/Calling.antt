@@ -1,25 +1,38 @@
--- The call that a line of a trace makes on the buffer, and what it is answered.
-use mathlib.Core.List.{List}
-use Prim.Native.Nat.{ℕ}
+-- The call that a line of a trace makes on what is held, and what it is answered.
+use mathlib.Core.Path.{_≡_}
 use Rattle.meaning.specs.Refusals.{lineNotReadable, answerOf}
+use Rattle.meaning.specs.Records.{Lent}
 use Rattle.meaning.specs.Calls.{outcome}
 use Rattle.trace.specs.declared.Kind.{Kind}
-use Rattle.trace.specs.declared.Kind.the-variants.{Fresh, Make, Put, Length, Unreadable}
+use Rattle.trace.specs.declared.Kind.the-variants.{Fresh, Make, Put, Length, Bytes, Add, PutByte, Last, Unreadable}
 use Rattle.trace.specs.declared.call.Reply.{Reply}
 use Rattle.trace.specs.declared.call.Reply.the-variants.{Four, NoCall}
 
--- what a line is answered; P and L make no call
-abbrev pub replyOf : Kind → List ℕ → Reply
-replyOf (Fresh n call) ws = Four (outcome call ws .answered)
-replyOf (Make call) ws = Four (outcome call ws .answered)
-replyOf (Put index value) ws = NoCall
-replyOf (Length n) ws = NoCall
-replyOf Unreadable ws = Four (answerOf lineNotReadable)
+-- what a line is answered; P, L, B, H, Q and O make no call
+abbrev pub replyOf : Kind → Lent → Reply
+replyOf (Fresh n call) lent = Four (outcome call lent .answered)
+replyOf (Make call) lent = Four (outcome call lent .answered)
+replyOf (Put index value) lent = NoCall
+replyOf (Length n) lent = NoCall
+replyOf (Bytes n) lent = NoCall
+replyOf Add lent = NoCall
+replyOf (PutByte index value) lent = NoCall
+replyOf (Last number) lent = NoCall
+replyOf Unreadable lent = Four (answerOf lineNotReadable)
 
--- the words after the call
-abbrev pub afterCall : Kind → List ℕ → List ℕ
-afterCall (Fresh n call) ws = outcome call ws .left
-afterCall (Make call) ws = outcome call ws .left
-afterCall (Put index value) ws = ws
-afterCall (Length n) ws = ws
-afterCall Unreadable ws = ws
+-- what is held after the call
+abbrev pub afterCall : Kind → Lent → Lent
+afterCall (Fresh n call) lent = outcome call lent .left
+afterCall (Make call) lent = outcome call lent .left
+afterCall (Put index value) lent = lent
+afterCall (Length n) lent = lent
+afterCall (Bytes n) lent = lent
+afterCall Add lent = lent
+afterCall (PutByte index value) lent = lent
+afterCall (Last number) lent = lent
+afterCall Unreadable lent = lent
+
+-- A line's call was made: its reply, and what is held after it.
+pub record Called (kind : Kind) (lent : Lent) (r : Reply) (after : Lent) : Type 0 where
+  pub reply : r ≡ replyOf kind lent
+  pub left : after ≡ afterCall kind lent

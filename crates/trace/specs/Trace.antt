@@ -1,45 +1,126 @@
--- What a line of a trace does to the buffer before its call, if it makes one: the buffer is the first `used` words of an array.
-use mathlib.Core.List.{List, _++_}
+-- What a line of a trace does to what is held, before its call, if it makes one. The words held are the first ones of an array, and so are
+-- the bytes.
+use mathlib.Core.Bool.{cond}
+use mathlib.Core.List.{List, [], _∷_, _++_}
 use mathlib.Core.Path.{_≡_}
-use Prim.Native.Nat.{ℕ, _-_, _≤_}
-use lib.ListN.{length, take, set, replicate}
+use Prim.Native.Nat.{ℕ, _+_, _*_, _-_, _%_, _≤_}
+use lib.Dec.{leb, ltb}
+use lib.ListN.{length, take, drop, set, replicate}
+use Rattle.meaning.specs.Records.{Lent, lentOf}
 use Rattle.trace.specs.declared.Kind.{Kind}
-use Rattle.trace.specs.declared.Kind.the-variants.{Fresh, Make, Put, Length, Unreadable}
+use Rattle.trace.specs.declared.Kind.the-variants.{Fresh, Make, Put, Length, Bytes, Add, PutByte, Last, Unreadable}
 
--- the most words that a buffer has
+-- the most words and the most bytes that are held
 abbrev pub mostWords : ℕ
 mostWords = 155670
 
--- the length that a line gives the buffer, and 0 where it gives none
+abbrev pub mostHeld : ℕ
+mostHeld = 40000
+
+-- the number of words that a line asks for, and 0 where it asks for none
 abbrev pub lengthIn : Kind → ℕ
 lengthIn (Fresh n call) = n
 lengthIn (Make call) = 0
 lengthIn (Put index value) = 0
 lengthIn (Length n) = n
+lengthIn (Bytes n) = 0
+lengthIn Add = 0
+lengthIn (PutByte index value) = 0
+lengthIn (Last number) = 0
 lengthIn Unreadable = 0
 
--- a word that no fresh list has, so that a word left as it was shows
+-- .. and of bytes
+abbrev pub bytesIn : Kind → ℕ
+bytesIn (Fresh n call) = 0
+bytesIn (Make call) = 0
+bytesIn (Put index value) = 0
+bytesIn (Length n) = 0
+bytesIn (Bytes n) = n
+bytesIn Add = 0
+bytesIn (PutByte index value) = 0
+bytesIn (Last number) = 0
+bytesIn Unreadable = 0
+
+-- a line asks for no more than can be held
+abbrev pub Fits : Kind → Type 0
+Fits kind = (lengthIn kind ≤ mostWords) × (bytesIn kind ≤ mostHeld)
+
+-- a word that no fresh list has, so that a word left as it was shows; and a byte that no record has
 abbrev pub left : ℕ
 left = 2779096485
+
+abbrev pub leftByte : ℕ
+leftByte = 165
 
 -- words cut to n of them, or extended with words 0
 abbrev pub cutTo : ℕ → List ℕ → List ℕ
 cutTo n ws = take n ws ++ replicate (n - length ws) 0
 
--- U makes a buffer of LEN words, P writes one word and nothing past the end, L cuts or extends; every other line leaves it to its call.
+-- U makes a buffer of LEN words, P writes one word and nothing past the end, L cuts or extends; every other line leaves the words to its call.
 abbrev pub bufferAfter : Kind → List ℕ → List ℕ
 bufferAfter (Fresh n call) ws = replicate n left
 bufferAfter (Make call) ws = ws
 bufferAfter (Put index value) ws = set ws index value
 bufferAfter (Length n) ws = cutTo n ws
+bufferAfter (Bytes n) ws = ws
+bufferAfter Add ws = ws
+bufferAfter (PutByte index value) ws = ws
+bufferAfter (Last number) ws = ws
 bufferAfter Unreadable ws = ws
 
--- The array has room for the longest buffer, and the buffer is no longer than that.
-pub record Held (words : List ℕ) (used : ℕ) : Type 0 where
-  pub room : length words ≡ mostWords
-  pub within : used ≤ mostWords
+-- a digit `0` to `9` or `a` to `f`
+abbrev pub nibble : ℕ → ℕ
+nibble digit = cond (ltb digit 97) (digit - 48) (digit - 87)
 
--- .. and the buffer's words are these
-pub record Holds (words : List ℕ) (used : ℕ) (buffer : List ℕ) : Type 0 where
-  pub held : Held words used
-  pub is : take used words ≡ buffer
+-- the bytes that digits write, two a byte
+unfoldable pub hexBytes : List ℕ → List ℕ
+hexBytes [] = []
+hexBytes (high ∷ []) = []
+hexBytes (high ∷ low ∷ digits) = (nibble high * 16 + nibble low) % 256 ∷ hexBytes digits
+
+-- bytes put after those that are there, unless that were too many
+abbrev pub addedTo : List ℕ → List ℕ → List ℕ
+addedTo bytes more = cond (leb (length bytes + length more) mostHeld) (bytes ++ more) bytes
+
+-- the digits of a line `H hex`
+abbrev pub digitsIn : List ℕ → List ℕ
+digitsIn line = drop 2 line
+
+-- B makes LEN bytes, H puts the bytes that its digits write after those that are there, Q writes one byte and nothing past the end.
+abbrev pub bytesAfter : Kind → List ℕ → List ℕ → List ℕ
+bytesAfter (Fresh n call) line bytes = bytes
+bytesAfter (Make call) line bytes = bytes
+bytesAfter (Put index value) line bytes = bytes
+bytesAfter (Length n) line bytes = bytes
+bytesAfter (Bytes n) line bytes = replicate n leftByte
+bytesAfter Add line bytes = addedTo bytes (hexBytes (digitsIn line))
+bytesAfter (PutByte index value) line bytes = set bytes index (value % 256)
+bytesAfter (Last number) line bytes = bytes
+bytesAfter Unreadable line bytes = bytes
+
+-- O makes the last number this one.
+abbrev pub lastAfter : Kind → ℕ → ℕ
+lastAfter (Fresh n call) last = last
+lastAfter (Make call) last = last
+lastAfter (Put index value) last = last
+lastAfter (Length n) last = last
+lastAfter (Bytes n) last = last
+lastAfter Add last = last
+lastAfter (PutByte index value) last = last
+lastAfter (Last number) last = number
+lastAfter Unreadable last = last
+
+-- what is held when the line's call is made
+abbrev pub alteredBy : Kind → List ℕ → Lent → Lent
+alteredBy kind line lent =
+    lentOf (bufferAfter kind (lent .words)) (bytesAfter kind line (lent .bytes)) (lastAfter kind (lent .last))
+
+-- An array has room for the most that is held, and no more than that is.
+pub record Held (most : ℕ) (array : List ℕ) (used : ℕ) : Type 0 where
+  pub room : length array ≡ most
+  pub within : used ≤ most
+
+-- .. and it is this
+pub record Holds (most : ℕ) (array : List ℕ) (used : ℕ) (what : List ℕ) : Type 0 where
+  pub held : Held most array used
+  pub is : take used array ≡ what

@@ -1,6 +1,6 @@
 // The call that a line makes.
-ghost use mathlib.Core.Path.{_≡_};
-ghost use Rattle.trace.specs.Calling.{replyOf, afterCall};
+ghost use Rattle.meaning.specs.Records.{lentOf};
+ghost use Rattle.trace.specs.Calling.{Called};
 use super::Kind;
 use meaning::Answer;
 
@@ -11,14 +11,18 @@ pub enum Reply {
 }
 
 // The line's call; a line that is not readable is answered 10.
-pub fn call(list: &mut [u32], kind: Kind) -> Reply
-    ensures { λ r. ⌜ (r ≡ replyOf kind (now (list .entry))) × (now (list .exit) ≡ afterCall kind (now (list .entry))) ⌝ }
+pub fn call(list: &mut [u32], bytes: &[u8], last: &mut u64, kind: Kind) -> Reply
+    ensures { λ r. ⌜ Called kind (lentOf (now (list .entry)) (now (bytes .entry)) (now (last .entry))) r (lentOf (now (list .exit)) (now (bytes .entry)) (now (last .exit))) ⌝ }
 {
     match kind {
-        Kind::Fresh(_, call) => return Reply::Four(mdlist::make(list, call)),
-        Kind::Make(call) => return Reply::Four(mdlist::make(list, call)),
+        Kind::Fresh(_, call) => return Reply::Four(mdlist::make(list, bytes, last, call)),
+        Kind::Make(call) => return Reply::Four(mdlist::make(list, bytes, last, call)),
         Kind::Put(_, _) => return Reply::NoCall,
         Kind::Length(_) => return Reply::NoCall,
+        Kind::Bytes(_) => return Reply::NoCall,
+        Kind::Add => return Reply::NoCall,
+        Kind::PutByte(_, _) => return Reply::NoCall,
+        Kind::Last(_) => return Reply::NoCall,
         Kind::Unreadable => return Reply::Four(meaning::refused(meaning::LINE_NOT_READABLE)),
     }
 }

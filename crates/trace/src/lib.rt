@@ -1,15 +1,21 @@
-// A trace of calls: the kinds of its lines, a line read as one of them, what a line does to the buffer, and the call that it makes.
+// A trace of calls: the kinds of its lines, a line read as one of them, what a line does to what is held, and the call that it makes.
 // The format is at the head of the program replay.
 ghost use Prim.Native.Nat.{_≤_};
 ghost use lib.ListN.{length};
-ghost use Rattle.trace.specs.Trace.{mostWords, lengthIn};
+ghost use Rattle.trace.specs.Trace.{Fits};
 use meaning::Call;
 use text::fields::Numeral;
 
-pub mod buffer; // buffer.rt: what a line does to the buffer
+pub mod buffer; // buffer.rt: what a line does to the words
+pub mod bytes; // bytes.rt: what a line does to the bytes and the last number
 pub mod call; // call.rt: the call that a line makes
 
 pub const MOST_WORDS: usize = 155670;
+
+pub const MOST_HELD: usize = 40000;
+
+// The digits of a line `H hex`.
+const MOST_DIGITS: usize = 60;
 
 const MOST_NUMBERS: usize = 4;
 
@@ -17,12 +23,20 @@ const MOST_NUMBERS: usize = 4;
 pub enum Kind {
     // U: the length of a new buffer, and the set up on it
     Fresh(u32, Call),
-    // N, F, A, T, S
+    // N, F, A, T, S, G
     Make(Call),
     // P: index, value
     Put(u32, u32),
     // L
     Length(u32),
+    // B
+    Bytes(u32),
+    // H: the bytes are those that the line's digits write
+    Add,
+    // Q: index, value
+    PutByte(u32, u32),
+    // O
+    Last(u64),
     Unreadable,
 }
 
@@ -70,7 +84,7 @@ fn numbers_after(line: &[u8], from: usize) -> Numbers
 }
 
 fn set_up_line(d: u32, k: u32, c: u32, len: u32) -> Kind
-    ensures { λ r. ⌜ lengthIn r ≤ mostWords ⌝ }
+    ensures { λ r. ⌜ Fits r ⌝ }
 {
     if len as usize <= MOST_WORDS {
         return Kind::Fresh(len, Call::SetUp(d, k, c));
@@ -79,7 +93,7 @@ fn set_up_line(d: u32, k: u32, c: u32, len: u32) -> Kind
 }
 
 fn length_line(len: u32) -> Kind
-    ensures { λ r. ⌜ lengthIn r ≤ mostWords ⌝ }
+    ensures { λ r. ⌜ Fits r ⌝ }
 {
     if len as usize <= MOST_WORDS {
         return Kind::Length(len);
@@ -87,9 +101,27 @@ fn length_line(len: u32) -> Kind
     Kind::Unreadable
 }
 
+fn bytes_line(len: u32) -> Kind
+    ensures { λ r. ⌜ Fits r ⌝ }
+{
+    if len as usize <= MOST_HELD {
+        return Kind::Bytes(len);
+    }
+    Kind::Unreadable
+}
+
+fn byte_line(index: u32, value: u32) -> Kind
+    ensures { λ r. ⌜ Fits r ⌝ }
+{
+    if value < 256 {
+        return Kind::PutByte(index, value);
+    }
+    Kind::Unreadable
+}
+
 // The lines of a letter alone.
 fn alone(letter: u8) -> Kind
-    ensures { λ r. ⌜ lengthIn r ≤ mostWords ⌝ }
+    ensures { λ r. ⌜ Fits r ⌝ }
 {
     if letter == b'T' {
         return Kind::Make(Call::Take);
@@ -97,12 +129,15 @@ fn alone(letter: u8) -> Kind
     if letter == b'S' {
         return Kind::Make(Call::Sweep);
     }
+    if letter == b'G' {
+        return Kind::Make(Call::Record);
+    }
     Kind::Unreadable
 }
 
 // The lines of a letter and one number.
 fn with_one(letter: u8, a: u32) -> Kind
-    ensures { λ r. ⌜ lengthIn r ≤ mostWords ⌝ }
+    ensures { λ r. ⌜ Fits r ⌝ }
 {
     if letter == b'F' {
         return Kind::Make(Call::Find(a));
@@ -113,11 +148,17 @@ fn with_one(letter: u8, a: u32) -> Kind
     if letter == b'L' {
         return length_line(a);
     }
+    if letter == b'B' {
+        return bytes_line(a);
+    }
+    if letter == b'O' {
+        return Kind::Last(a as u64);
+    }
     Kind::Unreadable
 }
 
 fn with_two(letter: u8, a: u32, b: u32) -> Kind
-    ensures { λ r. ⌜ lengthIn r ≤ mostWords ⌝ }
+    ensures { λ r. ⌜ Fits r ⌝ }
 {
     if letter == b'N' {
         return Kind::Make(Call::Insert(a, b));
@@ -125,11 +166,14 @@ fn with_two(letter: u8, a: u32, b: u32) -> Kind
     if letter == b'P' {
         return Kind::Put(a, b);
     }
+    if letter == b'Q' {
+        return byte_line(a, b);
+    }
     Kind::Unreadable
 }
 
 fn with_four(letter: u8, a: u32, b: u32, c: u32, d: u32) -> Kind
-    ensures { λ r. ⌜ lengthIn r ≤ mostWords ⌝ }
+    ensures { λ r. ⌜ Fits r ⌝ }
 {
     if letter == b'U' {
         return set_up_line(a, b, c, d);
@@ -138,7 +182,7 @@ fn with_four(letter: u8, a: u32, b: u32, c: u32, d: u32) -> Kind
 }
 
 fn kind_of(letter: u8, n: Numbers) -> Kind
-    ensures { λ r. ⌜ lengthIn r ≤ mostWords ⌝ }
+    ensures { λ r. ⌜ Fits r ⌝ }
 {
     if !n.readable {
         return Kind::Unreadable;
@@ -158,13 +202,83 @@ fn kind_of(letter: u8, n: Numbers) -> Kind
     Kind::Unreadable
 }
 
+fn is_hex(byte: u8) -> bool {
+    if byte < b'0' {
+        return false;
+    }
+    if byte <= b'9' {
+        return true;
+    }
+    if byte < b'a' {
+        return false;
+    }
+    byte <= b'f'
+}
+
+// H: one pair of digits or more, up to 30.
+fn hex_line(digits: &[u8]) -> Kind
+    ensures { λ r. ⌜ Fits r ⌝ }
+{
+    if digits.len() == 0 {
+        return Kind::Unreadable;
+    }
+    if digits.len() % 2 == 1 {
+        return Kind::Unreadable;
+    }
+    if MOST_DIGITS < digits.len() {
+        return Kind::Unreadable;
+    }
+    let mut i = 0;
+    while i < digits.len() {
+        if !is_hex(digits[i]) {
+            return Kind::Unreadable;
+        }
+        i += 1;
+    }
+    Kind::Add
+}
+
+// O with the one number that is above 32 bits: nine digits and a 6.
+fn is_no_number(field: &[u8]) -> bool {
+    if field.len() != 10 {
+        return false;
+    }
+    if field[9] != b'6' {
+        return false;
+    }
+    let front = text::fields::number(&field[..9], 0, u32::MAX);
+    match front {
+        Numeral::Value(n) => return n == 429496729,
+        Numeral::Unreadable => return false,
+    }
+}
+
+// A line with a letter and a field after it that starts at the line's third byte.
+fn field_line(letter: u8, field: &[u8], line: &[u8]) -> Kind
+    requires { ⌜ 1 ≤ length (now line) ⌝ }
+    ensures { λ r. ⌜ Fits r ⌝ }
+{
+    if letter == b'H' {
+        return hex_line(field);
+    }
+    if letter == b'O' {
+        if is_no_number(field) {
+            return Kind::Last(records::full_number::NO_NUMBER);
+        }
+    }
+    kind_of(letter, numbers_after(line, 1))
+}
+
 // A line of at most 64 bytes. Its first field is one letter.
 pub fn parse(line: &[u8]) -> Kind
-    ensures { λ r. ⌜ lengthIn r ≤ mostWords ⌝ }
+    ensures { λ r. ⌜ Fits r ⌝ }
 {
     let end = text::fields::field_end(line, 0);
     if end != 1 {
         return Kind::Unreadable;
     }
-    kind_of(line[0], numbers_after(line, end))
+    if line.len() < 2 {
+        return kind_of(line[0], numbers_after(line, end));
+    }
+    field_line(line[0], &line[2..], line)
 }

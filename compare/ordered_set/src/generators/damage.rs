@@ -28,7 +28,7 @@ fn alter_and_call(trace: &mut Trace, keys: &[u32]) {
     let Some(model) = trace.list() else {
         return; // The trace ended before the buffer was put back.
     };
-    let kept = trace.words.clone();
+    let kept = trace.state.words.clone();
     match trace.dice.below(12) {
         0..=4 => alter_words(trace, &model, 1),
         5 => alter_words(trace, &model, 3),
@@ -58,11 +58,11 @@ fn every_operation(trace: &mut Trace, keys: &[u32]) {
 }
 
 /// Writes every word that differs, except the forgotten ones.
-fn put_all(trace: &mut Trace, wanted: &[u32], mut forgotten: impl FnMut(usize) -> bool) {
-    if trace.words.len() != wanted.len() {
+pub fn put_all(trace: &mut Trace, wanted: &[u32], mut forgotten: impl FnMut(usize) -> bool) {
+    if trace.state.words.len() != wanted.len() {
         trace.say(format!("L {}", wanted.len()));
     }
-    for index in differences(&trace.words, wanted) {
+    for index in differences(&trace.state.words, wanted) {
         if !forgotten(index) {
             trace.say(format!("P {index} {}", wanted[index]));
         }
@@ -74,7 +74,7 @@ fn differences(words: &[u32], wanted: &[u32]) -> Vec<usize> {
 }
 
 /// Header, path, the words of a debt, and each kind of cell word.
-fn alter_words(trace: &mut Trace, model: &Model, many: usize) {
+pub fn alter_words(trace: &mut Trace, model: &Model, many: usize) {
     let settings = &model.settings;
     for _ in 0..many {
         let index = match trace.dice.below(8) {
@@ -146,9 +146,9 @@ fn some_field(trace: &mut Trace, settings: &Settings) -> usize {
 /// Near the old value, at the end of a range, or from elsewhere in the buffer.
 fn some_value(trace: &mut Trace, model: &Model, index: usize) -> u32 {
     let settings = &model.settings;
-    let old = trace.words[index];
+    let old = trace.state.words[index];
     let cells_away = settings.cell_length() * trace.dice.below(settings.cells);
-    let same_kind = trace.words[(index + cells_away) % trace.words.len()];
+    let same_kind = trace.state.words[(index + cells_away) % trace.state.words.len()];
     let key = some_standing(trace, model);
     let dice = &mut trace.dice;
     match dice.below(12) {
@@ -175,14 +175,14 @@ fn swap_words(trace: &mut Trace, model: &Model) {
         2 => (settings.link_word(one, d), settings.link_word(other, d)),
         _ => (settings.word(one, field), settings.word(other, field)),
     };
-    let (at_x, at_y) = (trace.words[x], trace.words[y]);
+    let (at_x, at_y) = (trace.state.words[x], trace.state.words[y]);
     trace.say(format!("P {x} {at_y}"));
     trace.say(format!("P {y} {at_x}"));
 }
 
 /// A word or a cell more or fewer, with or without C saying so, or hardly a word left.
 fn change_length(trace: &mut Trace, model: &Model) {
-    let (length, cell) = (trace.words.len(), model.settings.cell_length());
+    let (length, cell) = (trace.state.words.len(), model.settings.cell_length());
     let (changed, cells) = match trace.dice.below(5) {
         0 => (length - 1, model.settings.cells),
         1 => (length + 1, model.settings.cells),
@@ -207,7 +207,7 @@ fn draw_another(trace: &mut Trace, mut model: Model) {
     if trace.dice.one_in(8) {
         drawn = stowaway(trace, model.clone());
     }
-    let differing = differences(&trace.words, &drawn);
+    let differing = differences(&trace.state.words, &drawn);
     if differing.is_empty() || differing.len() > MOST_PUTS {
         return;
     }

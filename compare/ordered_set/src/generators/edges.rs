@@ -1,7 +1,9 @@
 //! The ends of every range of docs/REFERENCE.md, and those of the trace's own format.
 
+use super::records::{append, UNREADABLE as UNREADABLE_FOR_BYTES};
 use super::Trace;
-use crate::replay::MOST_WORDS;
+use crate::records::NONE_YET;
+use crate::replay::{MOST_BYTES, MOST_BYTES_OF_A_LINE, MOST_WORDS};
 use crate::settings::{exact_length, Settings};
 
 /// The fourteen steps.
@@ -16,7 +18,15 @@ const UNREADABLE: &[u8] = b"| |T | T|T\r|T\t|T\0|\0|t|s|TT|T 1|S 0|X|F|F |F  1|F
     N 1  2|N 1\t2|N 1 4294967296|P 1|P 4294967296 1|L|L 155671|U 2 15 8|U 2 15 8 155671|\
     U 2 15 8 87 0|F \xC3\xA9 \xFF";
 
+/// No words, no bytes and no last number yet.
+const RECORDS_AT_FIRST: &str = "G|Q 0 1|H 2c|G|Q 0 1|Q 1 1|B 1|G|O 0|G|O 4294967296|B 0|G";
+
+/// Bytes up to the most that there can be.
+const MANY_BYTES: &str = "B 40000|G|H 2c|Q 39999 44|Q 40000 44|Q 4294967295 255|G|B 39999|H 2c2c|\
+    H 2c|H 2c|G|B 0|G|H 00|H ff|H 0123456789abcdef|Q 0 0|Q 0 255|Q 9 0|Q 10 0|G|B 3|G|B 1|G";
+
 pub fn edges(trace: &mut Trace) {
+    say_all(trace, RECORDS_AT_FIRST);
     few_words(trace);
     set_ups(trace);
     keys_at_the_ends(trace);
@@ -25,6 +35,9 @@ pub fn edges(trace: &mut Trace) {
     say_all(trace, FOURTEEN_STEPS);
     unreadable_lines(trace);
     changed_lengths(trace);
+    many_bytes(trace);
+    last_numbers(trace);
+    unreadable_lines_for_bytes(trace);
     trace.write(b"T", b""); // A last line without line feed.
 }
 
@@ -90,9 +103,49 @@ fn unreadable_lines(trace: &mut Trace) {
 
 /// One word short or long, none at all, and back again.
 fn changed_lengths(trace: &mut Trace) {
-    let exact = trace.words.len() as u32;
+    let exact = trace.state.words.len() as u32;
     for length in [exact - 1, exact, exact + 1, exact, 0, 4, 5, exact, MOST_WORDS] {
         trace.say(format!("L {length}"));
         every_operation(trace, 3);
     }
+}
+
+fn many_bytes(trace: &mut Trace) {
+    trace.say("U 8 4294967295 8 189");
+    say_all(trace, MANY_BYTES);
+    for length in [MOST_BYTES_OF_A_LINE, MOST_BYTES_OF_A_LINE - 1] {
+        trace.say(format!("B {}", MOST_BYTES as usize - length));
+        append(trace, &[b','; MOST_BYTES_OF_A_LINE]);
+        trace.say("G");
+    }
+}
+
+/// Records whose number is as far from the last as forward and back go, at last numbers from
+/// which that leads to both ends of the full numbers and past them. The takes show the values.
+fn last_numbers(trace: &mut Trace) {
+    trace.make(&Settings::new(8, u32::MAX, 128).expect("settings in range"));
+    let ends = [0, 1, 32_767, 32_768, 65_535, 65_536].map(|low| [low, NONE_YET - 1 - low]);
+    let lasts = ends.concat().into_iter().chain([NONE_YET]);
+    let apart = [0, 1, 32_767, 32_768, 32_769, 65_535];
+    let cases = lasts.flat_map(|last| apart.map(|apart| (last, (last + apart) % 65_536)));
+    for (serial, (last, own)) in cases.enumerate() {
+        trace.say("B 0");
+        append(trace, format!("1,117,{serial},,{own}").as_bytes());
+        say_all(trace, &format!("O {last}|G|G"));
+    }
+    for _ in 0..128 {
+        trace.say("T");
+    }
+}
+
+/// Beside readable ones, after which the bytes and the last number are seen to be as before.
+fn unreadable_lines_for_bytes(trace: &mut Trace) {
+    say_all(trace, "B 0|H 31|O 7");
+    for line in UNREADABLE_FOR_BYTES.split(|&byte| byte == b'|') {
+        trace.write(line, b"\n");
+    }
+    for digits in [59, 61, 62, 63, 64, 1000] {
+        trace.write(format!("H {}", "0".repeat(digits)).as_bytes(), b"\n");
+    }
+    trace.say("G");
 }

@@ -5,14 +5,18 @@ mod calls;
 mod damage;
 mod dice;
 pub mod edges;
+mod exports;
 mod keys;
 mod large;
+mod logger_edges;
 mod order_lines;
+pub mod record_forms;
+mod records;
 mod retell;
 
 use crate::model::Model;
 use crate::reading::list;
-use crate::replay::{parse, run};
+use crate::replay::{parse, run, State};
 use crate::settings::Settings;
 use dice::Dice;
 use std::io::{Error, Result, Write};
@@ -25,6 +29,17 @@ pub fn named(name: &str) -> Option<Generator> {
         "gen-damage" => damage::damage,
         "gen-large" => large::large,
         "gen-order" => order_lines::order_lines,
+        "gen-records" => records::records,
+        "gen-export" => exports::export,
+        _ => return None,
+    })
+}
+
+/// Those that need no seed and always write the same.
+pub fn whole(name: &str) -> Option<Generator> {
+    Some(match name {
+        "gen-edges" => edges::edges,
+        "gen-logger-edges" => logger_edges::logger_edges,
         _ => return None,
     })
 }
@@ -32,7 +47,7 @@ pub fn named(name: &str) -> Option<Generator> {
 pub fn write(generator: Generator, seed: u64, count: usize, mut output: impl Write) -> Result<()> {
     let mut trace = Trace {
         dice: Dice::new(seed),
-        words: Vec::new(),
+        state: State::at_first(),
         left: count,
         output: &mut output,
         failed: None,
@@ -44,8 +59,9 @@ pub fn write(generator: Generator, seed: u64, count: usize, mut output: impl Wri
 
 pub struct Trace<'a> {
     dice: Dice,
-    words: Vec<u32>,
-    /// Lines still to be written; those said after the last one are dropped.
+    state: State,
+    /// Lines still to be written, or records of an export; those said after the last one are
+    /// dropped.
     left: usize,
     output: &'a mut dyn Write,
     failed: Option<Error>,
@@ -61,7 +77,7 @@ impl Trace<'_> {
         if self.goes_on() {
             let fields: Vec<&str> = line.as_ref().split(' ').collect();
             let said = parse(&fields).expect("a readable line");
-            run(&mut self.words, &said);
+            run(&mut self.state, &said);
             self.write(line.as_ref().as_bytes(), b"\n");
         }
     }
@@ -71,7 +87,7 @@ impl Trace<'_> {
         self.say(format!("U {dimensions} {largest_key} {cells} {}", settings.length()));
     }
 
-    /// A line that the buffer is not told of: an unreadable one, or one of the order program.
+    /// A line that the buffer is not told of: an unreadable one, or one of another program.
     fn write(&mut self, line: &[u8], end: &[u8]) {
         if self.goes_on() {
             self.left -= 1;
@@ -83,6 +99,6 @@ impl Trace<'_> {
     }
 
     fn list(&self) -> Option<Model> {
-        list(&self.words)
+        list(&self.state.words)
     }
 }

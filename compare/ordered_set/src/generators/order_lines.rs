@@ -22,7 +22,7 @@ pub fn order_lines(trace: &mut Trace) {
 }
 
 /// Close together, at the ends of the ranges, or any.
-fn some_entry(trace: &mut Trace) -> String {
+pub fn some_entry(trace: &mut Trace) -> String {
     let dice = &mut trace.dice;
     match dice.below(3) {
         0 => format!("{} {} {}", dice.between(0, 2), dice.between(110, 130), dice.between(0, 3)),
@@ -30,7 +30,12 @@ fn some_entry(trace: &mut Trace) -> String {
             let (class, unit) = (dice.pick(&[0, 1, 14, 15]), dice.pick(&[1, 2, 65_534, 65_535]));
             format!("{class} {unit} {}", dice.pick(&[0, 1, 4_094, 4_095]))
         }
-        _ => format!("{} {} {}", dice.between(0, 15), dice.between(1, 65_535), dice.between(0, 4_095)),
+        _ => format!(
+            "{} {} {}",
+            dice.between(0, 15),
+            dice.between(1, 65_535),
+            dice.between(0, 4_095)
+        ),
     }
 }
 

@@ -6,10 +6,10 @@ use Rattle.replay.proofs.take_byte.Tie as tie
 
 take-line-requires : tie.Need-take-line-requires
 take-line-requires c κs =
-    let fed = c .before .before .before .before .before .feed-byte .ensures in
-    let held = c .before .before .before .before .before .before .before .before .before .pre .held in
-    (held, record { fits = λ n e. omega (arith, fed .line-fits n e, fed .ready .long) })
+    let fed = c .before .before .before .before .before .before .before .before .feed-byte .ensures in
+    (c .before .before .before .before .before .before .before .before .before .before .before .before .before .pre .room, record { fits = λ n e. omega (arith, fed .line-fits n e, fed .ready .long) })
 
 pub take-byte-spec : {M : Type 1} → statement M
 take-byte-spec =
-    tie.close (tie.spec (λ c κs. search needs) take-line-requires (λ c. search needs) (λ c. search needs) (λ c. search needs))
+    tie.close
+    (tie.spec (λ c κs. search needs) take-line-requires (λ c. search needs) (λ c. search needs) (λ c. search needs) (λ c. search needs))

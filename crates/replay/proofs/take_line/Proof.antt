@@ -4,19 +4,22 @@ use borrow.Author.Needs.{needs}
 use Rattle.replay.proofs.take_line.Statement.{statement}
 use Rattle.replay.proofs.take_line.Tie as tie
 
+part-reply-end : tie.Need-part-reply-end
+part-reply-end c = c .before .before .before .before .before .before .before .before .before .pre .1 .fits _ (c .before .before .before .before .ended .given .1)
+
 part-parse-end : tie.Need-part-parse-end
-part-parse-end c = c .before .before .before .before .before .before .pre .1 .fits _ (c .before .before .ended .given .1)
+part-parse-end c = c .before .before .before .before .before .before .before .before .before .before .pre .1 .fits _ (c .before .before .before .before .before .ended .given .1)
 
 reply-requires : tie.Need-reply-requires
-reply-requires c κs =
-    ((c .before .before .before .before .before .before .before .before .pre .0, c .parse .ensures), tt)
+reply-requires c κs = ((c .before .before .before .before .before .before .before .before .before .before .before .before .pre .0, c .parse .ensures), tt)
 
 reply-requires-2 : tie.Need-reply-requires-2
-reply-requires-2 c κs = ((c .before .before .before .before .before .pre .0, search needs), rw (c .before .enum-told2 .given .1) refl)
+reply-requires-2 c κs = ((c .before .before .before .before .before .before .before .before .before .pre .0, search needs), rw (c .before .before .before .before .enum-told2 .given .1) refl)
 
 pub take-line-spec : {M : Type 1} → statement M
 take-line-spec =
     tie.close
-    (tie.spec (λ c. search needs) (λ c. search needs) (λ c. search needs) (λ c. search needs) (λ c. search needs) part-parse-end
-    (λ c κs. search needs) reply-requires (λ c. search needs) (λ c. search needs) (λ c. search needs) reply-requires-2
-    (λ c. search needs) (λ c. search needs))
+    (tie.spec (λ c. search needs) (λ c. search needs) (λ c. search needs) (λ c. search needs) (λ c. search needs) part-reply-end (λ c. search needs)
+    (λ c. search needs) part-parse-end (λ c κs. search needs) reply-requires (λ c. search needs) (λ c. search needs) (λ c. search needs)
+    (λ c. search needs) (λ c. search needs) (λ c. search needs) (λ c. search needs) reply-requires-2 (λ c. search needs) (λ c. search needs)
+    (λ c. search needs))

@@ -1,19 +1,19 @@
 -- `replay::take_part` is safe and ends: each turn takes one byte more of the part.
 use Prim.Native.Nat.{_-_, _≤_}
 use lib.ListN.{length}
-use Rattle.replay.specs.Kept.{Kept}
 use borrow.Author.Needs.{needs}
+use Rattle.replay.specs.Kept.{Kept}
 use Rattle.replay.proofs.take_part.Statement.{statement}
 use Rattle.replay.proofs.take_part.Tie as tie
 
 abbrev Inv-loop : tie.InvT-loop
-Inv-loop words₀ line₀ part s₀ i₀ words line s i = (i ≤ length part) × Kept words line s
+Inv-loop words₀ bytes₀ last₀ line₀ part s₀ i₀ words bytes last line s i = (i ≤ length part) × Kept words bytes line s
 
 abbrev μ-loop : tie.MeasureT-loop
-μ-loop words₀ line₀ part s₀ i₀ words line s i = length part - i
+μ-loop words₀ bytes₀ last₀ line₀ part s₀ i₀ words bytes last line s i = length part - i
 
 pub take-part-spec : {M : Type 1} → statement M
 take-part-spec =
     tie.close
     (tie.spec Inv-loop μ-loop (λ c. search needs) (λ c. search needs) (λ c κs. search needs) (λ c. search needs) (λ c. search needs)
-    (λ c. search needs) (λ c. search needs) (λ c. search needs) (λ c. search needs))
+    (λ c. search needs) (λ c. search needs) (λ c. search needs) (λ c. search needs) (λ c. search needs))

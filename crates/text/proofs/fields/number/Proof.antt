@@ -1,32 +1,37 @@
--- `text::fields::number` meets its contract: an empty field and a leading zero are no number, and digits without one are a number by
--- their value alone.
-use mathlib.Core.Path.{sym}
+-- `text::fields::number` meets its contract: reading the field from its start is reading what is left of it after the digits so far.
+use mathlib.Core.Path.{_≡_, refl, sym, _∙_, ap}
+use Prim.Native.Nat.{_+_, _-_, _≤_}
+use lib.ListN.{length, drop, getD}
 use borrow.Author.Needs.{needs}
-use Rattle.text.proofs.Numerals.{number-empty, number-leading, number-one, number-several}
+use Rattle.text.specs.Answers.{digitOn, digitsOn, endedAt}
+use Rattle.text.specs.declared.fields.Begun.the-variants.{NoDigit}
+use Rattle.text.proofs.Parts.{over-more, over-none}
+use Rattle.text.proofs.Numerals.{number-by-digits}
 use Rattle.text.proofs.fields.number.Statement.{statement}
 use Rattle.text.proofs.fields.number.Tie as tie
 
-returns : tie.Need-returns
-returns c = let a = c .before .before .args in sym (number-empty (a .least) (a .most) (a .field .now) (search needs))
+abbrev Inv-loop : tie.InvT-loop
+Inv-loop field least most begun₀ i₀ begun i = (i ≤ length field) × (digitsOn most NoDigit field ≡ digitsOn most begun (drop i field))
 
-returns-2 : tie.Need-returns-2
-returns-2 c =
+abbrev μ-loop : tie.MeasureT-loop
+μ-loop field least most begun₀ i₀ begun i = length field - i
+
+loop-again : tie.Need-loop-again Inv-loop μ-loop
+loop-again c =
+    let v = c .before .before .before .loop in
     let a = c .before .before .before .before .before .args in
-    rw (c .at-least .ensures, c .before .digits .ensures) (number-one (a .least) (a .most) (a .field .now) (search needs))
+    let more = over-more (digitOn (a .most)) (v .begun) (a .field .now) (v .i) (search needs) in
+    (search needs, v .inv .1 ∙ (more ∙ ap (λ begun. digitsOn (a .most) begun (drop (v .i + 1) (a .field .now))) (sym (c .digit .ensures))))
 
-returns-3 : tie.Need-returns-3
-returns-3 c =
-    let a = c .before .before .before .before .before .args in
-    sym (number-leading (a .least) (a .most) (a .field .now) (search needs) (search needs))
-
-returns-4 : tie.Need-returns-4
-returns-4 c =
-    let a = c .before .before .before .before .before .before .before .args in
-    rw (c .at-least2 .ensures, c .before .digits2 .ensures)
-    (number-several (a .least) (a .most) (a .field .now) (search needs) (search needs))
+returns : tie.Need-returns Inv-loop μ-loop
+returns c =
+    let v = c .before .before .loop in
+    let a = c .before .before .before .before .args in
+    let all = over-none (digitOn (a .most)) (v .begun) (a .field .now) (v .i) (search needs) in
+    c .ended-at .ensures ∙ (ap (endedAt (a .least)) (sym (v .inv .1 ∙ all)) ∙ number-by-digits (a .least) (a .most) (a .field .now))
 
 pub number-spec : {M : Type 1} → statement M
 number-spec =
     tie.close
-    (tie.spec returns (λ c κs. search needs) (λ c κs. search needs) returns-2 (λ c. search needs) returns-3 (λ c κs. search needs)
-    (λ c κs. search needs) returns-4)
+    (tie.spec Inv-loop μ-loop (λ c. (search needs, refl)) (λ c. search needs) (λ c κs. search needs) (λ c. search needs) (λ c. search needs)
+    loop-again (λ c κs. search needs) returns)

@@ -1,7 +1,8 @@
 -- `trace::buffer::made` meets its contract: the part that is filled is the buffer.
 use native.Mathlib.Omega.{arith}
 use borrow.Author.Needs.{needs}
-use Rattle.trace.proofs.BufferWords.{made-is}
+use Rattle.trace.specs.Trace.{left}
+use Rattle.trace.proofs.Held.{made-is}
 use Rattle.trace.proofs.buffer.made.Statement.{statement}
 use Rattle.trace.proofs.buffer.made.Tie as tie
 
@@ -10,7 +11,7 @@ returns c =
     let s = c .before .before .before .before .before in
     record {
       held = search needs;
-      is = made-is (s .args .words .now) _ (s .args .n) (omega (arith, s .pre .room, s .pre .within))
+      is = made-is (s .args .words .now) _ (s .args .n) left (omega (arith, s .pre .room, s .pre .within))
           (c .before .before .fill .ensures);
     }
 

@@ -1,7 +1,7 @@
 -- `trace::buffer::put` meets its contract: a word is put among the buffer's, or none where the index is past its end.
 use lib.Seq.{take-set-lt}
 use borrow.Author.Needs.{needs}
-use Rattle.trace.proofs.BufferWords.{put-out}
+use Rattle.trace.proofs.Held.{put-out}
 use Rattle.trace.proofs.buffer.put.Statement.{statement}
 use Rattle.trace.proofs.buffer.put.Tie as tie
 

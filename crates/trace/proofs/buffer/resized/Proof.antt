@@ -1,7 +1,7 @@
 -- `trace::buffer::resized` meets its contract: the words behind the buffer are filled with 0, or it is cut.
 use native.Mathlib.Omega.{arith}
 use borrow.Author.Needs.{needs}
-use Rattle.trace.proofs.BufferWords.{extended, cut}
+use Rattle.trace.proofs.Held.{extended, cut}
 use Rattle.trace.proofs.buffer.resized.Statement.{statement}
 use Rattle.trace.proofs.buffer.resized.Tie as tie
 

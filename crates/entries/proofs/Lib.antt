@@ -1,0 +1,3 @@
+-- What holds of entries and of their keys.
+pub mod Ranges
+pub mod Promises

@@ -1,0 +1,3 @@
+-- Entries and their keys: Entries (docs/REFERENCE.md).
+pub mod Entries
+pub mod Promises

@@ -1,0 +1,2 @@
+-- The list of entries that the programs keep.
+pub mod EntryList

@@ -1,0 +1,2 @@
+-- What a record does, case by case of what it asks for.
+pub mod Asked

@@ -1,0 +1,2 @@
+-- What a note does, once it is read.
+pub mod Noted

@@ -1,0 +1,2 @@
+-- What the functions of the program logger rest on.
+pub mod Input

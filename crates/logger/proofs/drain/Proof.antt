@@ -1,0 +1,28 @@
+-- `logger::drain` meets its contract and ends: each turn is counted, and the last take was refused.
+use mathlib.Core.Path.{_≡_, refl}
+use lib.ListN.{length}
+use borrow.Author.Needs.{needs}
+use Rattle.logger.proofs.Input.{nothing-after}
+use Rattle.logger.proofs.drain.Statement.{statement}
+use Rattle.logger.proofs.drain.Tie as tie
+
+abbrev Inv-loop : tie.InvT-loop
+Inv-loop words₀ turns₀ words turns = length words ≡ length words₀
+
+abbrev μ-loop : tie.MeasureT-loop
+μ-loop words₀ turns₀ words turns = turns
+
+returns : tie.Need-returns Inv-loop μ-loop
+returns c = record { nothing = λ e. nothing-after (c .before .before .before .before .take-next .ensures) (c .enum-told2 .given .1) }
+
+returns-2 : tie.Need-returns-2 Inv-loop μ-loop
+returns-2 c = record { nothing = λ e. cc }
+
+returns-3 : tie.Need-returns-3 Inv-loop μ-loop
+returns-3 c = record { nothing = λ e. cc }
+
+pub drain-spec : {M : Type 1} → statement M
+drain-spec =
+    tie.close
+    (tie.spec Inv-loop μ-loop (λ c. refl) (λ c κs. search needs) (λ c. search needs) (λ c. search needs) (λ c. search needs) returns
+    (λ c. search needs) (λ c. search needs) returns-2 (λ c. search needs) (λ c. search needs) (λ c. search needs) (λ c. search needs) returns-3)

@@ -1,0 +1,25 @@
+-- `logger::take_record` meets its contract: the bytes written are those that `note_text` puts, on what was kept before it.
+use mathlib.Core.Path.{sym}
+use mathlib.Core.List.{[]}
+use lib.Seq.{length-take-le}
+use borrow.Author.Needs.{needs}
+use Rattle.logger.specs.Input.{kept}
+use Rattle.logger.proofs.take_record.Statement.{statement}
+use Rattle.logger.proofs.take_record.Tie as tie
+
+slice-aggregate-write : tie.Need-slice-aggregate-write
+slice-aggregate-write c = let answered = c .before .before .before .before .before .note-text in sym (length-take-le (answered .result) _ (answered .ensures .within))
+
+write-requires : tie.Need-write-requires
+write-requires c κs =
+    let answered = c .before .before .before .before .before .before .note-text .ensures in
+    let a = c .before .before .before .before .before .before .before .before .before .before .before .args in
+    record { before = kept (a .words .now) (a .last .now); left = answered .left; is = answered .text }
+
+returns : tie.Need-returns
+returns c = c .before .before .before .before .before .before .before .note-text .ensures .left
+
+pub take-record-spec : {M : Type 1} → statement M
+take-record-spec =
+    tie.close
+    (tie.spec (λ c. search needs) (λ c κs. search needs) (λ c. search needs) slice-aggregate-write write-requires (λ c. search needs) returns)

@@ -1,0 +1,2 @@
+-- What is told of is entered, and what is printed for it.
+pub mod Printed

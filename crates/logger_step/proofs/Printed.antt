@@ -1,0 +1,56 @@
+-- What is told of is entered: no record, or one; the answer put is the bytes that are printed. And so for a take.
+use mathlib.Core.Path.{_≡_, refl, sym, _∙_, ap}
+use mathlib.Core.List.{List, [], _∷_, append-nil}
+use Prim.Native.Nat.{ℕ, _≤_}
+use native.Mathlib.Omega.{arith}
+use lib.Dec.{eqb}
+use lib.ListN.{length}
+use Rattle.text.specs.Lines.{lineFeed}
+use Rattle.records.specs.Feeding.{toldIn, ToldWithin}
+use Rattle.records.specs.Notes.{Within}
+use Rattle.records.specs.declared.note.Logged.{Logged}
+use Rattle.records.specs.declared.feed.Told.{Told}
+use Rattle.records.specs.declared.feed.Told.the-variants.{NoRecord, Record}
+use Rattle.meaning.specs.Refusals.{Meets}
+use Rattle.meaning.specs.Operations.{takeOut}
+use Rattle.meaning.specs.Records.{Lent, lentOf, noteOut}
+use Rattle.meaning.specs.declared.Answer.{Answer}
+use Rattle.insert_record.specs.Noted.{Noted}
+use Rattle.report.specs.Report.{answerText, Put}
+use Rattle.report.proofs.Puts.{put-start}
+use Rattle.logger_step.specs.Printed.{afterNotes, notesText, NotesAnswered, TakeAnswered}
+
+pub told-within : {told : Told} {logged : Logged} → told ≡ Record logged → ToldWithin told → Within logged
+told-within is within = rw is at within
+
+pub no-record-answered : (lent : Lent) (out : List ℕ) {told : Told} → told ≡ NoRecord → NotesAnswered (toldIn told) lent lent out 0
+unfolding afterNotes notesText
+no-record-answered lent out e = rw e (record { left = refl; text = refl; within = omega arith })
+
+module _ {room out : List ℕ} {r : ℕ} {a : Answer} (put : Put room 0 (answerText a lineFeed) out r) (fits : r ≤ length room) where
+  pub record-answered :
+      {ws after : List ℕ} {last now-last : ℕ} {told : Told} {logged : Logged} → told ≡ Record logged → Noted logged ws last a after now-last →
+      NotesAnswered (toldIn told) (lentOf ws [] last) (lentOf after [] now-last) out r
+  unfolding afterNotes notesText
+  record-answered {ws} {last = last} {logged = logged} e noted =
+      let bytes = put-start put fits in
+      let met = noted .meets [] in
+      rw e
+      (record {
+        left = met .left;
+        text =
+            bytes .0 ∙ (ap (λ (b : Answer). answerText b lineFeed) (met .answered) ∙
+            sym (append-nil (answerText (noteOut logged (lentOf ws [] last) .answered) lineFeed)));
+        within = bytes .1;
+      })
+
+  pub take-answered :
+      {ws after : List ℕ} → Meets (takeOut ws) a after → TakeAnswered ws after out (record { bytes = r; more = eqb (a .refusal) 0 })
+  take-answered met =
+      let bytes = put-start put fits in
+      record {
+        left = met .left;
+        text = bytes .0 ∙ ap (λ (b : Answer). answerText b lineFeed) (met .answered);
+        within = bytes .1;
+        more = ap (λ (b : Answer). eqb (b .refusal) 0) (met .answered);
+      }

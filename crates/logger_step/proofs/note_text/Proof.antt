@@ -1,0 +1,26 @@
+-- `logger_step::note_text` meets its contract: the answer put is that of the record that is told of.
+use native.Mathlib.Omega.{arith}
+use mathlib.Core.List.{[]}
+use borrow.Author.Needs.{needs}
+use Rattle.meaning.specs.Records.{lentOf}
+use Rattle.logger_step.proofs.Printed.{told-within, no-record-answered, record-answered}
+use Rattle.logger_step.proofs.note_text.Statement.{statement}
+use Rattle.logger_step.proofs.note_text.Tie as tie
+
+returns : tie.Need-returns
+returns c =
+    let a = c .before .before .before .before .args in
+    no-record-answered (lentOf (a .list .now) [] (a .last .now)) (a .out .now) (c .enum-told .given .1)
+
+enter-requires : tie.Need-enter-requires
+enter-requires c κs = told-within (c .before .before .before .before .told .given .1) (c .before .before .before .before .before .before .before .before .pre .0)
+
+returns-2 : tie.Need-returns-2
+returns-2 c =
+    let put = c .before .before .put-answer .ensures in
+    record-answered (put .0) (omega (arith, put .1)) (c .before .before .before .before .before .before .before .before .before .before .told .given .1) (c .before .before .before .before .before .enter .ensures)
+
+pub note-text-spec : {M : Type 1} → statement M
+note-text-spec =
+    tie.close
+    (tie.spec (λ c. search needs) returns (λ c. search needs) enter-requires (λ c κs. search needs) (λ c. search needs) (λ c. search needs) returns-2)

@@ -1,0 +1,44 @@
+// One record of the program logger on the list's words, and one take, with the bytes that are printed for each.
+ghost use mathlib.Core.List.{[]};
+ghost use Prim.Native.Nat.{_≤_};
+ghost use lib.ListN.{length};
+ghost use Rattle.records.specs.Feeding.{toldIn, ToldWithin};
+ghost use Rattle.meaning.specs.Records.{lentOf};
+ghost use Rattle.report.specs.Report.{answerBytes};
+ghost use Rattle.logger_step.specs.Printed.{NotesAnswered, TakeAnswered};
+use records::feed::Told;
+
+// What a take puts: how many bytes, and whether there may be more to take.
+pub struct TakeText {
+    pub bytes: usize,
+    pub more: bool,
+}
+
+// Enters the record that is told of, if one is: puts the bytes that are printed for it into `out`, from the first on; how many they are.
+pub fn note_text(list: &mut [u32], last: &mut u64, told: Told, out: &mut [u8]) -> usize
+    requires { ⌜ ToldWithin told × (answerBytes ≤ length (now out)) ⌝ }
+    ensures { λ r. ⌜ NotesAnswered (toldIn told) (lentOf (now (list .entry)) [] (now (last .entry))) (lentOf (now (list .exit)) [] (now (last .exit))) (now (out .exit)) r ⌝ }
+{
+    match told {
+        Told::NoRecord => return 0,
+        Told::Record(logged) => return report::put_answer(
+            out,
+            0,
+            mdlist::enter(list, logged, last),
+            b'\n',
+        ),
+    }
+}
+
+// Takes the least live key: puts the bytes that are printed for it into `out`, from the first on.
+pub fn take_text(list: &mut [u32], out: &mut [u8]) -> TakeText
+    requires { ⌜ answerBytes ≤ length (now out) ⌝ }
+    ensures { λ r. ⌜ TakeAnswered (now (list .entry)) (now (list .exit)) (now (out .exit)) r ⌝ }
+{
+    let answer = mdlist::mdlist_take(list);
+    let bytes = report::put_answer(out, 0, answer, b'\n');
+    TakeText {
+        bytes,
+        more: answer.refusal == 0,
+    }
+}

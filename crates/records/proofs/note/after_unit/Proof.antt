@@ -1,0 +1,23 @@
+-- `records::note::after_unit` meets its contract: the field is a number in its range, or there is no place after it.
+use mathlib.Core.Path.{sym, _∙_, ap}
+use borrow.Author.Needs.{needs}
+use Rattle.text.specs.declared.fields.Begun.the-variants.{NoDigit}
+use Rattle.records.specs.Reader.{past, placeAfter}
+use Rattle.records.specs.declared.note.Place.the-variants.{AtSerial}
+use Rattle.records.proofs.note.after_unit.Statement.{statement}
+use Rattle.records.proofs.note.after_unit.Tie as tie
+
+returns : tie.Need-returns
+unfolding placeAfter
+returns c =
+    let a = c .before .before .before .args in
+    ap (λ n. past n (λ unit. AtSerial (a .class) unit NoDigit)) (sym (c .enum-told .given .1) ∙ c .before .before .ended-at .ensures)
+
+returns-2 : tie.Need-returns-2
+unfolding placeAfter
+returns-2 c =
+    let a = c .before .before .before .before .args in
+    ap (λ n. past n (λ unit. AtSerial (a .class) unit NoDigit)) (sym (c .before .unit .given .1) ∙ c .before .before .before .ended-at .ensures)
+
+pub after-unit-spec : {M : Type 1} → statement M
+after-unit-spec = tie.close (tie.spec (λ c κs. search needs) (λ c. search needs) (λ c. search needs) returns returns-2)
