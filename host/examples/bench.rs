@@ -1,36 +1,58 @@
 //! The time of each operation on half-full lists, beside reading every word of the same buffer once, and beside the same calls on an
 //! ordered map, which checks nothing. Medians of one run. Words are read in two ways: `sum` adds them up, several at once as the compiler
 //! likes it; `loads` reads each by a load of its own.
+//!
+//! Then the time of each of many calls: made alone, made in one batch, which checks the list once, and made on the map. `drain` takes all.
 
 use mdlist_host::*;
+use std::cell::RefCell;
 use std::collections::BTreeMap;
 use std::hint::black_box;
 use std::time::Instant;
 
+type Map = BTreeMap<u32, u32>;
+
 const ROUNDS: usize = 201;
+/// The rounds of a batch, and of many calls that are made alone.
+const BATCH_ROUNDS: usize = 51;
+const ALONE_ROUNDS: usize = 3;
+/// The calls of a batch, or as many as there is room for in the list.
+const CALLS: u32 = 1000;
+
+/// D, K and C of the lists.
+const LISTS: [(u32, u32, u32); 5] =
+    [(8, 1_048_575, 512), (8, u32::MAX, 1024), (8, u32::MAX, 4096), (16, u32::MAX, 4096), (2, u32::MAX, 4096)];
 
 /// The median time of a call in nanoseconds; `before` is not timed.
-fn median(mut before: impl FnMut(), mut call: impl FnMut()) -> f64 {
-    let mut times = Vec::with_capacity(ROUNDS);
-    for _ in 0..ROUNDS {
+fn median(rounds: usize, mut before: impl FnMut(), mut call: impl FnMut()) -> f64 {
+    let mut times = Vec::with_capacity(rounds);
+    for _ in 0..rounds {
         before();
         let start = Instant::now();
         call();
         times.push(start.elapsed().as_nanos() as f64);
     }
     times.sort_by(f64::total_cmp);
-    times[ROUNDS / 2]
+    times[rounds / 2]
+}
+
+/// Numbers from 1 to k, without end.
+fn numbers(mut seed: u64, k: u32) -> impl Iterator<Item = u32> {
+    std::iter::repeat_with(move || {
+        seed = seed.wrapping_mul(6_364_136_223_846_793_005).wrapping_add(1_442_695_040_888_963_407);
+        1 + ((seed >> 20) % u64::from(k)) as u32
+    })
 }
 
 /// A list with `keys` keys, and a map with the same.
-fn filled(d: u32, k: u32, c: u32, keys: u32) -> (Vec<u32>, BTreeMap<u32, u32>) {
+fn filled(d: u32, k: u32, c: u32, keys: u32) -> (Vec<u32>, Map) {
     let mut list = vec![0; words_needed(d, c)];
     set_up(d, k, c, &mut list).expect("settings in range");
     let mut map = BTreeMap::new();
-    let mut seed = 7u64;
-    while map.len() < keys as usize {
-        seed = seed.wrapping_mul(6_364_136_223_846_793_005).wrapping_add(1_442_695_040_888_963_407);
-        let key = 1 + ((seed >> 20) % u64::from(k)) as u32;
+    for key in numbers(7, k) {
+        if map.len() == keys as usize {
+            break;
+        }
         if insert(&mut list, key, key).is_ok() {
             map.insert(key, key);
         }
@@ -38,17 +60,14 @@ fn filled(d: u32, k: u32, c: u32, keys: u32) -> (Vec<u32>, BTreeMap<u32, u32>) {
     (list, map)
 }
 
-fn main() {
+fn each_operation() {
     println!("{:>3} {:>11} {:>5}  {:<7} {:>10} {:>7} {:>7} {:>8}", "D", "K", "C", "call", "ns", "x sum", "x loads", "map ns");
-    for (d, k, c) in [(8, 1_048_575, 512), (8, u32::MAX, 1024), (8, u32::MAX, 4096), (16, u32::MAX, 4096), (2, u32::MAX, 4096)] {
+    for (d, k, c) in LISTS {
         let (list, map) = filled(d, k, c, c / 2);
-        let loads = median(|| (), || {
-            // SAFETY: w is a reference to a word of the list
-            black_box(list.iter().fold(0u32, |sum, w| sum.wrapping_add(unsafe { std::ptr::read_volatile(w) })));
-        });
-        let sum = median(|| (), || {
-            black_box(black_box(&list).iter().fold(0u32, |sum, w| sum.wrapping_add(*w)));
-        });
+        // SAFETY: w is a reference to a word of the list
+        let load = |w: &u32| unsafe { std::ptr::read_volatile(w) };
+        let loads = median(ROUNDS, || (), || _ = black_box(list.iter().fold(0u32, |sum, w| sum.wrapping_add(load(w)))));
+        let sum = median(ROUNDS, || (), || _ = black_box(black_box(&list).iter().fold(0u32, |sum, w| sum.wrapping_add(*w))));
         let key = *map.keys().nth(map.len() / 2).expect("half full");
         let new = (key + 1..).find(|k| !map.contains_key(k)).expect("room");
         let row = |name: &str, ns: f64, map: Option<f64>| {
@@ -57,21 +76,94 @@ fn main() {
         };
         row("sum", sum, None);
         row("loads", loads, None);
-        let fresh = std::cell::RefCell::new((list.clone(), map.clone()));
+        let fresh = RefCell::new((list.clone(), map.clone()));
         let reset = || *fresh.borrow_mut() = (list.clone(), map.clone());
-        let ours = |call: &dyn Fn(&mut Vec<u32>)| median(reset, || call(&mut fresh.borrow_mut().0));
-        let theirs = |call: &dyn Fn(&mut BTreeMap<u32, u32>)| median(reset, || call(&mut fresh.borrow_mut().1));
+        let ours = |call: &dyn Fn(&mut Vec<u32>)| median(ROUNDS, reset, || call(&mut fresh.borrow_mut().0));
+        let theirs = |call: &dyn Fn(&mut Map)| median(ROUNDS, reset, || call(&mut fresh.borrow_mut().1));
         row("find", ours(&|l| _ = black_box(find(l, key))), Some(theirs(&|m| _ = black_box(m.get(&key)))));
         row("insert", ours(&|l| _ = black_box(insert(l, new, 1))), Some(theirs(&|m| _ = black_box(m.insert(new, 1)))));
         row("finish", ours(&|l| _ = black_box(finish(l, key))), None);
         row("take", ours(&|l| _ = black_box(take(l))), Some(theirs(&|m| _ = black_box(m.pop_first()))));
         row("sweep", ours(&|l| _ = black_box(sweep(l))), None);
     }
-    println!();
+}
+
+fn find_by_standing_keys() {
     println!("find on a list of D 8, K 4294967295, C 1024 by the keys that stand: ns, ns for each word");
     for keys in [0, 256, 512, 768, 1023] {
         let (list, _) = filled(8, u32::MAX, 1024, keys);
-        let ns = median(|| (), || _ = black_box(find(&list, 7)));
+        let ns = median(ROUNDS, || (), || _ = black_box(find(&list, 7)));
         println!("{keys:>5} {ns:>10.0} {:>6.2}", ns / list.len() as f64);
     }
+}
+
+fn many_calls() {
+    println!("many calls after one check, on half-full lists: ns for each");
+    println!(
+        "{:>3} {:>11} {:>5}  {:<7} {:>6} {:>8} {:>8} {:>8} {:>8} {:>8}",
+        "D", "K", "C", "call", "calls", "alone", "batch", "alone/b", "map", "b/map"
+    );
+    for (d, k, c) in LISTS {
+        let (list, map) = filled(d, k, c, c / 2);
+        let live: Vec<u32> = map.keys().copied().collect();
+        let count = CALLS.min(c / 2 - 1) as usize;
+        let mut known = map.clone();
+        let new: Vec<u32> = numbers(8, k).filter(|key| known.insert(*key, 0).is_none()).take(count).collect();
+        let old: Vec<u32> = numbers(9, c / 2).map(|i| live[i as usize - 1]).take(count).collect();
+        let fresh = RefCell::new((list.clone(), map.clone()));
+        let reset = || *fresh.borrow_mut() = (list.clone(), map.clone());
+        let ours = |rounds: usize, calls: &dyn Fn(&mut Vec<u32>)| median(rounds, reset, || calls(&mut fresh.borrow_mut().0));
+        let theirs = |calls: &dyn Fn(&mut Map)| median(BATCH_ROUNDS, reset, || calls(&mut fresh.borrow_mut().1));
+        let row = |name: &str, calls: usize, alone: f64, batch: f64, map: f64| {
+            let [alone, batch, map] = [alone, batch, map].map(|ns| ns / calls as f64);
+            print!("{d:>3} {k:>11} {c:>5}  {name:<7} {calls:>6} {alone:>8.0} {batch:>8.0} {:>8.1} {map:>8.0}", alone / batch);
+            println!(" {:>8.1}", batch / map);
+        };
+        let batched = |keys: &[u32], call: fn(u32) -> Call| {
+            let calls: Vec<Call> = keys.iter().map(|key| call(*key)).collect();
+            let answers = RefCell::new(vec![Answered::NONE; calls.len()]);
+            let ns = ours(BATCH_ROUNDS, &|l| assert!(batch(l, &calls, &mut answers.borrow_mut()).is_ok()));
+            // the refusals of every kind of call are read alike
+            assert!(answers.borrow().iter().all(|answer| answer.taken().is_ok()));
+            ns
+        };
+        let alone = |keys: &[u32], call: fn(&mut [u32], u32)| ours(ALONE_ROUNDS, &|l| keys.iter().for_each(|key| call(l, *key)));
+        let mapped = |keys: &[u32], call: fn(&mut Map, u32)| theirs(&|m| keys.iter().for_each(|key| call(m, *key)));
+        row(
+            "insert",
+            count,
+            alone(&new, |l, key| _ = black_box(insert(l, key, 1))),
+            batched(&new, |key| Call::insert(key, 1)),
+            mapped(&new, |m, key| _ = black_box(m.insert(key, 1))),
+        );
+        row(
+            "find",
+            count,
+            alone(&old, |l, key| _ = black_box(find(l, key))),
+            batched(&old, Call::find),
+            mapped(&old, |m, key| _ = black_box(m.get(&key))),
+        );
+        row(
+            "take",
+            count,
+            alone(&old, |l, _| _ = black_box(take(l))),
+            batched(&old, |_| Call::take()),
+            mapped(&old, |m, _| _ = black_box(m.pop_first())),
+        );
+        row(
+            "drain",
+            live.len(),
+            ours(ALONE_ROUNDS, &|l| while black_box(take(l)).is_ok() {}),
+            ours(BATCH_ROUNDS, &|l| assert!(drain(l, |taken| _ = black_box(taken)).is_ok())),
+            theirs(&|m| while black_box(m.pop_first()).is_some() {}),
+        );
+    }
+}
+
+fn main() {
+    each_operation();
+    println!();
+    find_by_standing_keys();
+    println!();
+    many_calls();
 }

@@ -47,14 +47,32 @@
 //! assert_eq!(list.take()?.value, 131_071);
 //! # Ok::<(), Refusal>(())
 //! ```
+//!
+//! Most of a call's time is the check that the words are a list. A [`batch`](List::batch) makes many calls after one check, and
+//! [`drain`](List::drain) takes all that is live so:
+//!
+//! ```
+//! use mdlist_host::{words_needed, Answered, Call, List, Refusal};
+//!
+//! let mut words = [0u32; words_needed(2, 8)];
+//! let mut list = List::set_up(2, 15, 8, &mut words)?;
+//! let mut answers = [Answered::NONE; 4];
+//! list.batch(&[Call::insert(6, 60), Call::insert(5, 50), Call::insert(9, 90), Call::take()], &mut answers)?;
+//! assert_eq!(answers[3].taken()?.key, 5);
+//! let mut left = 0;
+//! assert_eq!(list.drain(|taken| left += taken.value)?, 2);
+//! assert_eq!(left, 150);
+//! # Ok::<(), Refusal>(())
+//! ```
 #![no_std]
 #![deny(missing_docs)]
 
 use core::fmt;
+use core::mem::{align_of, size_of, size_of_val};
 
 mod sys {
     #[repr(C)]
-    #[derive(Clone, Copy)]
+    #[derive(Clone, Copy, Debug, PartialEq, Eq)]
     pub struct Answer {
         pub refusal: u32,
         pub key: u32,
@@ -70,6 +88,14 @@ mod sys {
         pub fn mdlist_take(list: *mut u32, len: usize) -> Answer;
         pub fn mdlist_sweep(list: *mut u32, len: usize) -> Answer;
         pub fn mdlist_record(list: *mut u32, len: usize, record: *const u8, record_len: usize, last: *mut u64) -> Answer;
+        pub fn mdlist_batch(
+            list: *mut u32,
+            len: usize,
+            calls: *const u32,
+            calls_len: usize,
+            answers: *mut u32,
+            answers_len: usize,
+        ) -> Answer;
     }
 }
 
@@ -123,7 +149,10 @@ pub enum Refusal {
     BadRecord,
     /// 14, record: the full number is below 0 or above 4,294,967,295.
     NumberOutside,
-    /// A number that no call answers: the archive and this package do not belong together.
+    /// 19, batch: fewer answers are lent than there are calls, or there are more than 4,294,967,295 calls. Words that are no calls are
+    /// refused by it too, but no [`Call`] is such.
+    BadBatch,
+    /// A number that no call answers: the archive and this package do not belong together, or [`Answered::NONE`] was read.
     Unknown(u32),
 }
 
@@ -146,6 +175,7 @@ impl Refusal {
             Refusal::OwedNotStanding => 9,
             Refusal::BadRecord => 13,
             Refusal::NumberOutside => 14,
+            Refusal::BadBatch => 19,
             Refusal::Unknown(number) => number,
         }
     }
@@ -166,6 +196,7 @@ impl fmt::Display for Refusal {
             Refusal::OwedNotStanding => f.write_str("a cell that is owed from is free"),
             Refusal::BadRecord => f.write_str("the record breaks the grammar or a field's range"),
             Refusal::NumberOutside => f.write_str("the full number does not fit in 32 bits"),
+            Refusal::BadBatch => f.write_str("the words are no batch of calls, or there is no room for the answers"),
             Refusal::Unknown(_) => f.write_str("no call answers it; the archive and the package do not belong together"),
         }
     }
@@ -240,6 +271,7 @@ fn checked(a: sys::Answer) -> Result<sys::Answer, Refusal> {
         9 => Err(Refusal::OwedNotStanding),
         13 => Err(Refusal::BadRecord),
         14 => Err(Refusal::NumberOutside),
+        19 => Err(Refusal::BadBatch),
         number => Err(Refusal::Unknown(number)),
     }
 }
@@ -269,7 +301,7 @@ pub fn set_up(d: u32, k: u32, c: u32, list: &mut [u32]) -> Result<(), Refusal> {
 /// ```
 pub fn insert(list: &mut [u32], key: u32, value: u32) -> Result<u32, Refusal> {
     // SAFETY: as in `set_up`.
-    checked(unsafe { sys::mdlist_insert(list.as_mut_ptr(), list.len(), key, value) }).map(|a| a.count)
+    Answered(unsafe { sys::mdlist_insert(list.as_mut_ptr(), list.len(), key, value) }).inserted()
 }
 
 /// Finds a live key; writes nothing.
@@ -285,7 +317,7 @@ pub fn insert(list: &mut [u32], key: u32, value: u32) -> Result<u32, Refusal> {
 /// ```
 pub fn find(list: &[u32], key: u32) -> Result<Found, Refusal> {
     // SAFETY: the callee reads within the slice alone and writes nothing.
-    checked(unsafe { sys::mdlist_find(list.as_ptr(), list.len(), key) }).map(|a| Found { value: a.value, looked: a.count })
+    Answered(unsafe { sys::mdlist_find(list.as_ptr(), list.len(), key) }).found()
 }
 
 /// Finishes what a key's cell owes; answers how many links were moved. The key may be dead.
@@ -302,7 +334,7 @@ pub fn find(list: &[u32], key: u32) -> Result<Found, Refusal> {
 /// ```
 pub fn finish(list: &mut [u32], key: u32) -> Result<u32, Refusal> {
     // SAFETY: as in `set_up`.
-    checked(unsafe { sys::mdlist_finish(list.as_mut_ptr(), list.len(), key) }).map(|a| a.count)
+    Answered(unsafe { sys::mdlist_finish(list.as_mut_ptr(), list.len(), key) }).finished()
 }
 
 /// Takes the least live key.
@@ -317,7 +349,7 @@ pub fn finish(list: &mut [u32], key: u32) -> Result<u32, Refusal> {
 /// ```
 pub fn take(list: &mut [u32]) -> Result<Taken, Refusal> {
     // SAFETY: as in `set_up`.
-    checked(unsafe { sys::mdlist_take(list.as_mut_ptr(), list.len()) }).map(|a| Taken { key: a.key, value: a.value, passed: a.count })
+    Answered(unsafe { sys::mdlist_take(list.as_mut_ptr(), list.len()) }).taken()
 }
 
 /// Finishes all that is owed and frees the dead cells before the position; answers how many were freed.
@@ -335,7 +367,7 @@ pub fn take(list: &mut [u32]) -> Result<Taken, Refusal> {
 /// ```
 pub fn sweep(list: &mut [u32]) -> Result<u32, Refusal> {
     // SAFETY: as in `set_up`.
-    checked(unsafe { sys::mdlist_sweep(list.as_mut_ptr(), list.len()) }).map(|a| a.count)
+    Answered(unsafe { sys::mdlist_sweep(list.as_mut_ptr(), list.len()) }).swept()
 }
 
 /// Inserts what one record of the logger's export says, with the full number as value: docs/REFERENCE.md, *Records*.
@@ -361,6 +393,310 @@ pub fn record(list: &mut [u32], bytes: &[u8], last: &mut u64) -> Result<Recorded
     let a = checked(unsafe { sys::mdlist_record(list.as_mut_ptr(), list.len(), bytes.as_ptr(), bytes.len(), last) })?;
     // an accepted record's full number has 32 bits
     Ok(Recorded { key: a.key, number: *last as u32, looked: a.count })
+}
+
+/// A call of a [`batch`], made by the function of its name.
+///
+/// It is the three words that the batch reads, kind, key and value, with those that a call does not need 0; so calls are handed over where
+/// they stand, and nothing is allocated. An enum would leave the words unset that a variant does not need, and may not be read as words.
+///
+/// ```
+/// # use mdlist_host::*;
+/// const CALLS: [Call; 2] = [Call::insert(6, 60), Call::take()];
+/// let mut list = [0u32; 87];
+/// set_up(2, 15, 8, &mut list)?;
+/// assert_eq!(batch(&mut list, &CALLS, &mut [Answered::NONE; 2]), Ok(2));
+/// assert_eq!(format!("{CALLS:?}"), "[insert(6, 60), take()]");
+/// # Ok::<(), Refusal>(())
+/// ```
+#[repr(transparent)]
+#[derive(Clone, Copy, PartialEq, Eq)]
+pub struct Call([u32; 3]);
+
+impl Call {
+    /// An [`insert`].
+    ///
+    /// ```
+    /// # use mdlist_host::*;
+    /// # let mut list = [0u32; 87];
+    /// # set_up(2, 15, 8, &mut list)?;
+    /// let mut answers = [Answered::NONE; 1];
+    /// batch(&mut list, &[Call::insert(6, 60)], &mut answers)?;
+    /// assert_eq!(find(&list, 6)?.value, 60);
+    /// # Ok::<(), Refusal>(())
+    /// ```
+    pub const fn insert(key: u32, value: u32) -> Call {
+        Call([1, key, value])
+    }
+
+    /// A [`find`].
+    ///
+    /// ```
+    /// # use mdlist_host::*;
+    /// # let mut list = [0u32; 87];
+    /// # set_up(2, 15, 8, &mut list)?;
+    /// let mut answers = [Answered::NONE; 1];
+    /// batch(&mut list, &[Call::find(6)], &mut answers)?;
+    /// assert_eq!(answers[0].found(), Err(Refusal::NotThere { looked: 0 }));
+    /// # Ok::<(), Refusal>(())
+    /// ```
+    pub const fn find(key: u32) -> Call {
+        Call([2, key, 0])
+    }
+
+    /// A [`finish`].
+    ///
+    /// ```
+    /// # use mdlist_host::*;
+    /// # let mut list = [0u32; 87];
+    /// # set_up(2, 15, 8, &mut list)?;
+    /// let mut answers = [Answered::NONE; 3];
+    /// batch(&mut list, &[Call::insert(6, 60), Call::insert(5, 50), Call::finish(5)], &mut answers)?;
+    /// assert_eq!(finish(&mut list, 5), Ok(0));
+    /// # Ok::<(), Refusal>(())
+    /// ```
+    pub const fn finish(key: u32) -> Call {
+        Call([3, key, 0])
+    }
+
+    /// A [`take`].
+    ///
+    /// ```
+    /// # use mdlist_host::*;
+    /// # let mut list = [0u32; 87];
+    /// # set_up(2, 15, 8, &mut list)?;
+    /// let mut answers = [Answered::NONE; 1];
+    /// batch(&mut list, &[Call::take()], &mut answers)?;
+    /// assert_eq!(answers[0].taken(), Err(Refusal::NothingLive { above: 0 }));
+    /// # Ok::<(), Refusal>(())
+    /// ```
+    pub const fn take() -> Call {
+        Call([4, 0, 0])
+    }
+
+    /// A [`sweep`].
+    ///
+    /// ```
+    /// # use mdlist_host::*;
+    /// # let mut list = [0u32; 87];
+    /// # set_up(2, 15, 8, &mut list)?;
+    /// let mut answers = [Answered::NONE; 1];
+    /// batch(&mut list, &[Call::sweep()], &mut answers)?;
+    /// assert_eq!(answers[0].swept(), Ok(0));
+    /// # Ok::<(), Refusal>(())
+    /// ```
+    pub const fn sweep() -> Call {
+        Call([5, 0, 0])
+    }
+}
+
+impl fmt::Debug for Call {
+    fn fmt(&self, f: &mut fmt::Formatter<'_>) -> fmt::Result {
+        let [kind, key, value] = self.0;
+        match kind {
+            1 => write!(f, "insert({key}, {value})"),
+            2 => write!(f, "find({key})"),
+            3 => write!(f, "finish({key})"),
+            4 => f.write_str("take()"),
+            _ => f.write_str("sweep()"),
+        }
+    }
+}
+
+/// The answer to a [`Call`] of a [`batch`]: the four numbers of docs/REFERENCE.md, *The operations*.
+///
+/// It does not know which call it answers: it is read by the method that goes with the call, and then says what the function of the call
+/// would have answered.
+///
+/// ```
+/// # use mdlist_host::*;
+/// let mut list = [0u32; 87];
+/// set_up(2, 15, 8, &mut list)?;
+/// let mut answers = [Answered::NONE; 3];
+/// batch(&mut list, &[Call::insert(6, 60), Call::insert(16, 0), Call::take()], &mut answers)?;
+/// assert_eq!(answers[0].inserted(), Ok(0));
+/// assert_eq!(answers[1].inserted(), Err(Refusal::BadKey));
+/// assert_eq!(answers[2].taken(), Ok(Taken { key: 6, value: 60, passed: 1 }));
+/// # Ok::<(), Refusal>(())
+/// ```
+#[repr(transparent)]
+#[derive(Clone, Copy, Debug, PartialEq, Eq)]
+pub struct Answered(sys::Answer);
+
+impl Answered {
+    /// Room for an answer. It reads as a refusal, so that an answer past those of a batch is not taken for that of an accepted call.
+    ///
+    /// ```
+    /// # use mdlist_host::*;
+    /// assert_eq!(Answered::NONE.taken(), Err(Refusal::Unknown(u32::MAX)));
+    /// ```
+    pub const NONE: Answered = Answered(sys::Answer { refusal: u32::MAX, key: 0, value: 0, count: 0 });
+
+    /// What [`insert`] answers, for a [`Call::insert`].
+    ///
+    /// ```
+    /// # use mdlist_host::*;
+    /// # let mut list = [0u32; 87];
+    /// # set_up(2, 15, 8, &mut list)?;
+    /// let mut answers = [Answered::NONE; 2];
+    /// batch(&mut list, &[Call::insert(6, 60), Call::insert(5, 50)], &mut answers)?;
+    /// assert_eq!(answers[1].inserted(), Ok(1));
+    /// # Ok::<(), Refusal>(())
+    /// ```
+    pub fn inserted(self) -> Result<u32, Refusal> {
+        checked(self.0).map(|a| a.count)
+    }
+
+    /// What [`find`] answers, for a [`Call::find`].
+    ///
+    /// ```
+    /// # use mdlist_host::*;
+    /// # let mut list = [0u32; 87];
+    /// # set_up(2, 15, 8, &mut list)?;
+    /// let mut answers = [Answered::NONE; 2];
+    /// batch(&mut list, &[Call::insert(6, 60), Call::find(6)], &mut answers)?;
+    /// assert_eq!(answers[1].found(), Ok(Found { value: 60, looked: 1 }));
+    /// # Ok::<(), Refusal>(())
+    /// ```
+    pub fn found(self) -> Result<Found, Refusal> {
+        checked(self.0).map(|a| Found { value: a.value, looked: a.count })
+    }
+
+    /// What [`finish`] answers, for a [`Call::finish`].
+    ///
+    /// ```
+    /// # use mdlist_host::*;
+    /// # let mut list = [0u32; 87];
+    /// # set_up(2, 15, 8, &mut list)?;
+    /// let mut answers = [Answered::NONE; 3];
+    /// batch(&mut list, &[Call::insert(6, 60), Call::insert(5, 50), Call::finish(5)], &mut answers)?;
+    /// assert_eq!(answers[2].finished(), Ok(1));
+    /// # Ok::<(), Refusal>(())
+    /// ```
+    pub fn finished(self) -> Result<u32, Refusal> {
+        checked(self.0).map(|a| a.count)
+    }
+
+    /// What [`take`] answers, for a [`Call::take`].
+    ///
+    /// ```
+    /// # use mdlist_host::*;
+    /// # let mut list = [0u32; 87];
+    /// # set_up(2, 15, 8, &mut list)?;
+    /// let mut answers = [Answered::NONE; 2];
+    /// batch(&mut list, &[Call::insert(6, 60), Call::take()], &mut answers)?;
+    /// assert_eq!(answers[1].taken(), Ok(Taken { key: 6, value: 60, passed: 1 }));
+    /// # Ok::<(), Refusal>(())
+    /// ```
+    pub fn taken(self) -> Result<Taken, Refusal> {
+        checked(self.0).map(|a| Taken { key: a.key, value: a.value, passed: a.count })
+    }
+
+    /// What [`sweep`] answers, for a [`Call::sweep`].
+    ///
+    /// ```
+    /// # use mdlist_host::*;
+    /// # let mut list = [0u32; 87];
+    /// # set_up(2, 15, 8, &mut list)?;
+    /// let mut answers = [Answered::NONE; 5];
+    /// batch(&mut list, &[Call::insert(6, 60), Call::insert(5, 50), Call::take(), Call::take(), Call::sweep()], &mut answers)?;
+    /// assert_eq!(answers[4].swept(), Ok(1));
+    /// # Ok::<(), Refusal>(())
+    /// ```
+    pub fn swept(self) -> Result<u32, Refusal> {
+        checked(self.0).map(|a| a.count)
+    }
+}
+
+// what lets `batch` hand calls and answers over as words
+const _: () = assert!(size_of::<Call>() == 3 * size_of::<u32>() && align_of::<Call>() == align_of::<u32>());
+const _: () = assert!(size_of::<Answered>() == 4 * size_of::<u32>() && align_of::<Answered>() == align_of::<u32>());
+
+/// Makes many calls, one after the other, after one check of the list; answers how many: docs/REFERENCE.md, *The operations 8*.
+///
+/// They answer and leave what they would if each was made alone. A refused call among them does not stop those after it, and is no refusal
+/// of the batch: its answer says so. Answers past the number of calls are kept. If the batch is refused, no call is made and no answer
+/// written.
+///
+/// ```
+/// # use mdlist_host::*;
+/// let mut list = [0u32; 87];
+/// set_up(2, 15, 8, &mut list)?;
+/// let mut answers = [Answered::NONE; 4];
+/// assert_eq!(batch(&mut list, &[Call::insert(6, 60), Call::find(7), Call::take()], &mut answers), Ok(3));
+/// assert_eq!(answers[0].inserted(), Ok(0));
+/// assert_eq!(answers[1].found(), Err(Refusal::NotThere { looked: 1 }));
+/// assert_eq!(answers[2].taken()?.value, 60);
+/// assert_eq!(answers[3], Answered::NONE);
+/// assert_eq!(batch(&mut list, &[Call::take(); 5], &mut answers), Err(Refusal::BadBatch));
+/// # Ok::<(), Refusal>(())
+/// ```
+pub fn batch(list: &mut [u32], calls: &[Call], answers: &mut [Answered]) -> Result<usize, Refusal> {
+    let (calls_len, answers_len) = (size_of_val(calls) / size_of::<u32>(), size_of_val(answers) / size_of::<u32>());
+    // SAFETY: as in `set_up`; calls and answers are words and nothing else, as asserted above, and any words are answers.
+    let a = unsafe {
+        sys::mdlist_batch(list.as_mut_ptr(), list.len(), calls.as_ptr().cast(), calls_len, answers.as_mut_ptr().cast(), answers_len)
+    };
+    checked(a).map(|a| a.count as usize)
+}
+
+/// How many takes [`drain`] makes after one check of the list.
+const AT_ONCE: usize = 256;
+
+static TAKES: [Call; AT_ONCE] = [Call::take(); AT_ONCE];
+
+/// Taken entries that [`drain`] has not handed over yet. If it is left before, by unwinding, they are put back.
+struct Unhanded<'a> {
+    list: &'a mut [u32],
+    answers: core::slice::Iter<'a, Answered>,
+}
+
+impl Drop for Unhanded<'_> {
+    fn drop(&mut self) {
+        for taken in self.answers.by_ref().filter_map(|answer| answer.taken().ok()) {
+            // the key stands and is dead: an insert that revives it is not refused
+            _ = insert(self.list, taken.key, taken.value);
+        }
+    }
+}
+
+/// Takes all that is live, the least key first, and hands each over to `each`; answers how many there were.
+///
+/// It makes batches of 256 takes, so that there is one check for as many, with 4 KiB of stack for the answers. The words are left as by
+/// takes up to the one that is refused by 7. It is refused by 3 alone, and then nothing has been taken.
+///
+/// There is no iterator in its place: one that is dropped or forgotten before its end would hold entries that are taken and that nobody was
+/// given. Here every taken entry goes to `each`; if `each` unwinds, those that it was not given yet are inserted again. To stop after some
+/// entries, make a [`batch`] of as many takes.
+///
+/// ```
+/// # use mdlist_host::*;
+/// let mut list = [0u32; 87];
+/// set_up(2, 15, 8, &mut list)?;
+/// insert(&mut list, 6, 60)?;
+/// insert(&mut list, 5, 50)?;
+/// let mut keys = Vec::new();
+/// assert_eq!(drain(&mut list, |taken| keys.push(taken.key)), Ok(2));
+/// assert_eq!(keys, [5, 6]);
+/// assert_eq!(drain(&mut list, |taken| keys.push(taken.key)), Ok(0));
+/// # Ok::<(), Refusal>(())
+/// ```
+pub fn drain(list: &mut [u32], mut each: impl FnMut(Taken)) -> Result<u32, Refusal> {
+    let mut taken = 0;
+    let mut answers = [Answered::NONE; AT_ONCE];
+    loop {
+        batch(list, &TAKES, &mut answers)?;
+        let mut unhanded = Unhanded { list, answers: answers.iter() };
+        for answer in unhanded.answers.by_ref() {
+            match answer.taken() {
+                Ok(entry) => each(entry),
+                // so are the takes after it
+                Err(Refusal::NothingLive { .. }) => return Ok(taken),
+                Err(refusal) => return Err(refusal),
+            }
+            taken += 1;
+        }
+    }
 }
 
 /// A list in lent words, with the operations as methods. A record needs the last number too, which no list holds: [`Logger::record`].
@@ -488,6 +824,38 @@ impl<'a> List<'a> {
     /// ```
     pub fn sweep(&mut self) -> Result<u32, Refusal> {
         sweep(self.words)
+    }
+
+    /// Makes many calls after one check of the words, as [`batch`] does.
+    ///
+    /// ```
+    /// # use mdlist_host::*;
+    /// # let mut words = [0u32; words_needed(2, 8)];
+    /// # let mut list = List::set_up(2, 15, 8, &mut words)?;
+    /// let mut answers = [Answered::NONE; 2];
+    /// assert_eq!(list.batch(&[Call::insert(6, 60), Call::take()], &mut answers), Ok(2));
+    /// assert_eq!(answers[1].taken(), Ok(Taken { key: 6, value: 60, passed: 1 }));
+    /// # Ok::<(), Refusal>(())
+    /// ```
+    pub fn batch(&mut self, calls: &[Call], answers: &mut [Answered]) -> Result<usize, Refusal> {
+        batch(self.words, calls, answers)
+    }
+
+    /// Takes all that is live and hands it over, the least key first, as [`drain`] does.
+    ///
+    /// ```
+    /// # use mdlist_host::*;
+    /// # let mut words = [0u32; words_needed(2, 8)];
+    /// # let mut list = List::set_up(2, 15, 8, &mut words)?;
+    /// list.insert(6, 60)?;
+    /// list.insert(5, 50)?;
+    /// let mut values = Vec::new();
+    /// assert_eq!(list.drain(|taken| values.push(taken.value)), Ok(2));
+    /// assert_eq!(values, [50, 60]);
+    /// # Ok::<(), Refusal>(())
+    /// ```
+    pub fn drain(&mut self, each: impl FnMut(Taken)) -> Result<u32, Refusal> {
+        drain(self.words, each)
     }
 }
 

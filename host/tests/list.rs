@@ -1,5 +1,5 @@
-//! The list through its Rust functions: fourteen steps, units that begin alike, notes for one unit, the edges, the texts of the refusals, the methods of
-//! `List`, and a random comparison with an ordered map.
+//! The list through its Rust functions: fourteen steps, units that begin alike, notes for one unit, the edges, the texts of the refusals,
+//! the methods of `List`, and a random comparison with an ordered map.
 
 mod common;
 
@@ -77,6 +77,10 @@ fn refusals_as_texts() {
         (Refusal::OwedNotStanding, "refusal 9: a cell that is owed from is free"),
         (record(&mut l, b"", &mut 0).unwrap_err(), "refusal 13: the record breaks the grammar or a field's range"),
         (record(&mut l, b"0,1,0,,65535", &mut 0).unwrap_err(), "refusal 14: the full number does not fit in 32 bits"),
+        (
+            batch(&mut l, &[Call::take()], &mut []).unwrap_err(),
+            "refusal 19: the words are no batch of calls, or there is no room for the answers",
+        ),
         (Refusal::Unknown(77), "refusal 77: no call answers it; the archive and the package do not belong together"),
     ];
     for (refusal, text) in shown {

@@ -7,5 +7,6 @@ pub mod Counting
 pub mod Numbers
 pub mod Blocks
 pub mod Same
+pub mod Sets
 pub mod Filled
 pub mod AllZero

@@ -1,5 +1,6 @@
 -- The two ways of an exported function: words that are no list are refused by number 3, and a list goes to the inner function.
-use mathlib.Core.Path.{_≡_, _∙_, sym, ap, subst}
+use mathlib.Core.Path.{_≡_, refl, _∙_, sym, ap, subst}
+use mathlib.Core.Bool.{true, false}
 use mathlib.Core.List.{List}
 use Prim.Native.Nat.{ℕ}
 use Rattle.records.specs.Notes.{noteBy}
@@ -10,7 +11,9 @@ use Rattle.meaning.specs.declared.Answer.{Answer}
 use Rattle.meaning.specs.Operations.{findOut}
 use Rattle.meaning.specs.Records.{Lent, lentOf, noteOn, noteOut, recordOut}
 use Rattle.meaning.specs.Calls.{onWords}
-use Rattle.meaning.specs.declared.Reading.the-variants.{NotAList}
+use Rattle.meaning.specs.Batch.{BatchLent, callsIn, fits, batchDone, batchOn, batchOut}
+use Rattle.meaning.specs.declared.Reading.the-variants.{IsList, NotAList}
+use Rattle.settings.specs.declared.Settings.{Settings}
 use Rattle.insert_record.specs.Noted.{Noted}
 use Rattle.meaning.proofs.Outcomes.{find-writes-nothing}
 
@@ -45,3 +48,21 @@ refused-meets e q = record { answered = q ∙ sym (ap (λ (p : Outcome (List ℕ
 -- a find writes nothing
 pub find-meets : (ws : List ℕ) (key : ℕ) {r : Answer} → r ≡ findOut ws key .answered → Meets (findOut ws key) r ws
 find-meets ws key e = record { answered = e; left = sym (find-writes-nothing ws key) }
+
+-- A batch: on words that are no list, on calls that do not fit, and where it is done
+module _ (calls : List ℕ) (lent : BatchLent) {r : Answer} where
+  pub no-list-batch : readingOf (lent .words) ≡ NotAList → r ≡ answer 3 0 0 0 → Meets (batchOut calls lent) r lent
+  unfolding batchOut
+  no-list-batch none answers =
+      let o = ap (batchOn calls lent) none in
+      record { answered = answers ∙ sym (ap (λ (p : Outcome BatchLent). p .answered) o); left = sym (ap (λ (p : Outcome BatchLent). p .left) o) }
+
+  module _ {s : Settings} (listed : readingOf (lent .words) ≡ IsList s) where
+    pub bad-batch : fits calls (lent .answers) ≡ false → r ≡ answer 19 0 0 0 → Meets (batchOut calls lent) r lent
+    unfolding batchOut
+    bad-batch bad answers = rw (listed, bad) (record { answered = answers; left = refl })
+
+    pub batch-done :
+        {after : BatchLent} → fits calls (lent .answers) ≡ true → Meets (batchDone (callsIn calls) lent) r after → Meets (batchOut calls lent) r after
+    unfolding batchOut
+    batch-done good met = rw (listed, good) met

@@ -1,4 +1,4 @@
-// The waiting list as a Rust host calls it: seven operations by number and slice. Each is a thin exported function: it checks that the
+// The waiting list as a Rust host calls it: seven operations by number and slice, and a batch of them. Each is a thin exported function: it checks that the
 // lent words are a list, refuses by number 3 if they are not, and calls the inner function of the crate of its name. No one has a
 // `requires`, and each contract is the whole outcome of the call (docs/REFERENCE.md): the four numbers, every word, and the last number.
 ghost use Rattle.records.specs.Notes.{Within};
@@ -7,6 +7,7 @@ ghost use Rattle.meaning.specs.Refusals.{Meets};
 ghost use Rattle.meaning.specs.Operations.{setUpOut, insertOut, findOut, finishOut, takeOut, sweepOut};
 ghost use Rattle.meaning.specs.Records.{lentOf, recordOut};
 ghost use Rattle.meaning.specs.Calls.{outcome};
+ghost use Rattle.meaning.specs.Batch.{batchLent, batchOut};
 use meaning::Answer;
 use meaning::Call;
 use meaning::Reading;
@@ -92,6 +93,20 @@ pub fn enter(list: &mut [u32], logged: Logged, last: &mut u64) -> Answer
         return meaning::refused(meaning::NOT_A_LIST);
     };
     insert_record::insert_record(list, s, logged, last)
+}
+
+// Makes many calls on the list after one check, and puts four words of answer for each.
+#[no_mangle]
+pub extern "C" fn mdlist_batch(list: &mut [u32], calls: &[u32], answers: &mut [u32]) -> Answer
+    ensures { λ r. ⌜ Meets (batchOut (now (calls .entry)) (batchLent (now (list .entry)) (now (answers .entry)))) r (batchLent (now (list .exit)) (now (answers .exit))) ⌝ }
+{
+    let Reading::IsList(s) = is_list::is_list(list) else {
+        return meaning::refused(meaning::NOT_A_LIST);
+    };
+    if batch::fit(calls, answers) {
+        return batch::batch(list, s, calls, answers);
+    }
+    meaning::refused(meaning::BAD_BATCH)
 }
 
 // Makes a call: for programs that read calls and make them one after the other. A call that is no record leaves the bytes unread.

@@ -14,12 +14,12 @@ use Rattle.settings.specs.Numbers.{inRange, lengthOf}
 use Rattle.meaning.specs.Row.{Node}
 use Rattle.meaning.specs.State.{State, positionKey}
 use Rattle.meaning.specs.Picture.{picture}
-use Rattle.meaning.specs.Reading.{isList}
+use Rattle.meaning.specs.Reading.{read, settingsAt, isList}
 use Rattle.meaning.specs.Refusals.{Outcome, accepted, nothingLive, refused}
 use Rattle.meaning.specs.Operations.{fresh, setUpOut, fromLive, keysAbove, keysPassed, taken, takeOut}
 use Rattle.meaning.specs.Calls.{Made, madeOn, afterCalls}
 use Rattle.meaning.specs.Book.{Pair, pair, livePairs, bookOf, bookedAll}
-use Rattle.meaning.specs.Promises.{ListsStayLists, CallsKeepLists, takes, TakesInTurn, TakesEnd, CallsAreBooked}
+use Rattle.meaning.specs.Promises.{ListsStayLists, CallsKeepLists, keepsSettings, CallsKeepSettings, takes, TakesInTurn, TakesEnd, CallsAreBooked}
 use Rattle.meaning.proofs.State.{Sound}
 use Rattle.meaning.proofs.Picture.{picture-largest, picture-cells}
 use Rattle.meaning.proofs.ReadBack.{read-of-picture, picture-is-list}
@@ -32,11 +32,22 @@ use Rattle.meaning.proofs.BookCalls.{bookIn, call-booked, taken-pairs}
 
 -- Lists stay lists
 
+picture-settings : (s : State) → Sound s → settingsAt (picture s) ≡ s .settings
+unfolding read
+picture-settings s v = ap (λ (t : State). t .settings) (read-of-picture s v)
+
 pub calls-keep-lists : CallsKeepLists
 calls-keep-lists made =
     on-lists (λ ws. isList (madeOn made ws .left .words) ≡ true) (λ s v.
     let r = call-booked made s v in
     ap isList (r .left) ∙ picture-is-list (r .after) (r .sound))
+
+pub calls-keep-settings : CallsKeepSettings
+calls-keep-settings made ws list =
+    on-lists (λ us. keepsSettings (made .call) ≡ true → settingsAt (madeOn made us .left .words) ≡ settingsAt us) (λ s v keeps.
+    let r = call-booked made s v in
+    ap settingsAt (r .left) ∙ (picture-settings (r .after) (r .sound) ∙ (r .settings keeps ∙ sym (picture-settings s v))))
+    ws list
 
 calls-after-keep : (calls : List Made) (ws : List ℕ) → isList ws ≡ true → isList (afterCalls calls ws) ≡ true
 unfolding afterCalls

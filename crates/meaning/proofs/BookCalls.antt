@@ -1,7 +1,7 @@
 -- What each call does to a state in order: the words after it are the picture of a state in order of the same length, and that state's
 -- live pairs and standing keys are those that an ordered map would have.
 use mathlib.Core.Path.{_≡_, refl, sym, _∙_, ap, ap₂, subst}
-use mathlib.Core.Bool.{Bool, true, false, cond, _&&_}
+use mathlib.Core.Bool.{Bool, true, false, cond, _&&_, true≢false}
 use mathlib.Core.List.{List, [], _∷_, _++_, map}
 use mathlib.Core.Option.{Option, none, some}
 use Prim.Native.Nat.{ℕ, suc, _+_, _≤_, _<_}
@@ -21,6 +21,7 @@ use Rattle.meaning.specs.Operations.{setUpOut, insertOut, findOut, finis
 use Rattle.meaning.specs.Refusals.{Outcome}
 use Rattle.meaning.specs.Records.{Lent, Asked, nothing, insertion, askedOut}
 use Rattle.meaning.specs.Calls.{outcome, Made, lending, madeOn}
+use Rattle.meaning.specs.Promises.{keepsSettings}
 use Rattle.meaning.specs.Book.{Pair, pair, Book, hasKey, putPair, putKey, inserted, keyInserted, keptFrom, bookedCall, askedIn, booked}
 use Rattle.meaning.specs.declared.Call.the-variants.{SetUp, Insert, Find, Finish, Take, Sweep, Record}
 use Rattle.meaning.specs.declared.Call.{Call}
@@ -48,17 +49,18 @@ use Rattle.meaning.proofs.BookRow.{put-pairs, put-keys}
 abbrev pub bookIn : State → Book
 bookIn s = record { largest = s .settings .largest; cells = s .settings .cells; pairs = pairsIn (s .row); standing = keysIn (s .row) }
 
--- the words that a call leaves are those of a state in order, with this book
-pub record Booking (s : State) (words : List ℕ) (done : Book) : Type 0 where
+-- the words that a call leaves are those of a state in order, with this book, and with the settings that it had if the call keeps them
+pub record Booking (s : State) (words : List ℕ) (done : Book) (keeps : Bool) : Type 0 where
   pub after : State
   pub sound : Sound after
   pub left : words ≡ picture after
   pub long : length (picture after) ≡ length (picture s)
   pub book : bookIn after ≡ done
+  pub settings : keeps ≡ true → after .settings ≡ s .settings
 
 -- a call that writes nothing
-still : (s : State) (words : List ℕ) (book : Book) → Sound s → words ≡ picture s → book ≡ bookIn s → Booking s words book
-still s words book v same kept = record { after = s; sound = v; left = same; long = refl; book = sym kept }
+still : {keeps : Bool} (s : State) (words : List ℕ) (book : Book) → Sound s → words ≡ picture s → book ≡ bookIn s → Booking s words book keeps
+still s words book v same kept = record { after = s; sound = v; left = same; long = refl; book = sym kept; settings = λ e. refl }
 
 -- what a call does to a state's book, where a record asks for this
 abbrev bookedIn : Call → Asked → State → Book
@@ -76,7 +78,7 @@ same-length s t e = picture-length t ∙ ap (λ n. lengthOf (n .dimensions) (n .
 -- Set up
 
 pub set-up-booked :
-    (asked : Asked) (D K C : ℕ) (s : State) → Sound s → Booking s (setUpOut D K C (picture s) .left) (bookedIn (SetUp D K C) asked s)
+    (asked : Asked) (D K C : ℕ) (s : State) → Sound s → Booking s (setUpOut D K C (picture s) .left) (bookedIn (SetUp D K C) asked s) false
 unfolding bookedCall fresh those
 set-up-booked asked D K C s v = at (inRange D K C) refl (ℕ-discrete (length (picture s)) (lengthOf D C))
   where
@@ -86,7 +88,7 @@ set-up-booked asked D K C s v = at (inRange D K C) refl (ℕ-discrete (length (p
     new : Book
     new = record { largest = K; cells = C; pairs = []; standing = [] }
 
-    at : (t : Bool) → inRange D K C ≡ t → Dec (long ≡ lengthOf D C) → Booking s (setUpOut D K C (picture s) .left) (bookedIn (SetUp D K C) asked s)
+    at : (t : Bool) → inRange D K C ≡ t → Dec (long ≡ lengthOf D C) → Booking s (setUpOut D K C (picture s) .left) (bookedIn (SetUp D K C) asked s) false
     at false e l =
         still s _ _ v (ap (λ o. o .left) (set-up-outcome-out-of-range D K C (picture s) e))
         (ap (λ t. cond (t && eqb long (lengthOf D C)) new (bookIn s)) e)
@@ -100,6 +102,7 @@ set-up-booked asked D K C s v = at (inRange D K C) refl (ℕ-discrete (length (p
           left = ap (λ o. o .left) (set-up-outcome D K C (picture s) e l);
           long = picture-length (fresh D K C) ∙ sym l;
           book = sym (ap₂ (λ t u. cond (t && u) new (bookIn s)) e (eq-eqb long (lengthOf D C) l));
+          settings = λ f. absurd (true≢false (sym f));
         }
 
 -- Insert
@@ -208,7 +211,7 @@ module _ (s : State) (v : Sound s) (key value : ℕ) (t : Slot) (absent : nodeAt
 
 -- what an insert does to a state
 abbrev InsertBooking : State → ℕ → ℕ → Type 0
-InsertBooking s key value = Booking s (insertOut (picture s) key value .left) (keyInserted key value (bookIn s))
+InsertBooking s key value = Booking s (insertOut (picture s) key value .left) (keyInserted key value (bookIn s)) true
 
 module _ (s : State) (v : Sound s) (key value : ℕ) (l : 1 ≤ key) (h : key ≤ s .settings .largest) where
   tried : keyInserted key value (bookIn s) ≡ inserted key value (bookIn s)
@@ -237,6 +240,7 @@ module _ (s : State) (v : Sound s) (key value : ℕ) (l : 1 ≤ key) (h : key �
             book-is s (revived s x value) (putPair (record { key = key; value = value }) (pairsIn (s .row))) (keysIn (s .row))
             refl (revived-pairs s v key value x e dead) (revived-keys s v key value x e)
             ∙ sym (tried ∙ inserted-dead key value (bookIn s) (lives (some x) e ∙ dead) (stands (some x) e));
+        settings = λ e. refl;
       }
 
   insert-full-booked : nodeAt key (s .row) ≡ none → length (s .free) ≡ 0 → InsertBooking s key value
@@ -257,6 +261,7 @@ module _ (s : State) (v : Sound s) (key value : ℕ) (l : 1 ≤ key) (h : key �
             book-is s (added s key value t) (putPair (record { key = key; value = value }) (pairsIn (s .row))) (putKey key (keysIn (s .row)))
             refl (added-pairs s v key value t e) (added-keys s v key value t e)
             ∙ sym (tried ∙ inserted-new key value (bookIn s) (lives none e) (stands none e) (let n = room s v in omega arith));
+        settings = λ e. refl;
       }
 
 pub insert-booked : (key value : ℕ) (s : State) → Sound s → InsertBooking s key value
@@ -269,13 +274,13 @@ insert-booked key value s v =
 
 -- Find
 
-pub find-booked : (asked : Asked) (key : ℕ) (s : State) → Sound s → Booking s (findOut (picture s) key .left) (bookedIn (Find key) asked s)
+pub find-booked : (asked : Asked) (key : ℕ) (s : State) → Sound s → Booking s (findOut (picture s) key .left) (bookedIn (Find key) asked s) true
 unfolding bookedCall
 find-booked asked key s v = still s _ _ v (find-writes-nothing (picture s) key) refl
 
 -- Finish
 
-pub finish-booked : (asked : Asked) (key : ℕ) (s : State) → Sound s → Booking s (finishOut (picture s) key .left) (bookedIn (Finish key) asked s)
+pub finish-booked : (asked : Asked) (key : ℕ) (s : State) → Sound s → Booking s (finishOut (picture s) key .left) (bookedIn (Finish key) asked s) true
 unfolding bookedCall
 finish-booked asked key s v =
     key-cases s key
@@ -289,6 +294,7 @@ finish-booked asked key s v =
       left = ap (λ o. o .left) (finish-outcome-standing s v key l h x e);
       long = same-length s t refl;
       book = book-is s t (pairsIn (s .row)) (keysIn (s .row)) refl (finished-pairs (x .cell) (s .row)) (finished-keys (x .cell) (s .row));
+      settings = λ e. refl;
     })
 
 -- Take
@@ -305,14 +311,14 @@ pub taken-keys : (s : State) (x : Node) → keysIn (taken s x .row) ≡ keysIn (
 unfolding taken
 taken-keys s x = keys-changed (onCell (x .cell) deadNode) (dead-keeping (x .cell)) (s .row)
 
-pub take-booked : (asked : Asked) (s : State) → Sound s → Booking s (takeOut (picture s) .left) (bookedIn Take asked s)
+pub take-booked : (asked : Asked) (s : State) → Sound s → Booking s (takeOut (picture s) .left) (bookedIn Take asked s) true
 unfolding bookedCall taken
 take-booked asked s v = at (fromLive (s .row)) refl
   where
     gone : List Pair → Book
     gone pairs = record { largest = s .settings .largest; cells = s .settings .cells; pairs = drop 1 pairs; standing = keysIn (s .row) }
 
-    at : (rest : List Node) → fromLive (s .row) ≡ rest → Booking s (takeOut (picture s) .left) (bookedIn Take asked s)
+    at : (rest : List Node) → fromLive (s .row) ≡ rest → Booking s (takeOut (picture s) .left) (bookedIn Take asked s) true
     at [] e =
         let none = pairs-empty (s .row) e in
         still s _ _ v (ap (λ o. o .left) (take-outcome-none s v e))
@@ -326,6 +332,7 @@ take-booked asked s v = at (fromLive (s .row)) refl
           book =
               book-is s (taken s x) (pairsIn later) (keysIn (s .row)) refl (taken-pairs s v x later e) (taken-keys s x)
               ∙ sym (ap gone (pairs-first (s .row) x later e));
+          settings = λ e. refl;
         }
 
 -- Sweep
@@ -338,7 +345,7 @@ pub swept-keys : (s : State) → Sound s → keysIn (swept s .row) ≡ keptFrom 
 unfolding swept
 swept-keys s v = keys-changed paid paid-all-keeping (keptBy (s .row)) ∙ sym (kept-keys (s .row) (v .ascends))
 
-pub sweep-booked : (asked : Asked) (s : State) → Sound s → Booking s (sweepOut (picture s) .left) (bookedIn Sweep asked s)
+pub sweep-booked : (asked : Asked) (s : State) → Sound s → Booking s (sweepOut (picture s) .left) (bookedIn Sweep asked s) true
 unfolding bookedCall swept
 sweep-booked asked s v =
     record {
@@ -347,22 +354,25 @@ sweep-booked asked s v =
       left = ap (λ o. o .left) (sweep-outcome s v);
       long = same-length s (swept s) refl;
       book = book-is s (swept s) (pairsIn (s .row)) (keptFrom (pairsIn (s .row)) (keysIn (s .row))) refl (swept-pairs s) (swept-keys s v);
+      settings = λ e. refl;
     }
 
 -- Record
 
-asked-booked : (made : Made) (asked : Asked) (s : State) → Sound s → Booking s (askedOut (lending made (picture s)) asked .left .words) (bookedIn Record asked s)
+asked-booked : (made : Made) (asked : Asked) (s : State) → Sound s → Booking s (askedOut (lending made (picture s)) asked .left .words) (bookedIn Record asked s) true
 unfolding bookedCall
 asked-booked made (nothing refusal) s v = still s _ _ v refl refl
 asked-booked made (insertion key number) s v = insert-booked key number s v
 
 -- Every call
 
-pub call-booked : (made : Made) (s : State) → Sound s → Booking s (madeOn made (picture s) .left .words) (booked made (length (picture s)) (bookIn s))
+pub call-booked :
+    (made : Made) (s : State) → Sound s →
+    Booking s (madeOn made (picture s) .left .words) (booked made (length (picture s)) (bookIn s)) (keepsSettings (made .call))
 unfolding outcome bookedCall
 call-booked made s v = at (made .call)
   where
-    at : (call : Call) → Booking s (outcome call (lending made (picture s)) .left .words) (bookedIn call (askedIn made) s)
+    at : (call : Call) → Booking s (outcome call (lending made (picture s)) .left .words) (bookedIn call (askedIn made) s) (keepsSettings call)
     at (SetUp D K C) = set-up-booked (askedIn made) D K C s v
     at (Insert key value) = insert-booked key value s v
     at (Find key) = find-booked (askedIn made) key s v
@@ -370,5 +380,5 @@ call-booked made s v = at (made .call)
     at Take = take-booked (askedIn made) s v
     at Sweep = sweep-booked (askedIn made) s v
     at Record =
-        subst (λ (o : Outcome Lent). Booking s (o .left .words) (bookedIn Record (askedIn made) s)) (sym (record-asks (lending made (picture s)) (picture-is-list s v)))
+        subst (λ (o : Outcome Lent). Booking s (o .left .words) (bookedIn Record (askedIn made) s) true) (sym (record-asks (lending made (picture s)) (picture-is-list s v)))
         (asked-booked made (askedIn made) s v)

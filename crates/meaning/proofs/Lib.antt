@@ -73,6 +73,7 @@ pub mod Converse
 pub mod ShapeByKeys
 -- What is promised; examples.
 pub mod Writes
+pub mod Batch
 pub mod Promises
 pub mod AgainstSlips
 pub mod Examples

@@ -12,6 +12,7 @@ pub mod Rule
 pub mod Walk
 pub mod Records
 pub mod Calls
+pub mod Batch
 -- What cross-checks it: the conditions on the words one by one, what a call writes, what an ordered map would do, the fourteen steps, and
 -- what is promised.
 pub mod Sentences

@@ -2,19 +2,19 @@
 -- in range at once.
 use mathlib.Core.Path.{_≡_}
 use mathlib.Core.Bool.{Bool, true, false, _||_}
-use mathlib.Core.List.{List, [], _∷_, map, reverseAux}
+use mathlib.Core.List.{List, [], _∷_, _++_, map, reverseAux}
 use mathlib.Core.Logic.{_↔_}
 use mathlib.Core.Option.{none, some}
 use Prim.Native.Nat.{ℕ, zero, suc, _+_, _*_, _-_, _≤_, _<_}
 use lib.Dec.{eqb}
-use lib.ListN.{length, drop}
+use lib.ListN.{length, take, drop}
 use Rattle.lists.specs.Lists.{occurrences, firstNumber}
 use Rattle.lists.specs.Compared.{agreed, precedes}
 use Rattle.records.specs.Notes.{noteBy}
 use Rattle.meaning.specs.declared.Answer.{Answer}
 use Rattle.meaning.specs.Keys.{coordinates, shared}
 use Rattle.meaning.specs.Row.{Node, nodeAt}
-use Rattle.meaning.specs.Reading.{read, isList}
+use Rattle.meaning.specs.Reading.{read, settingsAt, isList}
 use Rattle.meaning.specs.Refusals.{Outcome, Meets}
 use Rattle.meaning.specs.Rule.{rule}
 use Rattle.meaning.specs.Words.{keyAt, markAt, owedAt, lowAt, highAt, linkAt, dimensionsAt, largestAt, cellsAt, baseAt, liveMark}
@@ -22,9 +22,11 @@ use Rattle.meaning.specs.Walk.{walk, trailFrom, trail, ends}
 use Rattle.meaning.specs.Operations.{setUpOut, insertOut, findOut, finishOut, takeOut, sweepOut, freedBy, slotFor}
 use Rattle.meaning.specs.Records.{Lent, insertion, noteAsks, recordOut}
 use Rattle.meaning.specs.Writes.{OwesNothing, OwesSame, Finished, Inserted, Taken, Revived, Swept}
-use Rattle.meaning.specs.Calls.{outcome, Made, madeOn, afterCalls}
+use Rattle.meaning.specs.Calls.{outcome, Made, alone, madeOn, afterCalls}
+use Rattle.meaning.specs.Batch.{BatchLent, callsIn, answerWords, batchOut}
 use Rattle.meaning.specs.Sentences.{Standing, AList}
 use Rattle.meaning.specs.Book.{Pair, livePairs, standingKeys, bookOf, bookedAll, replyIn, replyTo}
+use Rattle.meaning.specs.declared.Call.the-variants.{SetUp, Insert, Find, Finish, Take, Sweep, Record}
 use Rattle.meaning.specs.declared.Call.{Call}
 
 -- a buffer after an accepted set up and any calls since
@@ -51,6 +53,20 @@ ListsStayLists = (ws : List ℕ) → FromFresh ws → isList ws ≡ true
 -- .. and each call takes a list to a list, however it came about.
 abbrev pub CallsKeepLists : Type 0
 CallsKeepLists = (made : Made) (ws : List ℕ) → isList ws ≡ true → isList (madeOn made ws .left .words) ≡ true
+
+-- .. with the dimensions, largest key, cells and base that it had, unless it is set up anew.
+abbrev pub keepsSettings : Call → Bool
+keepsSettings (SetUp D K C) = false
+keepsSettings (Insert key value) = true
+keepsSettings (Find key) = true
+keepsSettings (Finish key) = true
+keepsSettings Take = true
+keepsSettings Sweep = true
+keepsSettings Record = true
+
+abbrev pub CallsKeepSettings : Type 0
+CallsKeepSettings =
+    (made : Made) (ws : List ℕ) → isList ws ≡ true → keepsSettings (made .call) ≡ true → settingsAt (madeOn made ws .left .words) ≡ settingsAt ws
 
 -- 2. A refused call alters nothing of what was lent: every operation, all words, bytes and numbers.
 abbrev pub RefusedAltersNothing : Type 0
@@ -245,6 +261,25 @@ OrderIsLexicographic =
     (ws : List ℕ) → isList ws ≡ true → (x y : ℕ) → x ≤ largestAt ws → y ≤ largestAt ws
     → ((x < y) ↔ (precedes (coordinates (baseAt ws) (dimensionsAt ws) x) (coordinates (baseAt ws) (dimensionsAt ws) y) ≡ true))
     × (coordinates (baseAt ws) (dimensionsAt ws) x ≡ coordinates (baseAt ws) (dimensionsAt ws) y → x ≡ y)
+
+-- 12. A batch does what its calls do, one after the other: these are the words left, each call's answer is the one that it would have been
+-- given alone on the words that those before it leave, and the words past the answers are kept.
+pub record BatchIs (calls : List Call) (before after : BatchLent) : Type 0 where
+  pub words : after .words ≡ afterCalls (map alone calls) (before .words)
+  pub answers :
+      (front : List Call) (call : Call) (later : List Call) → calls ≡ front ++ (call ∷ later) →
+      take 4 (drop (4 * length front) (after .answers)) ≡ answerWords (madeOn (alone call) (afterCalls (map alone front) (before .words)) .answered)
+  pub kept : drop (4 * length calls) (after .answers) ≡ drop (4 * length calls) (before .answers)
+
+abbrev pub BatchIsCalls : Type 0
+BatchIsCalls =
+    (calls : List ℕ) (lent : BatchLent) → batchOut calls lent .answered .refusal ≡ 0
+    → (batchOut calls lent .answered .count ≡ length (callsIn calls)) × BatchIs (callsIn calls) lent (batchOut calls lent .left)
+
+-- .. and a refused batch alters nothing.
+abbrev pub RefusedBatchAltersNothing : Type 0
+RefusedBatchAltersNothing =
+    (calls : List ℕ) (lent : BatchLent) → (batchOut calls lent .answered .refusal ≡ 0 → ⊥) → batchOut calls lent .left ≡ lent
 
 -- Any two outcomes that a contract allows are equal: the seven exported functions all ensure `Meets o r lent`, of the outcome o of their call
 -- and whatever was lent to it.

@@ -48,6 +48,8 @@ pub data Refusal : Type 0 where
   badRecord : Refusal
   -- record: the full number does not fit into 32 bits
   numberOutside : Refusal
+  -- batch: the words are no calls, or there is no room for the answers
+  badBatch : Refusal
 
 -- the table's numbers, and the answers after the number
 abbrev pub answerOf : Refusal → Answer
@@ -64,6 +66,7 @@ answerOf owedNotStanding = answer 9 0 0 0
 answerOf lineNotReadable = answer 10 0 0 0
 answerOf badRecord = answer 13 0 0 0
 answerOf numberOutside = answer 14 0 0 0
+answerOf badBatch = answer 19 0 0 0
 
 -- Refusals: a refused call alters nothing of what was lent.
 abbrev pub refused : {Lent : Type 0} → Refusal → Lent → Outcome Lent

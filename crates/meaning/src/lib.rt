@@ -40,6 +40,8 @@ pub const BAD_RECORD: u32 = 13;
 
 pub const NUMBER_OUTSIDE: u32 = 14;
 
+pub const BAD_BATCH: u32 = 19;
+
 // A call of the list, with its numbers.
 pub enum Call {
     // D, K, C

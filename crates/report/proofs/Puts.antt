@@ -6,13 +6,8 @@ use native.Mathlib.Numerals.{add-one}
 use native.Mathlib.Omega.{arith}
 use lib.ListN.{length, getD, set, take, drop, length-append}
 use lib.Seq.{take-suc, take-all, append-snoc, take-at, sets, sets-eq, length-sets}
+use Rattle.lists.proofs.Sets.{sets-append}
 use Rattle.report.specs.Report.{Put}
-
-sets-append : (l xs ys : List ℕ) (i : ℕ) → sets l i (xs ++ ys) ≡ sets (sets l i xs) (i + length xs) ys
-sets-append l [] ys i = let none : i + 0 ≡ i = omega arith in rw none refl
-sets-append l (x ∷ xs) ys i =
-    let more : i + suc (length xs) ≡ suc i + length xs = omega arith in
-    rw more (sets-append (set l i x) xs ys (suc i))
 
 pub put-length : {before after : List ℕ} {at r : ℕ} {bytes : List ℕ} → Put before at bytes after r → length after ≡ length before
 put-length {before} {at = at} {bytes = bytes} p = ap length (p .is) ∙ length-sets before at bytes

@@ -1,0 +1,3 @@
+-- What the functions of a batch rest on.
+pub mod Calls
+pub mod Batching

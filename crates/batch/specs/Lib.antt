@@ -1,0 +1,2 @@
+-- The calls of a batch on a list.
+pub mod Batching

@@ -1,0 +1,34 @@
+-- `mdlist_batch` meets its contract: what is no list, and what are no calls that fit, is refused; else the calls are handed to `batch`.
+use mathlib.Core.Path.{_∙_, sym}
+use borrow.Author.Needs.{needs}
+use Rattle.meaning.specs.Batch.{batchLent}
+use Rattle.is_list.proofs.Answered.{reading-listed}
+use Rattle.mdlist.proofs.Exported.{no-list-batch, bad-batch, batch-done}
+use Rattle.mdlist.proofs.mdlist_batch.Statement.{statement}
+use Rattle.mdlist.proofs.mdlist_batch.Tie as tie
+
+returns : tie.Need-returns
+returns c =
+    let a = c .before .before .before .before .before .before .before .before .args in
+    no-list-batch (a .calls .now) (batchLent (a .list .now) (a .answers .now)) (sym (c .before .before .before .is-list .ensures) ∙ c .before .enum-told .given .1) (c .refused .ensures)
+
+batch-requires : tie.Need-batch-requires
+batch-requires c κs = (reading-listed (sym (c .before .before .before .before .before .before .before .before .is-list .ensures) ∙ c .before .before .before .before .before .before .s .given .1), sym (c .before .before .before .fit .ensures) ∙ c .before .before .if1 .taken)
+
+returns-2 : tie.Need-returns-2
+returns-2 c =
+    let a = c .before .before .before .before .before .before .before .before .before .before .before .before .before .before .before .before .before .before .args in
+    batch-done (a .calls .now) (batchLent (a .list .now) (a .answers .now)) (sym (c .before .before .before .before .before .before .before .before .before .before .before .before .before .is-list .ensures) ∙ c .before .before .before .before .before .before .before .before .before .before .before .s .given .1)
+    (sym (c .before .before .before .before .before .before .before .before .fit .ensures) ∙ c .before .before .before .before .before .before .before .if1 .taken) (c .before .before .before .before .batch .ensures)
+
+returns-3 : tie.Need-returns-3
+returns-3 c =
+    let a = c .before .before .before .before .before .before .before .before .before .before .before .before .args in
+    bad-batch (a .calls .now) (batchLent (a .list .now) (a .answers .now)) (sym (c .before .before .before .before .before .before .before .is-list .ensures) ∙ c .before .before .before .before .before .s .given .1)
+    (sym (c .before .before .fit .ensures) ∙ c .before .if1 .left) (c .refused2 .ensures)
+
+pub mdlist-batch-spec : {M : Type 1} → statement M
+mdlist-batch-spec =
+    tie.close
+    (tie.spec (λ c κs. search needs) (λ c. search needs) (λ c. search needs) (λ c κs. search needs) (λ c. search needs) returns (λ c κs. search needs)
+    batch-requires (λ c. search needs) (λ c. search needs) returns-2 (λ c κs. search needs) (λ c. search needs) (λ c. search needs) returns-3)
