@@ -129,5 +129,5 @@ module _ (calls answers : List ℕ) where
           absurd (let z : _≡_ {A = ℕ} 0 1 = cc in omega arith)
       at true (yes a) (no b) f =
           let g : false ≡ true =
-              sym (rw (lt-leb (length (callsIn calls)) 4294967295 (omega arith), and-false (leb (4 * length (callsIn calls)) (length answers))) refl) ∙ f in
+          sym (rw (lt-leb (length (callsIn calls)) 4294967295 (omega arith), and-false (leb (4 * length (callsIn calls)) (length answers))) refl) ∙ f in
           absurd (let z : _≡_ {A = ℕ} 0 1 = cc in omega arith)

@@ -40,7 +40,7 @@ loop-again c =
     let made = c .before .before .before .before .before .before .one .ensures in
     let put = c .before .before .put .ensures in
     let todo = subst (λ (cs : List Call). ToDo (callsIn calls) cs (v .i) (batchLent (a .list .now) (a .answers .now)) (batchLent (v .list) (v .answers)))
-        (calls-more calls (v .i) (search needs)) (v .inv .1 .1 .1 .1) in (
+    (calls-more calls (v .i) (search needs)) (v .inv .1 .1 .1 .1) in (
       search needs,
       (search needs, (search needs, (made .listed, rw put (one-done todo made)))),
     )
@@ -57,7 +57,7 @@ returns c =
     let room = fits-room calls (s .args .answers .now) (s .pre .1) .0 in
     let n = calls-length calls in
     let todo = subst (λ (cs : List Call). ToDo (callsIn calls) cs (v .i) (batchLent (s .args .list .now) (s .args .answers .now)) (batchLent (v .list) (v .answers)))
-        (calls-end calls (v .i) (search needs) (search needs)) (v .inv .1 .1 .1 .1) in
+    (calls-end calls (v .i) (search needs) (search needs)) (v .inv .1 .1 .1 .1) in
     nothing-to-do todo (omega arith) (done-answer calls (batchLent (s .args .list .now) (s .args .answers .now)) (c .accepted .ensures))
 
 pub batch-spec : {M : Type 1} → statement M
