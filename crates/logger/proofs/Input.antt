@@ -116,23 +116,24 @@ pub still-known : {bytes : List ℕ} {feed next : Feed} {before after : Lent} �
 still-known {bytes} known taken = record { begun = begunAfterPart (known .begun) bytes; is = taken .begun (known .begun) (known .is) }
 
 -- the list stays one
-notes-listed : {lent : Lent} {s : Settings} (notes : List Logged) → Listed (lent .words) s → Listed (afterNotes notes lent .words) s
+notes-listed : (lent : Lent) {s : Settings} (notes : List Logged) → Listed (lent .words) s → Listed (afterNotes notes lent .words) s
 unfolding afterNotes
-notes-listed [] listed = listed
-notes-listed {lent} (logged ∷ notes) listed = notes-listed notes (note-listed logged (lent .bytes) (lent .last) listed)
+notes-listed lent [] listed = listed
+notes-listed lent (logged ∷ notes) listed = notes-listed (noteOut logged lent .left) notes (note-listed logged (lent .bytes) (lent .last) listed)
 
 pub still-listed :
     {bytes words after : List ℕ} {feed next : Feed} {last now-last : ℕ} {s : Settings} → Known feed → Listed words s →
     BytesTaken bytes feed (kept words last) next (kept after now-last) → Listed after s
-still-listed {bytes} {s = s} known listed taken =
+still-listed {bytes} {words} {last = last} {s = s} known listed taken =
     subst (λ (l : Lent). Listed (l .words) s) (sym (taken .entered (known .begun) (known .is)))
-    (notes-listed (handedByPart (known .begun) bytes) listed)
+    (notes-listed (kept words last) (handedByPart (known .begun) bytes) listed)
 
 pub end-listed :
     {words after : List ℕ} {feed : Feed} {last now-last : ℕ} {s : Settings} → Known feed → Listed words s →
     EndTaken feed (kept words last) (kept after now-last) → Listed after s
-end-listed {s = s} known listed taken =
-    subst (λ (l : Lent). Listed (l .words) s) (sym (taken .entered (known .begun) (known .is))) (notes-listed (handedAtEnd (known .begun)) listed)
+end-listed {words} {last = last} {s = s} known listed taken =
+    subst (λ (l : Lent). Listed (l .words) s) (sym (taken .entered (known .begun) (known .is)))
+    (notes-listed (kept words last) (handedAtEnd (known .begun)) listed)
 
 pub take-listed : {before after : List ℕ} {r : Turn} {s : Settings} → Listed before s → Took before after r → Listed after s
 unfolding outcome
