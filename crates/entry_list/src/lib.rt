@@ -5,7 +5,6 @@ ghost use mathlib.Core.Bool.{true};
 ghost use Rattle.meaning.specs.Reading.{isList};
 ghost use Rattle.meaning.specs.Layer.Listed.{Listed};
 ghost use Rattle.entry_list.specs.EntryList.{listWords, freshWords};
-
 use meaning::Reading;
 use settings::Settings;
 

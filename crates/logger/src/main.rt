@@ -83,7 +83,13 @@ fn take_byte(words: &mut [u32], settings: Settings, last: &mut u64, feed: Feed, 
 }
 
 // A part of the export, to its end or to an answer that is not written.
-fn take_part(words: &mut [u32], settings: Settings, last: &mut u64, feed: Feed, part: &[u8]) -> State
+fn take_part(
+    words: &mut [u32],
+    settings: Settings,
+    last: &mut u64,
+    feed: Feed,
+    part: &[u8],
+) -> State
     requires { ⌜ Listed (now words) settings × Known feed ⌝ }
     ensures { λ r. ⌜ PartTaken (now (part .entry)) feed (kept (now (words .entry)) (now (last .entry))) r (kept (now (words .exit)) (now (last .exit))) ⌝ }
 {

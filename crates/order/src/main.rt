@@ -72,7 +72,13 @@ fn take_byte(words: &mut [u32], settings: Settings, line: &mut [u8], feed: Feed,
 }
 
 // A part of the input, to its end or to an answer that is not written.
-fn take_part(words: &mut [u32], settings: Settings, line: &mut [u8], feed: Feed, part: &[u8]) -> State
+fn take_part(
+    words: &mut [u32],
+    settings: Settings,
+    line: &mut [u8],
+    feed: Feed,
+    part: &[u8],
+) -> State
     requires { ⌜ Listed (now words) settings × Ready (now line) feed ⌝ }
     ensures { λ r. ⌜ PartTaken (now (part .entry)) (begunIn (now (line .entry)) feed) (now (words .entry)) (now (line .exit)) r (now (words .exit)) ⌝ }
 {
