@@ -19,7 +19,7 @@ use Rattle.meaning.specs.declared.Answer.{Answer}
 use Rattle.meaning.specs.declared.Call.{Call}
 use Rattle.meaning.specs.declared.Call.the-variants.{Insert, Find, Finish, Take, Sweep}
 use Rattle.meaning.proofs.Outcomes.{find-writes-nothing}
-use Rattle.meaning.proofs.Promises.{calls-keep-lists, calls-keep-settings}
+use Rattle.meaning.proofs.Listed.{call-listed}
 use Rattle.meaning.proofs.Batch.{answers-length}
 use Rattle.batch.specs.Batching.{CallMade}
 use Rattle.batch.proofs.Calls.{calls-length}
@@ -31,12 +31,7 @@ module _ {ws : List ℕ} {s : Settings} (listed : Listed ws s) {r : Answer} {us 
       record {
         answered = answers;
         left = leaves;
-        listed =
-            rw leaves
-            (record {
-              list = calls-keep-lists (alone call) ws (listed .list);
-              settings = calls-keep-settings (alone call) ws (listed .list) keeps ∙ listed .settings;
-            });
+        listed = rw leaves (call-listed call keeps listed);
       }
 
   -- the five kinds

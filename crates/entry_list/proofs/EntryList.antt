@@ -1,13 +1,17 @@
 -- The numbers of the list of entries are in range, and it has the length for them.
 use mathlib.Core.Path.{_≡_, refl, _∙_, ap}
+use mathlib.Core.Bool.{true}
 use mathlib.Core.List.{List}
 use Prim.Native.Nat.{ℕ}
 use lib.ListN.{length}
 use Rattle.meaning.specs.Refusals.{Outcome, Meets, accepted}
-use Rattle.meaning.specs.Operations.{setUpOut}
+use Rattle.meaning.specs.Operations.{fresh, setUpOut}
+use Rattle.meaning.specs.Reading.{isList}
 use Rattle.meaning.specs.declared.Answer.{Answer}
 use Rattle.meaning.proofs.Computing.{computing}
 use Rattle.meaning.proofs.Outcomes.{set-up-outcome}
+use Rattle.meaning.proofs.ReadBack.{picture-is-list}
+use Rattle.meaning.proofs.KeepsSetUp.{fresh-sound}
 use Rattle.entry_list.specs.EntryList.{listDimensions, listLargest, listCells, listWords, freshWords, BaseOfEntries}
 
 numbers-accepted :
@@ -18,6 +22,10 @@ numbers-accepted ws long = set-up-outcome listDimensions listLargest listCells w
 pub base-of-entries-is-16 : BaseOfEntries
 unfolding computing
 base-of-entries-is-16 = refl
+
+pub fresh-is-list : isList freshWords ≡ true
+unfolding computing
+fresh-is-list = picture-is-list (fresh listDimensions listLargest listCells) (fresh-sound listDimensions listLargest listCells refl)
 
 pub set-up-fresh :
     (ws : List ℕ) {after : List ℕ} {r : Answer} → length ws ≡ listWords → Meets (setUpOut listDimensions listLargest listCells ws) r after → after ≡ freshWords

@@ -1,7 +1,12 @@
 // The list of entries that the programs order and logger keep: D = 8, K = 4,294,967,295, C = 512, so that every entry has a key.
 ghost use mathlib.Core.Path.{_≡_};
 ghost use lib.ListN.{length};
+ghost use mathlib.Core.Bool.{true};
+ghost use Rattle.meaning.specs.Reading.{isList};
+ghost use Rattle.meaning.specs.Layer.Listed.{Listed};
 ghost use Rattle.entry_list.specs.EntryList.{listWords, freshWords};
+use meaning::Reading;
+use settings::Settings;
 
 const DIMENSIONS: u32 = 8;
 
@@ -12,10 +17,28 @@ const CELLS: u32 = 512;
 // The words 1: 5 + D + C x (6 + 2D).
 pub const WORDS: usize = 11277;
 
-// Sets it up in an array of that length.
-pub fn set_up(words: &mut [u32])
+// The settings of a list that is one: the check is made once, and whoever keeps the list to himself needs no other.
+fn settings_of(words: &[u32]) -> Settings
+    requires { ⌜ isList (now words) ≡ true ⌝ }
+    ensures { λ r. ⌜ Listed (now (words .entry)) r ⌝ }
+{
+    let Reading::IsList(s) = is_list::is_list(words) else {
+        return Settings {
+            dimensions: DIMENSIONS,
+            largest: LARGEST_KEY,
+            cells: CELLS,
+            base: 0,
+        };
+    };
+    s
+}
+
+// Sets it up in an array of that length, and answers its settings.
+pub fn set_up(words: &mut [u32]) -> Settings
     requires { ⌜ length (now words) ≡ listWords ⌝ }
-    ensures { λ _. ⌜ now (words .exit) ≡ freshWords ⌝ }
+    ensures fresh { λ r. ⌜ now (words .exit) ≡ freshWords ⌝ }
+    ensures listed { λ r. ⌜ Listed (now (words .exit)) r ⌝ }
 {
     mdlist::mdlist_set_up(DIMENSIONS, LARGEST_KEY, CELLS, words);
+    settings_of(words)
 }

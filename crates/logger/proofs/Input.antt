@@ -27,9 +27,12 @@ use Rattle.meaning.specs.Operations.{takeOut}
 use Rattle.meaning.specs.Records.{Lent, noteOut}
 use Rattle.meaning.specs.Calls.{outcome, alone, lending}
 use Rattle.meaning.specs.declared.Call.the-variants.{Take}
+use Rattle.settings.specs.declared.Settings.{Settings}
+use Rattle.meaning.specs.Layer.Listed.{Listed}
+use Rattle.meaning.proofs.Listed.{call-listed, note-listed}
 use Rattle.meaning.proofs.Promises.{refused-alters-nothing}
 use Rattle.logger_step.specs.Printed.{afterNotes}
-use Rattle.logger.specs.Input.{Known, BytesTaken, EndTaken, NothingToTake, Took}
+use Rattle.logger.specs.Input.{kept, Known, BytesTaken, EndTaken, NothingToTake, Took}
 use Rattle.logger.specs.declared.Turn.{Turn}
 use Rattle.logger.specs.declared.Turn.the-variants.{More, NoMore, NotWritten}
 
@@ -111,6 +114,30 @@ module _ {feed middle next : Feed} {before between after : Lent} where
 -- a feed that goes on knows the record begun
 pub still-known : {bytes : List ℕ} {feed next : Feed} {before after : Lent} → Known feed → BytesTaken bytes feed before next after → Known next
 still-known {bytes} known taken = record { begun = begunAfterPart (known .begun) bytes; is = taken .begun (known .begun) (known .is) }
+
+-- the list stays one
+notes-listed : (lent : Lent) {s : Settings} (notes : List Logged) → Listed (lent .words) s → Listed (afterNotes notes lent .words) s
+unfolding afterNotes
+notes-listed lent [] listed = listed
+notes-listed lent (logged ∷ notes) listed = notes-listed (noteOut logged lent .left) notes (note-listed logged (lent .bytes) (lent .last) listed)
+
+pub still-listed :
+    {bytes words after : List ℕ} {feed next : Feed} {last now-last : ℕ} {s : Settings} → Known feed → Listed words s →
+    BytesTaken bytes feed (kept words last) next (kept after now-last) → Listed after s
+still-listed {bytes} {words} {last = last} {s = s} known listed taken =
+    subst (λ (l : Lent). Listed (l .words) s) (sym (taken .entered (known .begun) (known .is)))
+    (notes-listed (kept words last) (handedByPart (known .begun) bytes) listed)
+
+pub end-listed :
+    {words after : List ℕ} {feed : Feed} {last now-last : ℕ} {s : Settings} → Known feed → Listed words s →
+    EndTaken feed (kept words last) (kept after now-last) → Listed after s
+end-listed {words} {last = last} {s = s} known listed taken =
+    subst (λ (l : Lent). Listed (l .words) s) (sym (taken .entered (known .begun) (known .is)))
+    (notes-listed (kept words last) (handedAtEnd (known .begun)) listed)
+
+pub take-listed : {before after : List ℕ} {r : Turn} {s : Settings} → Listed before s → Took before after r → Listed after s
+unfolding outcome
+take-listed {s = s} listed took = subst (λ (us : List ℕ). Listed us s) (sym (took .left)) (call-listed Take refl listed)
 
 -- A part is not taken whole where an answer was not written.
 pub not-written : (written : Bool) {n m : ℕ} → not written ≡ true → written ≡ true → n ≡ m

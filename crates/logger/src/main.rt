@@ -13,11 +13,13 @@
 ghost use mathlib.Core.Path.{_≡_};
 ghost use mathlib.Core.List.{[], _∷_};
 ghost use Rattle.records.specs.Feeding.{toldIn, ToldWithin};
+ghost use Rattle.meaning.specs.Layer.Listed.{Listed};
 ghost use Rattle.entry_list.specs.EntryList.{freshWords};
 ghost use Rattle.logger_step.specs.Printed.{afterNotes};
 ghost use Rattle.logger.specs.Input.{kept, Known, TextOf, TextOfTake, BytesTaken, PartTaken, EndTaken, Took, Drained};
 use records::feed::Feed;
 use records::feed::Told;
+use settings::Settings;
 
 // What is kept from one byte to the next, beside the words and the last number: whether every answer has been written.
 pub struct State {
@@ -55,25 +57,25 @@ fn write_take(text: &[u8], words: &[u32]) -> bool
 }
 
 // Enters the record that ended, if one did; whether the answer was written.
-fn take_record(words: &mut [u32], last: &mut u64, ended: Told) -> bool
-    requires { ⌜ ToldWithin ended ⌝ }
+fn take_record(words: &mut [u32], settings: Settings, last: &mut u64, ended: Told) -> bool
+    requires { ⌜ Listed (now words) settings × ToldWithin ended ⌝ }
     ensures { λ r. ⌜ kept (now (words .exit)) (now (last .exit)) ≡ afterNotes (toldIn ended) (kept (now (words .entry)) (now (last .entry))) ⌝ }
 {
     let mut out = [0u8; report::ANSWER_BYTES];
-    let n = logger_step::note_text(words, last, ended, &mut out);
+    let n = logger_step::note_text(words, settings, last, ended, &mut out);
     let number = *last;
     write(&out[..n], ended, words, number)
 }
 
 // One byte of the export: the feed goes on, or the record that it ends is entered.
-fn take_byte(words: &mut [u32], last: &mut u64, feed: Feed, byte: u8) -> State
-    requires { ⌜ Known feed ⌝ }
+fn take_byte(words: &mut [u32], settings: Settings, last: &mut u64, feed: Feed, byte: u8) -> State
+    requires { ⌜ Listed (now words) settings × Known feed ⌝ }
     ensures { λ r. ⌜ BytesTaken (byte ∷ []) feed (kept (now (words .entry)) (now (last .entry))) (r .feed) (kept (now (words .exit)) (now (last .exit))) ⌝ }
 {
     let fed = records::feed::feed_byte(feed, byte);
     let next = fed.feed;
     let ended = fed.told;
-    let written = take_record(words, last, ended);
+    let written = take_record(words, settings, last, ended);
     State {
         feed: next,
         written,
@@ -81,8 +83,14 @@ fn take_byte(words: &mut [u32], last: &mut u64, feed: Feed, byte: u8) -> State
 }
 
 // A part of the export, to its end or to an answer that is not written.
-fn take_part(words: &mut [u32], last: &mut u64, feed: Feed, part: &[u8]) -> State
-    requires { ⌜ Known feed ⌝ }
+fn take_part(
+    words: &mut [u32],
+    settings: Settings,
+    last: &mut u64,
+    feed: Feed,
+    part: &[u8],
+) -> State
+    requires { ⌜ Listed (now words) settings × Known feed ⌝ }
     ensures { λ r. ⌜ PartTaken (now (part .entry)) feed (kept (now (words .entry)) (now (last .entry))) r (kept (now (words .exit)) (now (last .exit))) ⌝ }
 {
     let mut s = State {
@@ -92,7 +100,7 @@ fn take_part(words: &mut [u32], last: &mut u64, feed: Feed, part: &[u8]) -> Stat
     let mut i = 0;
     while i < part.len() {
         let feed = s.feed;
-        s = take_byte(words, last, feed, part[i]);
+        s = take_byte(words, settings, last, feed, part[i]);
         if !s.written {
             return s;
         }
@@ -102,12 +110,12 @@ fn take_part(words: &mut [u32], last: &mut u64, feed: Feed, part: &[u8]) -> Stat
 }
 
 // The end of the export: a record begun counts.
-fn take_last(words: &mut [u32], last: &mut u64, feed: Feed) -> End
-    requires { ⌜ Known feed ⌝ }
+fn take_last(words: &mut [u32], settings: Settings, last: &mut u64, feed: Feed) -> End
+    requires { ⌜ Listed (now words) settings × Known feed ⌝ }
     ensures { λ r. ⌜ EndTaken feed (kept (now (words .entry)) (now (last .entry))) (kept (now (words .exit)) (now (last .exit))) ⌝ }
 {
     let ended = records::feed::finish(feed);
-    if take_record(words, last, ended) {
+    if take_record(words, settings, last, ended) {
         return End::AllAnswered;
     }
     End::NotWritten
@@ -115,8 +123,9 @@ fn take_last(words: &mut [u32], last: &mut u64, feed: Feed) -> End
 
 // The export, in parts, to its end, on a fresh list. Nothing says that an input ends, so the turns are counted down from a number that no
 // run uses up.
-fn take_all(words: &mut [u32], last: &mut u64) -> End
-    requires { ⌜ now words ≡ freshWords ⌝ }
+fn take_all(words: &mut [u32], settings: Settings, last: &mut u64) -> End
+    requires { ⌜ (now words ≡ freshWords) × Listed (now words) settings ⌝ }
+    ensures { λ r. ⌜ Listed (now (words .exit)) settings ⌝ }
 {
     let mut feed = records::feed::start();
     let mut part = io::large_buffer();
@@ -127,10 +136,10 @@ fn take_all(words: &mut [u32], last: &mut u64) -> End
             return End::NotRead;
         }
         if got == 0 {
-            return take_last(words, last, feed);
+            return take_last(words, settings, last, feed);
         }
         let n = io::count(got, &part);
-        let s = take_part(words, last, feed, &part[..n]);
+        let s = take_part(words, settings, last, feed, &part[..n]);
         if !s.written {
             return End::NotWritten;
         }
@@ -141,11 +150,12 @@ fn take_all(words: &mut [u32], last: &mut u64) -> End
 }
 
 // One take.
-fn take_next(words: &mut [u32]) -> Turn
+fn take_next(words: &mut [u32], settings: Settings) -> Turn
+    requires { ⌜ Listed (now words) settings ⌝ }
     ensures { λ r. ⌜ Took (now (words .entry)) (now (words .exit)) r ⌝ }
 {
     let mut out = [0u8; report::ANSWER_BYTES];
-    let taken = logger_step::take_text(words, &mut out);
+    let taken = logger_step::take_text(words, settings, &mut out);
     let n = taken.bytes;
     if write_take(&out[..n], words) {
         if taken.more {
@@ -157,12 +167,13 @@ fn take_next(words: &mut [u32]) -> Turn
 }
 
 // Takes until a take is refused. A list has no more keys than cells, so the turns are counted down from a number that no run uses up.
-fn drain(words: &mut [u32]) -> End
+fn drain(words: &mut [u32], settings: Settings) -> End
+    requires { ⌜ Listed (now words) settings ⌝ }
     ensures { λ r. ⌜ Drained (now (words .exit)) r ⌝ }
 {
     let mut turns = u64::MAX;
     while 0 < turns {
-        let turn = take_next(words);
+        let turn = take_next(words, settings);
         match turn {
             Turn::More => {}
             Turn::NoMore => return End::AllAnswered,
@@ -174,15 +185,15 @@ fn drain(words: &mut [u32]) -> End
 }
 
 // The export, an empty line, and what is taken.
-fn run(words: &mut [u32], last: &mut u64) -> End
-    requires { ⌜ now words ≡ freshWords ⌝ }
+fn run(words: &mut [u32], settings: Settings, last: &mut u64) -> End
+    requires { ⌜ (now words ≡ freshWords) × Listed (now words) settings ⌝ }
     ensures { λ r. ⌜ Drained (now (words .exit)) r ⌝ }
 {
-    let end = take_all(words, last);
+    let end = take_all(words, settings, last);
     match end {
         End::AllAnswered => {
             if io::write_all(1, b"\n") {
-                return drain(words);
+                return drain(words, settings);
             }
             return End::NotWritten;
         }
@@ -194,8 +205,8 @@ fn run(words: &mut [u32], last: &mut u64) -> End
 fn main() {
     let mut words = [0u32; entry_list::WORDS];
     let mut last = records::full_number::NO_NUMBER;
-    entry_list::set_up(&mut words);
-    let end = run(&mut words, &mut last);
+    let settings = entry_list::set_up(&mut words);
+    let end = run(&mut words, settings, &mut last);
     match end {
         End::AllAnswered => return,
         End::NotRead => {

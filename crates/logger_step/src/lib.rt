@@ -1,12 +1,14 @@
-// One record of the program logger on the list's words, and one take, with the bytes that are printed for each.
+// One record of the program logger on the words of its list, which it keeps to itself and need not check again and again, and one take, with the bytes that are printed for each.
 ghost use mathlib.Core.List.{[]};
 ghost use Prim.Native.Nat.{_≤_};
 ghost use lib.ListN.{length};
 ghost use Rattle.records.specs.Feeding.{toldIn, ToldWithin};
 ghost use Rattle.meaning.specs.Records.{lentOf};
+ghost use Rattle.meaning.specs.Layer.Listed.{Listed};
 ghost use Rattle.report.specs.Report.{answerBytes};
 ghost use Rattle.logger_step.specs.Printed.{NotesAnswered, TakeAnswered};
 use records::feed::Told;
+use settings::Settings;
 
 // What a take puts: how many bytes, and whether there may be more to take.
 pub struct TakeText {
@@ -15,8 +17,8 @@ pub struct TakeText {
 }
 
 // Enters the record that is told of, if one is: puts the bytes that are printed for it into `out`, from the first on; how many they are.
-pub fn note_text(list: &mut [u32], last: &mut u64, told: Told, out: &mut [u8]) -> usize
-    requires { ⌜ ToldWithin told × (answerBytes ≤ length (now out)) ⌝ }
+pub fn note_text(list: &mut [u32], s: Settings, last: &mut u64, told: Told, out: &mut [u8]) -> usize
+    requires { ⌜ Listed (now list) s × (ToldWithin told × (answerBytes ≤ length (now out))) ⌝ }
     ensures { λ r. ⌜ NotesAnswered (toldIn told) (lentOf (now (list .entry)) [] (now (last .entry))) (lentOf (now (list .exit)) [] (now (last .exit))) (now (out .exit)) r ⌝ }
 {
     match told {
@@ -24,18 +26,18 @@ pub fn note_text(list: &mut [u32], last: &mut u64, told: Told, out: &mut [u8]) -
         Told::Record(logged) => return report::put_answer(
             out,
             0,
-            mdlist::enter(list, logged, last),
+            insert_record::insert_record(list, s, logged, last),
             b'\n',
         ),
     }
 }
 
 // Takes the least live key: puts the bytes that are printed for it into `out`, from the first on.
-pub fn take_text(list: &mut [u32], out: &mut [u8]) -> TakeText
-    requires { ⌜ answerBytes ≤ length (now out) ⌝ }
+pub fn take_text(list: &mut [u32], s: Settings, out: &mut [u8]) -> TakeText
+    requires { ⌜ Listed (now list) s × (answerBytes ≤ length (now out)) ⌝ }
     ensures { λ r. ⌜ TakeAnswered (now (list .entry)) (now (list .exit)) (now (out .exit)) r ⌝ }
 {
-    let answer = mdlist::mdlist_take(list);
+    let answer = take::take(list, s);
     let bytes = report::put_answer(out, 0, answer, b'\n');
     TakeText {
         bytes,

@@ -57,6 +57,7 @@ pub mod BookRow
 pub mod BookCalls
 pub mod Book
 pub mod BookReplies
+pub mod Listed
 pub mod BookPresent
 pub mod Serves
 -- A buffer is a list if and only if every sentence holds.

@@ -1,5 +1,5 @@
 -- What the functions of the order program rest on: what is taken byte by byte, or in parts, is taken as a whole.
-use mathlib.Core.Path.{_≡_, refl, sym, _∙_, ap}
+use mathlib.Core.Path.{_≡_, refl, sym, _∙_, ap, subst}
 use mathlib.Core.Bool.{Bool, true, false, not}
 use mathlib.Core.List.{List, [], _∷_, _++_, append-nil}
 use Prim.Native.Nat.{ℕ, _+_, _<_}
@@ -14,6 +14,9 @@ use Rattle.text.specs.declared.feed.Feed.{Feed}
 use Rattle.text.specs.declared.feed.Fed.{Fed}
 use Rattle.text.specs.declared.feed.Told.{Told}
 use Rattle.text.proofs.Parts.{begun-append, handed-append}
+use Rattle.settings.specs.declared.Settings.{Settings}
+use Rattle.meaning.specs.Layer.Listed.{Listed}
+use Rattle.order_step.proofs.Promises.{lines-listed}
 use Rattle.order_step.specs.Step.{lineOutcome}
 use Rattle.order_step.specs.Printed.{wordsAfter}
 use Rattle.order.specs.Input.{BytesTaken}
@@ -66,6 +69,13 @@ module _ {begun : Handed} {ws before words buffer after : List ℕ} {feed next :
       (part : List ℕ) (i : ℕ) → i < length part → BytesTaken (take i part) begun ws before feed words →
       BytesTaken (getD part i 0 ∷ []) (begunIn before feed) words buffer next after → BytesTaken (take (i + 1) part) begun ws buffer next after
   one-more-taken part i h a b = rw (add-one i, take-suc part i 0 h) (both-taken (take i part) (getD part i 0 ∷ []) a b)
+
+-- the list stays one
+pub still-listed :
+    {bytes buffer ws after : List ℕ} {begun : Handed} {feed : Feed} {s : Settings} → Listed ws s → BytesTaken bytes begun ws buffer feed after →
+    Listed after s
+still-listed {bytes} {begun = begun} {s = s} listed taken =
+    subst (λ (us : List ℕ). Listed us s) (sym (taken .words)) (lines-listed (handedByPart begun bytes) listed)
 
 -- A part is not taken whole where an answer was not written.
 pub not-written : (written : Bool) {n m : ℕ} → not written ≡ true → written ≡ true → n ≡ m

@@ -17,9 +17,11 @@ ghost use mathlib.Core.List.{[], _∷_};
 ghost use lib.ListN.{length};
 ghost use Rattle.text.specs.Lines.{mostBytes};
 ghost use Rattle.text.specs.Feeding.{handedAtEnd, begunIn, toldIn, Ready, LineIn};
+ghost use Rattle.meaning.specs.Layer.Listed.{Listed};
 ghost use Rattle.order_step.specs.Printed.{wordsAfter};
 ghost use Rattle.entry_list.specs.EntryList.{freshWords};
 ghost use Rattle.order.specs.Input.{TextOf, BytesTaken, PartTaken};
+use settings::Settings;
 use text::feed::Feed;
 use text::feed::Told;
 
@@ -45,24 +47,24 @@ fn write(text: &[u8], line: &[u8], ended: Told, words: &[u32]) -> bool
 }
 
 // Answers the line that ended, if one did; whether the answer was written.
-fn take_line(words: &mut [u32], line: &[u8], ended: Told) -> bool
-    requires { ⌜ LineIn (now line) ended ⌝ }
+fn take_line(words: &mut [u32], settings: Settings, line: &[u8], ended: Told) -> bool
+    requires { ⌜ Listed (now words) settings × LineIn (now line) ended ⌝ }
     ensures { λ r. ⌜ now (words .exit) ≡ wordsAfter (toldIn (now (line .entry)) ended) (now (words .entry)) ⌝ }
 {
     let mut out = [0u8; report::ANSWER_BYTES];
-    let n = order_step::line_text(words, line, ended, &mut out);
+    let n = order_step::line_text(words, settings, line, ended, &mut out);
     write(&out[..n], line, ended, words)
 }
 
 // One byte of the input: the feed keeps it, or the line that it ends is answered.
-fn take_byte(words: &mut [u32], line: &mut [u8], feed: Feed, byte: u8) -> State
-    requires { ⌜ Ready (now line) feed ⌝ }
+fn take_byte(words: &mut [u32], settings: Settings, line: &mut [u8], feed: Feed, byte: u8) -> State
+    requires { ⌜ Listed (now words) settings × Ready (now line) feed ⌝ }
     ensures { λ r. ⌜ BytesTaken (byte ∷ []) (begunIn (now (line .entry)) feed) (now (words .entry)) (now (line .exit)) (r .feed) (now (words .exit)) ⌝ }
 {
     let fed = text::feed::feed_byte(line, feed, byte);
     let next = fed.feed;
     let ended = fed.told;
-    let written = take_line(words, line, ended);
+    let written = take_line(words, settings, line, ended);
     State {
         feed: next,
         written,
@@ -70,8 +72,14 @@ fn take_byte(words: &mut [u32], line: &mut [u8], feed: Feed, byte: u8) -> State
 }
 
 // A part of the input, to its end or to an answer that is not written.
-fn take_part(words: &mut [u32], line: &mut [u8], feed: Feed, part: &[u8]) -> State
-    requires { ⌜ Ready (now line) feed ⌝ }
+fn take_part(
+    words: &mut [u32],
+    settings: Settings,
+    line: &mut [u8],
+    feed: Feed,
+    part: &[u8],
+) -> State
+    requires { ⌜ Listed (now words) settings × Ready (now line) feed ⌝ }
     ensures { λ r. ⌜ PartTaken (now (part .entry)) (begunIn (now (line .entry)) feed) (now (words .entry)) (now (line .exit)) r (now (words .exit)) ⌝ }
 {
     let mut s = State {
@@ -80,7 +88,7 @@ fn take_part(words: &mut [u32], line: &mut [u8], feed: Feed, part: &[u8]) -> Sta
     };
     let mut i = 0;
     while i < part.len() {
-        s = take_byte(words, line, s.feed, part[i]);
+        s = take_byte(words, settings, line, s.feed, part[i]);
         if !s.written {
             return s;
         }
@@ -90,12 +98,12 @@ fn take_part(words: &mut [u32], line: &mut [u8], feed: Feed, part: &[u8]) -> Sta
 }
 
 // The end of the input: a line begun counts.
-fn take_last(words: &mut [u32], line: &[u8], feed: Feed) -> End
-    requires { ⌜ Ready (now line) feed ⌝ }
+fn take_last(words: &mut [u32], settings: Settings, line: &[u8], feed: Feed) -> End
+    requires { ⌜ Listed (now words) settings × Ready (now line) feed ⌝ }
     ensures { λ r. ⌜ now (words .exit) ≡ wordsAfter (handedAtEnd (begunIn (now (line .entry)) feed)) (now (words .entry)) ⌝ }
 {
     let last = text::feed::finish(feed);
-    if take_line(words, line, last) {
+    if take_line(words, settings, line, last) {
         return End::AllAnswered;
     }
     End::NotWritten
@@ -103,8 +111,8 @@ fn take_last(words: &mut [u32], line: &[u8], feed: Feed) -> End
 
 // The input, in parts, to its end, on a fresh list. Nothing says that an input ends, so the turns are counted down from a number that no
 // run uses up.
-fn take_all(words: &mut [u32], line: &mut [u8]) -> End
-    requires { ⌜ (length (now line) ≡ mostBytes) × (now words ≡ freshWords) ⌝ }
+fn take_all(words: &mut [u32], settings: Settings, line: &mut [u8]) -> End
+    requires { ⌜ (length (now line) ≡ mostBytes) × ((now words ≡ freshWords) × Listed (now words) settings) ⌝ }
 {
     let mut feed = text::feed::start();
     let mut part = io::large_buffer();
@@ -115,10 +123,10 @@ fn take_all(words: &mut [u32], line: &mut [u8]) -> End
             return End::NotRead;
         }
         if got == 0 {
-            return take_last(words, line, feed);
+            return take_last(words, settings, line, feed);
         }
         let n = io::count(got, &part);
-        let s = take_part(words, line, feed, &part[..n]);
+        let s = take_part(words, settings, line, feed, &part[..n]);
         if !s.written {
             return End::NotWritten;
         }
@@ -131,8 +139,8 @@ fn take_all(words: &mut [u32], line: &mut [u8]) -> End
 fn main() {
     let mut words = [0u32; entry_list::WORDS];
     let mut line = [0u8; text::feed::MOST_BYTES];
-    entry_list::set_up(&mut words);
-    let end = take_all(&mut words, &mut line);
+    let settings = entry_list::set_up(&mut words);
+    let end = take_all(&mut words, settings, &mut line);
     match end {
         End::AllAnswered => return,
         End::NotRead => {

@@ -1,5 +1,5 @@
 -- No line of the program is answered 4: what each call replies follows from the book, an entry's key is from 1 to K, and K stays as it is.
-use mathlib.Core.Path.{_≡_, refl, sym, ap, _∙_}
+use mathlib.Core.Path.{_≡_, refl, sym, ap, subst, _∙_}
 use mathlib.Core.Bool.{Bool, true, false, cond, _&&_, _||_}
 use mathlib.Core.List.{List, [], _∷_}
 use Prim.Native.Nat.{ℕ, suc, _≤_}
@@ -16,6 +16,10 @@ use Rattle.meaning.specs.declared.Answer.{Answer}
 use Rattle.meaning.specs.declared.Call.the-variants as calls
 use Rattle.meaning.specs.Book.{Pair, Book, bookOf, hasKey, liveIn, inserted, keyInserted, bookedCall, booked, bookedAll}
 use Rattle.meaning.specs.Book.{Reply, keyed, insertReply, takeReply, replyToCall, replyTo}
+use Rattle.settings.specs.declared.Settings.{Settings}
+use Rattle.meaning.specs.Promises.{keepsSettings}
+use Rattle.meaning.specs.Layer.Listed.{Listed}
+use Rattle.meaning.proofs.Listed.{made-listed}
 use Rattle.meaning.proofs.Promises.{answers-are-booked, calls-are-booked, calls-keep-lists}
 use Rattle.entries.specs.Entries.{entryKey}
 use Rattle.entries.proofs.Promises.{key-within}
@@ -146,3 +150,29 @@ unfolding wordsAfter
 never-four [] h ws list top = line-not-four h ws list top
 never-four (first ∷ before) h ws list top =
     let kept = line-keeps first ws list in never-four before h (lineOutcome first ws .left) (kept .list) (kept .largest ∙ top)
+
+-- Lines take a list to a list with its settings.
+
+line-listed : {ws : List ℕ} {s : Settings} (h : Handed) → Listed ws s → Listed (lineOutcome h ws .left) s
+unfolding lineOutcome
+line-listed tooLong listed = listed
+line-listed {ws} {s} (line bytes) listed = at (parsedOf bytes)
+  where
+    kept : (kind : Kind) → keepsSettings (callOf kind .call) ≡ true
+    kept (Insert e value) = refl
+    kept (Find e) = refl
+    kept (Finish e) = refl
+    kept Take = refl
+    kept Sweep = refl
+
+    by : (kind : Kind) → Listed (kindOutcome kind ws .left) s
+    by kind = subst (λ (us : List ℕ). Listed us s) (kind-leaves kind ws) (made-listed (callOf kind) (kept kind) listed)
+
+    at : (p : Parsed) → Listed (parsedOutcome p ws .left) s
+    at (Readable l) = by (l .kind)
+    at Unreadable = listed
+
+pub lines-listed : {ws : List ℕ} {s : Settings} (hs : List Handed) → Listed ws s → Listed (wordsAfter hs ws) s
+unfolding wordsAfter
+lines-listed [] listed = listed
+lines-listed (h ∷ hs) listed = lines-listed hs (line-listed h listed)

@@ -1,4 +1,5 @@
-// One line of the order program on the list's words: 10 for a line that is not readable, before the list is called; else the operation
+// One line of the order program on the words of its list, which it keeps to itself and need not check again and again: 10 for a line that is not
+// readable, before the list is called; else the operation
 // that the line asks for. And the bytes that are printed for it.
 ghost use mathlib.Core.Path.{_≡_};
 ghost use Prim.Native.Nat.{_≤_};
@@ -6,6 +7,7 @@ ghost use lib.ListN.{length};
 ghost use Rattle.text.specs.Lines.{line, tooLong};
 ghost use Rattle.text.specs.Feeding.{toldIn, LineIn};
 ghost use Rattle.meaning.specs.Refusals.{Meets};
+ghost use Rattle.meaning.specs.Layer.Listed.{Listed};
 ghost use Rattle.lines.specs.Grammar.{KindInRange};
 ghost use Rattle.report.specs.Report.{answerBytes};
 ghost use Rattle.order_step.specs.Step.{kindOutcome, lineOutcome};
@@ -13,19 +15,20 @@ ghost use Rattle.order_step.specs.Printed.{LinesAnswered};
 use lines::Kind;
 use lines::Parsed;
 use meaning::Answer;
+use settings::Settings;
 use text::feed::Told;
 
 // The operation that a kind of line asks for.
-fn make(list: &mut [u32], kind: Kind) -> Answer
-    requires { ⌜ KindInRange kind ⌝ }
+fn make(list: &mut [u32], s: Settings, kind: Kind) -> Answer
+    requires { ⌜ Listed (now list) s × KindInRange kind ⌝ }
     ensures { λ r. ⌜ Meets (kindOutcome kind (now (list .entry))) r (now (list .exit)) ⌝ }
 {
     match kind {
-        Kind::Insert(e, value) => return mdlist::mdlist_insert(list, entries::entry_key(e), value),
-        Kind::Find(e) => return mdlist::mdlist_find(list, entries::entry_key(e)),
-        Kind::Finish(e) => return mdlist::mdlist_finish(list, entries::entry_key(e)),
-        Kind::Take => return mdlist::mdlist_take(list),
-        Kind::Sweep => return mdlist::mdlist_sweep(list),
+        Kind::Insert(e, value) => return insert::insert(list, s, entries::entry_key(e), value),
+        Kind::Find(e) => return find::find(list, s, entries::entry_key(e)),
+        Kind::Finish(e) => return finish::finish(list, s, entries::entry_key(e)),
+        Kind::Take => return take::take(list, s),
+        Kind::Sweep => return sweep::sweep(list, s),
     }
 }
 
@@ -37,24 +40,25 @@ fn long_line(list: &[u32]) -> Answer
 }
 
 // A line of at most 64 bytes, or any other that is handed over whole.
-fn step(list: &mut [u32], bytes: &[u8]) -> Answer
+fn step(list: &mut [u32], s: Settings, bytes: &[u8]) -> Answer
+    requires { ⌜ Listed (now list) s ⌝ }
     ensures { λ r. ⌜ Meets (lineOutcome (line (now (bytes .entry))) (now (list .entry))) r (now (list .exit)) ⌝ }
 {
     let Parsed::Readable(l) = lines::parse(bytes) else {
         return meaning::refused(meaning::LINE_NOT_READABLE);
     };
     let kind = l.kind;
-    make(list, kind)
+    make(list, s, kind)
 }
 
 // Answers the line that is told of, if one is: puts the bytes that are printed for it into `out`, from the first on; how many they are.
-pub fn line_text(list: &mut [u32], line: &[u8], told: Told, out: &mut [u8]) -> usize
-    requires { ⌜ LineIn (now line) told × (answerBytes ≤ length (now out)) ⌝ }
+pub fn line_text(list: &mut [u32], s: Settings, line: &[u8], told: Told, out: &mut [u8]) -> usize
+    requires { ⌜ Listed (now list) s × (LineIn (now line) told × (answerBytes ≤ length (now out))) ⌝ }
     ensures { λ r. ⌜ LinesAnswered (toldIn (now (line .entry)) told) (now (list .entry)) (now (list .exit)) (now (out .exit)) r ⌝ }
 {
     match told {
         Told::NoLine => return 0,
-        Told::Line(n) => return report::put_answer(out, 0, step(list, &line[0..n]), b'\n'),
+        Told::Line(n) => return report::put_answer(out, 0, step(list, s, &line[0..n]), b'\n'),
         Told::LongLine => return report::put_answer(out, 0, long_line(list), b'\n'),
     }
 }

@@ -1,35 +1,52 @@
--- `logger::take_all` is safe and ends: each turn is counted, and the array for a part stays as long as it is.
+-- `logger::take_all` meets its contract and ends: each turn is counted, the array for a part stays as long as it is, and the list a list.
 use mathlib.Core.Path.{_≡_, refl}
 use mathlib.Core.List.{[]}
 use lib.ListN.{length}
 use borrow.Author.Needs.{needs}
+use Rattle.meaning.specs.Layer.Listed.{Listed}
 use Rattle.logger.specs.Input.{Known}
-use Rattle.logger.proofs.Input.{still-known}
+use Rattle.logger.proofs.Input.{still-known, still-listed, end-listed}
 use Rattle.logger.proofs.take_all.Statement.{statement}
 use Rattle.logger.proofs.take_all.Tie as tie
 
 abbrev Inv-loop : tie.InvT-loop
-Inv-loop words₀ last₀ feed₀ part₀ turns₀ words last feed part turns = (65536 ≡ length part) × ((length words ≡ length words₀) × Known feed)
+Inv-loop words₀ settings last₀ feed₀ part₀ turns₀ words last feed part turns =
+    (65536 ≡ length part) × ((length words ≡ length words₀) × (Listed words settings × Known feed))
 
 abbrev μ-loop : tie.MeasureT-loop
-μ-loop words₀ last₀ feed₀ part₀ turns₀ words last feed part turns = turns
+μ-loop words₀ settings last₀ feed₀ part₀ turns₀ words last feed part turns = turns
 
 loop-holds : tie.Need-loop-holds Inv-loop μ-loop
-loop-holds c = (c .large-buffer .ensures, (refl, record { begun = []; is = c .before .start .ensures }))
+loop-holds c = (c .large-buffer .ensures, (refl, (c .before .before .before .pre .1, record { begun = []; is = c .before .start .ensures })))
+
+returns : tie.Need-returns Inv-loop μ-loop
+returns c = c .before .before .before .before .before .loop .inv .1 .1 .0
 
 take-last-requires : tie.Need-take-last-requires Inv-loop μ-loop
 take-last-requires c κs = c .before .before .before .before .before .before .before .before .loop .inv .1 .1
 
+returns-2 : tie.Need-returns-2 Inv-loop μ-loop
+returns-2 c = let known = c .before .before .before .before .before .before .before .before .before .before .before .loop .inv .1 .1 in end-listed (known .1) (known .0) (c .before .before .take-last .ensures)
+
 take-part-requires : tie.Need-take-part-requires Inv-loop μ-loop
 take-part-requires c κs = c .before .before .before .before .before .before .before .before .before .before .before .loop .inv .1 .1
 
+returns-3 : tie.Need-returns-3 Inv-loop μ-loop
+returns-3 c = let known = c .before .before .before .before .before .before .before .before .before .before .before .before .before .before .before .before .loop .inv .1 .1 in still-listed (known .1) (known .0) (c .before .before .before .before .take-part .ensures .taken)
+
 loop-again : tie.Need-loop-again Inv-loop μ-loop
-loop-again c = (search needs, (search needs, still-known (c .before .before .before .before .before .before .before .before .before .before .before .before .before .before .before .before .before .loop .inv .1 .1) (c .before .before .before .before .before .take-part .ensures .taken)))
+loop-again c =
+    let known = c .before .before .before .before .before .before .before .before .before .before .before .before .before .before .before .before .before .loop .inv .1 .1 in
+    let taken = c .before .before .before .before .before .take-part .ensures .taken in
+    (search needs, (search needs, (still-listed (known .1) (known .0) taken, still-known (known .1) taken)))
+
+returns-4 : tie.Need-returns-4 Inv-loop μ-loop
+returns-4 c = c .before .loop .inv .1 .1 .0
 
 pub take-all-spec : {M : Type 1} → statement M
 take-all-spec =
     tie.close
     (tie.spec Inv-loop μ-loop (λ c κs. search needs) (λ c κs. search needs) loop-holds (λ c. search needs) (λ c κs. search needs) (λ c. search needs)
-    (λ c. search needs) take-last-requires (λ c. search needs) (λ c. search needs) (λ c. search needs) (λ c κs. search needs) (λ c. search needs)
-    (λ c. search needs) take-part-requires (λ c. search needs) (λ c. search needs) (λ c. search needs) (λ c. search needs) loop-again
-    (λ c. search needs) (λ c. search needs))
+    returns take-last-requires (λ c. search needs) returns-2 (λ c. search needs) (λ c κs. search needs) (λ c. search needs)
+    (λ c. search needs) take-part-requires (λ c. search needs) returns-3 (λ c. search needs) (λ c. search needs) loop-again
+    (λ c. search needs) returns-4)

@@ -5,7 +5,7 @@ use Rattle.logger.proofs.take_byte.Statement.{statement}
 use Rattle.logger.proofs.take_byte.Tie as tie
 
 take-record-requires : tie.Need-take-record-requires
-take-record-requires c κs = byte-told-within (c .before .before .before .before .before .pre) (c .before .before .before .feed-byte .ensures)
+take-record-requires c κs = (c .before .before .before .before .before .pre .0, byte-told-within (c .before .before .before .before .before .pre .1) (c .before .before .before .feed-byte .ensures))
 
 returns : tie.Need-returns
 returns c = byte-taken (c .before .before .before .before .before .before .feed-byte .ensures) (c .before .before .take-record .ensures)

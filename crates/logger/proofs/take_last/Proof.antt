@@ -5,7 +5,7 @@ use Rattle.logger.proofs.take_last.Statement.{statement}
 use Rattle.logger.proofs.take_last.Tie as tie
 
 take-record-requires : tie.Need-take-record-requires
-take-record-requires c κs = end-told-within (c .before .before .before .before .pre) (c .before .before .finish .ensures)
+take-record-requires c κs = (c .before .before .before .before .pre .0, end-told-within (c .before .before .before .before .pre .1) (c .before .before .finish .ensures))
 
 returns : tie.Need-returns
 returns c = end-taken (c .before .before .before .before .before .before .finish .ensures) (c .before .before .before .take-record .ensures)

@@ -3,18 +3,19 @@ use mathlib.Core.Path.{_≡_, refl}
 use Prim.Native.Nat.{_+_, _-_, _≤_}
 use lib.ListN.{length, take}
 use borrow.Author.Needs.{needs}
+use Rattle.meaning.specs.Layer.Listed.{Listed}
 use Rattle.logger.specs.Input.{kept, Known, BytesTaken}
-use Rattle.logger.proofs.Input.{none-taken, one-more-taken, still-known, not-written}
+use Rattle.logger.proofs.Input.{none-taken, one-more-taken, still-known, still-listed, not-written}
 use Rattle.logger.proofs.take_part.Statement.{statement}
 use Rattle.logger.proofs.take_part.Tie as tie
 
 abbrev Inv-loop : tie.InvT-loop
-Inv-loop words₀ last₀ part s₀ i₀ words last s i =
+Inv-loop words₀ settings last₀ part s₀ i₀ words last s i =
     (i ≤ length part) × ((length words ≡ length words₀) ×
-    (Known (s .feed) × BytesTaken (take i part) (s₀ .feed) (kept words₀ last₀) (s .feed) (kept words last)))
+    ((Listed words settings × Known (s .feed)) × BytesTaken (take i part) (s₀ .feed) (kept words₀ last₀) (s .feed) (kept words last)))
 
 abbrev μ-loop : tie.MeasureT-loop
-μ-loop words₀ last₀ part s₀ i₀ words last s i = length part - i
+μ-loop words₀ settings last₀ part s₀ i₀ words last s i = length part - i
 
 loop-holds : tie.Need-loop-holds Inv-loop μ-loop
 loop-holds c = (search needs, (refl, (c .before .before .pre, none-taken)))
@@ -36,9 +37,16 @@ loop-again : tie.Need-loop-again Inv-loop μ-loop
 loop-again c =
     let a = c .before .before .before .before .before .before .before .before .before .before .before .before .before .args in
     let v = c .before .before .before .before .before .before .before .before .before .before .loop in
+    let known = v .inv .1 .1 .0 in
     let byte = c .before .before .before .before .take-byte .ensures in (
       search needs,
-      (search needs, (still-known (v .inv .1 .1 .0) byte, one-more-taken (a .part .now) (v .i) (search needs) (v .inv .1 .1 .1) byte)),
+      (
+        search needs,
+        (
+          (still-listed (known .1) (known .0) byte, still-known (known .1) byte),
+          one-more-taken (a .part .now) (v .i) (search needs) (v .inv .1 .1 .1) byte,
+        ),
+      ),
     )
 
 returns-2 : tie.Need-returns-2 Inv-loop μ-loop

@@ -9,13 +9,12 @@ use Rattle.order.proofs.take_byte.Tie as tie
 take-line-requires : tie.Need-take-line-requires
 take-line-requires c κs =
     let fed = c .before .before .before .before .before .feed-byte .ensures in
-    record { fits = λ n e. omega (arith, fed .line-fits n e, fed .ready .long) }
+    (c .before .before .before .before .before .before .before .before .before .pre .0, record { fits = λ n e. omega (arith, fed .line-fits n e, fed .ready .long) })
 
 returns : tie.Need-returns
 returns c =
     let a = c .before .before .before .before .before .before .before .before .before .before .before .before .args in
-    byte-taken (a .line .now) (a .words .now) (c .before .before .before .before .before .before .before .before .feed-byte .ensures)
-    (c .before .before .take-line .ensures)
+    byte-taken (a .line .now) (a .words .now) (c .before .before .before .before .before .before .before .before .feed-byte .ensures) (c .before .before .take-line .ensures)
 
 pub take-byte-spec : {M : Type 1} → statement M
 take-byte-spec =

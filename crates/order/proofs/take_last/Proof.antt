@@ -8,19 +8,18 @@ use Rattle.order.proofs.take_last.Tie as tie
 take-line-requires : tie.Need-take-line-requires
 take-line-requires c κs =
     let last = c .before .finish .ensures in
-    record { fits = λ n e. omega (arith, last .line-fits n e, c .before .before .before .before .pre .long) }
+    let p = c .before .before .before .before .pre in
+    (p .0, record { fits = λ n e. omega (arith, last .line-fits n e, p .1 .long) })
 
 returns : tie.Need-returns
 returns c =
-    let a = c .before .before .before .before .before .before .before .before .args in
-    end-words (a .line .now) (a .words .now) (c .before .before .before .before .before .before .before .before .pre .long)
-    (c .before .before .before .before .before .finish .ensures) (c .before .before .before .take-line .ensures)
+    let s = c .before .before .before .before .before .before .before .before in
+    end-words (s .args .line .now) (s .args .words .now) (s .pre .1 .long) (c .before .before .before .before .before .finish .ensures) (c .before .before .before .take-line .ensures)
 
 returns-2 : tie.Need-returns-2
 returns-2 c =
-    let a = c .before .before .before .before .before .before .before .before .args in
-    end-words (a .line .now) (a .words .now) (c .before .before .before .before .before .before .before .before .pre .long)
-    (c .before .before .before .before .before .finish .ensures) (c .before .before .before .take-line .ensures)
+    let s = c .before .before .before .before .before .before .before .before in
+    end-words (s .args .line .now) (s .args .words .now) (s .pre .1 .long) (c .before .before .before .before .before .finish .ensures) (c .before .before .before .take-line .ensures)
 
 pub take-last-spec : {M : Type 1} → statement M
 take-last-spec =

@@ -6,18 +6,12 @@ use Rattle.order.proofs.take_line.Statement.{statement}
 use Rattle.order.proofs.take_line.Tie as tie
 
 slice-aggregate-write : tie.Need-slice-aggregate-write
-slice-aggregate-write c =
-    let answered = c .before .before .before .before .line-text in
-    sym (length-take-le (answered .result) _ (answered .ensures .within))
+slice-aggregate-write c = let answered = c .before .before .before .before .line-text in sym (length-take-le (answered .result) _ (answered .ensures .within))
 
 write-requires : tie.Need-write-requires
 write-requires c κs =
     let answered = c .before .before .before .before .before .line-text .ensures in
-    record {
-      before = c .before .before .before .before .before .before .before .before .before .before .args .words .now;
-      left = answered .left;
-      is = answered .text;
-    }
+    record { before = c .before .before .before .before .before .before .before .before .before .before .args .words .now; left = answered .left; is = answered .text }
 
 returns : tie.Need-returns
 returns c = c .before .before .before .before .before .before .line-text .ensures .left

@@ -4,23 +4,24 @@ use Prim.Native.Nat.{_+_, _-_, _≤_}
 use lib.ListN.{length, take}
 use borrow.Author.Needs.{needs}
 use Rattle.text.specs.Feeding.{begunIn}
+use Rattle.meaning.specs.Layer.Listed.{Listed}
 use Rattle.order.specs.Input.{BytesTaken}
-use Rattle.order.proofs.Input.{none-taken, one-more-taken, not-written}
+use Rattle.order.proofs.Input.{none-taken, one-more-taken, still-listed, not-written}
 use Rattle.order.proofs.take_part.Statement.{statement}
 use Rattle.order.proofs.take_part.Tie as tie
 
 abbrev Inv-loop : tie.InvT-loop
-Inv-loop words₀ line₀ part s₀ i₀ words line s i = (i ≤ length part) ×
-    ((length words ≡ length words₀) × BytesTaken (take i part) (begunIn line₀ (s₀ .feed)) words₀ line (s .feed) words)
+Inv-loop words₀ settings line₀ part s₀ i₀ words line s i = (i ≤ length part) ×
+    ((length words ≡ length words₀) × (Listed words settings × BytesTaken (take i part) (begunIn line₀ (s₀ .feed)) words₀ line (s .feed) words))
 
 abbrev μ-loop : tie.MeasureT-loop
-μ-loop words₀ line₀ part s₀ i₀ words line s i = length part - i
+μ-loop words₀ settings line₀ part s₀ i₀ words line s i = length part - i
 
 loop-holds : tie.Need-loop-holds Inv-loop μ-loop
-loop-holds c = (search needs, (refl, none-taken (c .before .before .before .pre)))
+loop-holds c = (search needs, (refl, (c .before .before .before .pre .0, none-taken (c .before .before .before .pre .1))))
 
 take-byte-requires : tie.Need-take-byte-requires Inv-loop μ-loop
-take-byte-requires c κs = c .before .before .before .before .loop .inv .1 .1 .ready
+take-byte-requires c κs = let inv = c .before .before .before .before .loop .inv .1 .1 in (inv .0, inv .1 .ready)
 
 returns : tie.Need-returns Inv-loop μ-loop
 returns c =
@@ -28,26 +29,24 @@ returns c =
     let v = c .before .before .before .before .before .before .before .before .before .before .before .loop in
     record {
       count = v .i + 1;
-      taken = one-more-taken (a .part .now) (v .i) (search needs) (v .inv .1 .1) (c .before .before .before .before .before .before .take-byte .ensures);
+      taken = one-more-taken (a .part .now) (v .i) (search needs) (v .inv .1 .1 .1) (c .before .before .before .before .before .before .take-byte .ensures);
       whole = λ e. not-written _ (c .if1 .taken) e;
     }
 
 loop-again : tie.Need-loop-again Inv-loop μ-loop
 loop-again c =
     let a = c .before .before .before .before .before .before .before .before .before .before .before .before .before .before .before .args in
-    let v = c .before .before .before .before .before .before .before .before .before .before .before .loop in (
+    let v = c .before .before .before .before .before .before .before .before .before .before .before .loop in
+    let byte = c .before .before .before .before .before .before .take-byte .ensures in (
       search needs,
       (
         search needs,
-        one-more-taken (a .part .now) (v .i) (search needs) (v .inv .1 .1)
-            (c .before .before .before .before .before .before .take-byte .ensures),
+        (still-listed (v .inv .1 .1 .0) byte, one-more-taken (a .part .now) (v .i) (search needs) (v .inv .1 .1 .1) byte),
       ),
     )
 
 returns-2 : tie.Need-returns-2 Inv-loop μ-loop
-returns-2 c =
-    let v = c .before .loop in
-    record { count = v .i; taken = v .inv .1 .1; whole = λ e. search needs }
+returns-2 c = let v = c .before .loop in record { count = v .i; taken = v .inv .1 .1 .1; whole = λ e. search needs }
 
 pub take-part-spec : {M : Type 1} → statement M
 take-part-spec =

@@ -6,28 +6,22 @@ use Rattle.order_step.proofs.line_text.Statement.{statement}
 use Rattle.order_step.proofs.line_text.Tie as tie
 
 returns : tie.Need-returns
-returns c =
-    let a = c .before .before .before .before .before .args in
-    no-line-answered (a .list .now) (a .out .now) (a .line .now) (c .enum-told .given .1)
+returns c = let a = c .before .before .before .before .before .args in no-line-answered (a .list .now) (a .out .now) (a .line .now) (c .enum-told .given .1)
 
 part-step-end : tie.Need-part-step-end
-part-step-end c = c .before .before .before .before .before .before .before .before .pre .0 .fits _ (c .before .before .before .told .given .1)
+part-step-end c = c .before .before .before .before .before .before .before .before .pre .1 .0 .fits _ (c .before .before .before .told .given .1)
 
 returns-2 : tie.Need-returns-2
 returns-2 c =
-    let s = c .before .before .before .before .before in
-    let told = s .before .before .before .before .before in
-    let a = told .before .before .before .before .before .args in
+    let a = c .before .before .before .before .before .before .before .before .before .before .before .before .before .before .before .args in
     let put = c .before .before .put-answer .ensures in
-    line-answered (a .list .now) (put .0) (omega (arith, put .1)) (a .line .now) (told .told .given .1) (s .step .ensures)
+    line-answered (a .list .now) (put .0) (omega (arith, put .1)) (a .line .now) (c .before .before .before .before .before .before .before .before .before .before .told .given .1) (c .before .before .before .before .before .step .ensures)
 
 returns-3 : tie.Need-returns-3
 returns-3 c =
-    let told = c .before .before .before .before .before .before in
-    let a = told .before .before .before .before .before .args in
+    let a = c .before .before .before .before .before .before .before .before .before .before .before .args in
     let put = c .before .before .put-answer2 .ensures in
-    long-line-answered (a .list .now) (put .0) (omega (arith, put .1)) (a .line .now) (told .enum-told2 .given .1)
-    (c .before .before .before .long-line .ensures)
+    long-line-answered (a .list .now) (put .0) (omega (arith, put .1)) (a .line .now) (c .before .before .before .before .before .before .enum-told2 .given .1) (c .before .before .before .long-line .ensures)
 
 pub line-text-spec : {M : Type 1} → statement M
 line-text-spec =

@@ -12,7 +12,7 @@ returns c =
     not-read-meets (a .bytes .now) (a .list .now) (sym (c .before .before .before .parse .ensures) ∙ c .before .enum-told .given .1) (c .refused .ensures)
 
 make-requires : tie.Need-make-requires
-make-requires c κs = read-in-range (c .before .before .before .before .before .before .before .args .bytes .now) (sym (c .before .before .before .before .parse .ensures) ∙ c .before .before .l .given .1)
+make-requires c κs = (c .before .before .before .before .before .before .before .pre, read-in-range (c .before .before .before .before .before .before .before .args .bytes .now) (sym (c .before .before .before .before .parse .ensures) ∙ c .before .before .l .given .1))
 
 returns-2 : tie.Need-returns-2
 returns-2 c =
