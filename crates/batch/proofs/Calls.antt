@@ -38,21 +38,6 @@ module _ (words : List ℕ) (i : ℕ) (h : i < length words / 3) where
   unfolding callsIn
   calls-more = rw (three (3 * i) words (omega arith), after) refl
 
--- a kind that is none, and one that is
-pub kind-not : {r t : Bool} (more : Bool) → r ≡ t → not r ≡ true → t && more ≡ false
-kind-not {r} {t} more is none = at r none (sym is)
-  where
-    at : (q : Bool) → not q ≡ true → t ≡ q → t && more ≡ false
-    at true n e = absurd (true≢false (sym n))
-    at false n e = rw e refl
-
-pub kind-is : {r t : Bool} (more : Bool) → r ≡ t → not r ≡ false → t && more ≡ more
-kind-is {r} {t} more is one = at r one (sym is)
-  where
-    at : (q : Bool) → not q ≡ false → t ≡ q → t && more ≡ more
-    at true n e = rw e refl
-    at false n e = absurd (true≢false n)
-
 -- fewer than three words are left
 few-calls : (words : List ℕ) → length words < 3 → (areCalls words ≡ eqb (length words) 0) × (callsIn words ≡ [])
 unfolding areCalls callsIn
@@ -78,7 +63,7 @@ calls-length (kind ∷ []) = refl
 calls-length (kind ∷ key ∷ []) = refl
 calls-length (kind ∷ key ∷ value ∷ words) = let more = calls-length words in omega arith
 
--- what a test of calls says
+-- what a test of calls, or of one kind, says
 pub not-calls : {r t : Bool} → r ≡ t → not r ≡ true → t ≡ false
 not-calls {r} {t} is none = at r none is
   where

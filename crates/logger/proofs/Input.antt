@@ -1,11 +1,10 @@
 -- What the functions of the program logger rest on: what is taken byte by byte, or in parts, is taken as a whole; and what a feed tells of is in
 -- range.
 use mathlib.Core.Path.{_≡_, refl, sym, _∙_, ap, subst}
-use mathlib.Core.Bool.{Bool, true, false, not, cond, true≢false}
+use mathlib.Core.Bool.{Bool, true, false, cond, true≢false}
 use mathlib.Core.List.{List, [], _∷_, _++_, append-nil}
 use Prim.Native.Nat.{ℕ, _+_, _<_}
 use native.Mathlib.Numerals.{add-one}
-use native.Mathlib.Omega.{arith}
 use lib.Dec.{eqb}
 use lib.ListN.{length, getD, take}
 use lib.Seq.{take-suc}
@@ -138,11 +137,6 @@ end-listed {words} {last = last} {s = s} known listed taken =
 pub take-listed : {before after : List ℕ} {r : Turn} {s : Settings} → Listed before s → Took before after r → Listed after s
 unfolding outcome
 take-listed {s = s} listed took = subst (λ (us : List ℕ). Listed us s) (sym (took .left)) (call-listed Take refl listed)
-
--- A part is not taken whole where an answer was not written.
-pub not-written : (written : Bool) {n m : ℕ} → not written ≡ true → written ≡ true → n ≡ m
-not-written true f e = let z : _≡_ {A = ℕ} 0 1 = cc in omega arith
-not-written false f e = let z : _≡_ {A = ℕ} 0 1 = cc in omega arith
 
 -- A take that is refused leaves the words, so that the next one is refused too.
 refused-stays : (ws : List ℕ) → NothingToTake ws → takeOut ws .left ≡ ws

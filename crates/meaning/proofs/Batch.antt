@@ -12,7 +12,7 @@ use Rattle.meaning.specs.Refusals.{Outcome, badBatch, refused}
 use Rattle.meaning.specs.Reading.{readingOf}
 use Rattle.meaning.specs.Calls.{alone, madeOn, afterCalls}
 use Rattle.meaning.specs.Batch.{BatchLent, areCalls, callsIn, answerWords, answersTo, fits, putFirst, batchDone, batchOn, batchOut}
-use Rattle.meaning.specs.Promises.{BatchIs, BatchIsCalls, RefusedBatchAltersNothing}
+use Rattle.meaning.specs.Promises.{BatchIs, BatchIsCalls, RefusedBatchAltersNothing, BatchRefusals}
 use Rattle.meaning.specs.declared.Call.{Call}
 use Rattle.meaning.specs.declared.Reading.{Reading}
 use Rattle.meaning.specs.declared.Reading.the-variants.{IsList, NotAList}
@@ -101,3 +101,7 @@ refused-batch-alters-nothing calls lent = at (readingOf (lent .words))
     at : (reading : Reading) → Kept (batchOn calls lent reading)
     at (IsList s) = by (fits calls (lent .answers))
     at NotAList = λ ne. refl
+
+pub batch-refusals : BatchRefusals
+unfolding batchOut readingOf
+batch-refusals calls lent = (λ none. rw none refl, λ list no-room. rw (list, no-room) refl)

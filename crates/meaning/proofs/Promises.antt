@@ -24,7 +24,7 @@ use Rattle.meaning.specs.Promises.{ListsStayLists, CallsKeepLists, Calls
 use Rattle.meaning.specs.Promises.{PresentMeansThatKey, TakesInTurn, TakesEnd, CallsAreBooked, FindWritesNothing, TakeWrites, ReviveWrites}
 use Rattle.meaning.specs.Promises.{InsertWrites, FinishWrites, SweepWrites, EachCellOnce, SweptCellsFirst, InsertUsesFirst, SharedMeansLeading}
 use Rattle.meaning.specs.Promises.{ListMeansSentences, WalkIsRule, WalkOnce, WalkBounded, WalkEnds, WalkByKeysAlone, OrderIsLexicographic}
-use Rattle.meaning.specs.Promises.{ShapeByKeysAlone, AnswersAreBooked, OneOutcome, RecordIsInsert, LastIsValue, BatchIsCalls, RefusedBatchAltersNothing}
+use Rattle.meaning.specs.Promises.{ShapeByKeysAlone, AnswersAreBooked, OneOutcome, RecordIsInsert, LastIsValue, BatchIsCalls, RefusedBatchAltersNothing, BatchRefusals}
 use Rattle.meaning.proofs.Keys.{shared-agreed, lexicographic, coordinates-determine}
 use Rattle.meaning.proofs.AscendingKeys.{asc-rising, rising-equal}
 use Rattle.meaning.proofs.State.{Sound, base-positive, base-above}
@@ -214,6 +214,9 @@ batch-is-calls = batch.batch-is-calls
 
 pub refused-batch-alters-nothing : RefusedBatchAltersNothing
 refused-batch-alters-nothing = batch.refused-batch-alters-nothing
+
+pub batch-refusals : BatchRefusals
+batch-refusals = batch.batch-refusals
 
 pub refused-alters-nothing : RefusedAltersNothing
 refused-alters-nothing = outcomes.refused-alters-nothing

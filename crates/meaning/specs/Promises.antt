@@ -15,7 +15,7 @@ use Rattle.meaning.specs.declared.Answer.{Answer}
 use Rattle.meaning.specs.Keys.{coordinates, shared}
 use Rattle.meaning.specs.Row.{Node, nodeAt}
 use Rattle.meaning.specs.Reading.{read, settingsAt, isList}
-use Rattle.meaning.specs.Refusals.{Outcome, Meets}
+use Rattle.meaning.specs.Refusals.{Outcome, Meets, notAList, badBatch, refused}
 use Rattle.meaning.specs.Rule.{rule}
 use Rattle.meaning.specs.Words.{keyAt, markAt, owedAt, lowAt, highAt, linkAt, dimensionsAt, largestAt, cellsAt, baseAt, liveMark}
 use Rattle.meaning.specs.Walk.{walk, trailFrom, trail, ends}
@@ -23,7 +23,7 @@ use Rattle.meaning.specs.Operations.{setUpOut, insertOut, findOut, finis
 use Rattle.meaning.specs.Records.{Lent, insertion, noteAsks, recordOut}
 use Rattle.meaning.specs.Writes.{OwesNothing, OwesSame, Finished, Inserted, Taken, Revived, Swept}
 use Rattle.meaning.specs.Calls.{outcome, Made, alone, madeOn, afterCalls}
-use Rattle.meaning.specs.Batch.{BatchLent, callsIn, answerWords, batchOut}
+use Rattle.meaning.specs.Batch.{BatchLent, callsIn, answerWords, fits, batchOut}
 use Rattle.meaning.specs.Sentences.{Standing, AList}
 use Rattle.meaning.specs.Book.{Pair, livePairs, standingKeys, bookOf, bookedAll, replyIn, replyTo}
 use Rattle.meaning.specs.declared.Call.the-variants.{SetUp, Insert, Find, Finish, Take, Sweep, Record}
@@ -280,6 +280,13 @@ BatchIsCalls =
 abbrev pub RefusedBatchAltersNothing : Type 0
 RefusedBatchAltersNothing =
     (calls : List ℕ) (lent : BatchLent) → (batchOut calls lent .answered .refusal ≡ 0 → ⊥) → batchOut calls lent .left ≡ lent
+
+-- .. 3 comes before 19: on words that are no list it is answered whatever the calls are.
+abbrev pub BatchRefusals : Type 0
+BatchRefusals =
+    (calls : List ℕ) (lent : BatchLent) →
+    (isList (lent .words) ≡ false → batchOut calls lent ≡ refused notAList lent) ×
+    (isList (lent .words) ≡ true → fits calls (lent .answers) ≡ false → batchOut calls lent ≡ refused badBatch lent)
 
 -- Any two outcomes that a contract allows are equal: the seven exported functions all ensure `Meets o r lent`, of the outcome o of their call
 -- and whatever was lent to it.

@@ -1,10 +1,8 @@
 -- What the functions of the order program rest on: what is taken byte by byte, or in parts, is taken as a whole.
 use mathlib.Core.Path.{_≡_, refl, sym, _∙_, ap, subst}
-use mathlib.Core.Bool.{Bool, true, false, not}
 use mathlib.Core.List.{List, [], _∷_, _++_, append-nil}
 use Prim.Native.Nat.{ℕ, _+_, _<_}
 use native.Mathlib.Numerals.{add-one}
-use native.Mathlib.Omega.{arith}
 use lib.ListN.{length, getD, take}
 use lib.Seq.{take-suc}
 use Rattle.text.specs.Lines.{mostBytes, Handed}
@@ -76,8 +74,3 @@ pub still-listed :
     Listed after s
 still-listed {bytes} {begun = begun} {s = s} listed taken =
     subst (λ (us : List ℕ). Listed us s) (sym (taken .words)) (lines-listed (handedByPart begun bytes) listed)
-
--- A part is not taken whole where an answer was not written.
-pub not-written : (written : Bool) {n m : ℕ} → not written ≡ true → written ≡ true → n ≡ m
-not-written true f e = let z : _≡_ {A = ℕ} 0 1 = cc in omega arith
-not-written false f e = let z : _≡_ {A = ℕ} 0 1 = cc in omega arith

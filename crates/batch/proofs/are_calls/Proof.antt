@@ -1,11 +1,11 @@
 -- `batch::are_calls` meets its contract: each turn tests the kind of one call more.
-use mathlib.Core.Path.{_≡_, refl, sym, _∙_}
-use mathlib.Core.Bool.{not}
+use mathlib.Core.Path.{_≡_, refl, sym, _∙_, ap}
+use mathlib.Core.Bool.{_&&_}
 use Prim.Native.Nat.{_*_, _+_, _-_, _/_, _≤_}
 use lib.ListN.{length, drop}
 use borrow.Author.Needs.{needs}
 use Rattle.meaning.specs.Batch.{areCalls}
-use Rattle.batch.proofs.Calls.{kinds-more, kinds-end, kind-not, kind-is}
+use Rattle.batch.proofs.Calls.{kinds-more, kinds-end, not-calls, are-calls}
 use Rattle.batch.proofs.are_calls.Statement.{statement}
 use Rattle.batch.proofs.are_calls.Tie as tie
 
@@ -19,13 +19,13 @@ returns : tie.Need-returns Inv-loop μ-loop
 returns c =
     let v = c .before .before .before .before .loop in
     let a = c .before .before .before .before .before .before .args in
-    sym (v .inv .1 ∙ (kinds-more (a .calls .now) (v .i) (search needs) ∙ kind-not (areCalls (drop (3 * (v .i + 1)) (a .calls .now))) (c .before .is-kind .ensures) (c .if1 .taken)))
+    sym (v .inv .1 ∙ (kinds-more (a .calls .now) (v .i) (search needs) ∙ ap (λ t. t && areCalls (drop (3 * (v .i + 1)) (a .calls .now))) (not-calls (c .before .is-kind .ensures) (c .if1 .taken))))
 
 loop-again : tie.Need-loop-again Inv-loop μ-loop
 loop-again c =
     let v = c .before .before .before .before .loop in
     let a = c .before .before .before .before .before .before .args in
-    (search needs, v .inv .1 ∙ (kinds-more (a .calls .now) (v .i) (search needs) ∙ kind-is (areCalls (drop (3 * (v .i + 1)) (a .calls .now))) (c .before .is-kind .ensures) (c .if1 .left)))
+    (search needs, v .inv .1 ∙ (kinds-more (a .calls .now) (v .i) (search needs) ∙ ap (λ t. t && areCalls (drop (3 * (v .i + 1)) (a .calls .now))) (are-calls (c .before .is-kind .ensures) (c .if1 .left))))
 
 returns-2 : tie.Need-returns-2 Inv-loop μ-loop
 returns-2 c =

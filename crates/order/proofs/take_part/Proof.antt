@@ -1,12 +1,13 @@
 -- `order::take_part` meets its contract and ends: each turn takes one byte more of the part.
-use mathlib.Core.Path.{_≡_, refl}
+use mathlib.Core.Path.{_≡_, refl, sym, _∙_, ap}
+use mathlib.Core.Bool.{not, true≢false}
 use Prim.Native.Nat.{_+_, _-_, _≤_}
 use lib.ListN.{length, take}
 use borrow.Author.Needs.{needs}
 use Rattle.text.specs.Feeding.{begunIn}
 use Rattle.meaning.specs.Layer.Listed.{Listed}
 use Rattle.order.specs.Input.{BytesTaken}
-use Rattle.order.proofs.Input.{none-taken, one-more-taken, still-listed, not-written}
+use Rattle.order.proofs.Input.{none-taken, one-more-taken, still-listed}
 use Rattle.order.proofs.take_part.Statement.{statement}
 use Rattle.order.proofs.take_part.Tie as tie
 
@@ -30,7 +31,7 @@ returns c =
     record {
       count = v .i + 1;
       taken = one-more-taken (a .part .now) (v .i) (search needs) (v .inv .1 .1 .1) (c .before .before .before .before .before .before .take-byte .ensures);
-      whole = λ e. not-written _ (c .if1 .taken) e;
+      whole = λ e. absurd (true≢false (sym (c .if1 .taken) ∙ ap not e));
     }
 
 loop-again : tie.Need-loop-again Inv-loop μ-loop
