@@ -12,10 +12,9 @@ use Rattle.lists.specs.Lists.{those}
 use Rattle.lists.proofs.Those.{those-all, those-none, those-append}
 use Rattle.lists.proofs.All.{All, all-map, all-append, all-left, all-zip}
 use Rattle.meaning.specs.Keys.{shared}
-use Rattle.meaning.specs.Row.{Node, headNode, firstOf, Place, placesAfter, places}
+use Rattle.meaning.specs.Row.{Node, headNode, firstOf, Place, placesAfter, places, lastOf}
 use Rattle.meaning.specs.State.{State}
 use Rattle.meaning.specs.Picture.{firstWith}
-use Rattle.meaning.specs.Operations.{lastOf}
 use Rattle.meaning.proofs.AscendingRow.{Asc, asc-above}
 use Rattle.meaning.proofs.Keys.{shared-same, shared-less, ultra}
 use Rattle.meaning.proofs.State.{Sound, base-positive}

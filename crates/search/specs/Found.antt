@@ -9,18 +9,15 @@ use lib.Dec.{eqb, leb, ltb}
 use lib.ListN.{length}
 use Rattle.lists.specs.Lists.{those}
 use Rattle.meaning.specs.Keys.{shared}
-use Rattle.meaning.specs.Row.{Node, headNode, firstOf, nodeAt}
+use Rattle.meaning.specs.Row.{Node, headNode, firstOf, nodeAt, smallerThan}
 use Rattle.meaning.specs.State.{State}
 use Rattle.meaning.specs.Picture.{firstWith}
 use Rattle.meaning.specs.Reading.{read}
 use Rattle.meaning.specs.Walk.{walk}
-use Rattle.meaning.specs.Operations.{looked, lastOf}
+use Rattle.meaning.specs.Operations.{looked}
 use Rattle.search.specs.declared.Found.{Found}
 
--- the standing cell of next smaller key than k (the head if there is no other), and the one of next larger key (the head if none)
-abbrev pub smallerThan : ℕ → List Node → Node
-smallerThan k row = lastOf (those (λ x. ltb (x .key) k) row)
-
+-- the standing cell of next larger key than k; the head if there is none
 abbrev pub largerThan : ℕ → List Node → Node
 largerThan k row = firstOf (those (λ x. ltb k (x .key)) row)
 

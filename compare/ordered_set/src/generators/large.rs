@@ -2,6 +2,7 @@
 //! where the lines left allow it.
 
 use super::keys::{clustered_keys, neighbour};
+use super::late::late_note;
 use super::Trace;
 use crate::settings::Settings;
 
@@ -59,6 +60,10 @@ fn insert_all(trace: &mut Trace, keys: &[u32]) {
 
 fn take_and_ask(trace: &mut Trace, settings: &Settings, keys: &[u32], many: usize) {
     for _ in 0..many {
+        if trace.dice.one_in(3) {
+            late_note(trace);
+            continue;
+        }
         let dice = &mut trace.dice;
         let key = dice.pick(keys);
         let near = neighbour(dice, settings, key);

@@ -1,0 +1,97 @@
+//! Urgent notes that come late: inserts at or below the position, after which it falls back;
+//! and a schedule of such notes.
+
+use super::dice::Dice;
+use super::keys::neighbour;
+use super::order_lines::some_entry;
+use super::records::key_of;
+use super::Trace;
+use crate::model::{Mark, Model};
+use crate::settings::Settings;
+
+/// A key at or below the position: its own, another dead one or a new one; at times a take at
+/// once. Mostly near the position, so that dead keys are left below. While the position is the
+/// head there is no such key.
+pub fn late_note(trace: &mut Trace) {
+    let Some(model) = trace.list().filter(|model| model.position > 0) else {
+        return;
+    };
+    let dice = &mut trace.dice;
+    let dead: Vec<u32> = model.standing.range(1..=model.position).map(|(&key, _)| key).collect();
+    let from = if dice.one_in(4) { 0 } else { dead.len().saturating_sub(4) };
+    let near = &dead[from..];
+    let key = match dice.below(8) {
+        0 => model.position,
+        1 | 2 => dice.pick(near),
+        _ => new_up_to_position(dice, &model, near),
+    };
+    let value = dice.any_size();
+    let take = dice.one_in(2);
+    trace.say(format!("N {key} {value}"));
+    if take {
+        trace.say("T");
+    }
+}
+
+/// A key near a dead one that does not stand, or a dead one if some tries give none.
+fn new_up_to_position(dice: &mut Dice, model: &Model, dead: &[u32]) -> u32 {
+    let is_new = |key: &u32| *key < model.position && !model.standing.contains_key(key);
+    let near = dice.pick(dead);
+    let mut tried = (0..20).map(|_| neighbour(dice, &model.settings, near));
+    tried.find(is_new).unwrap_or(near)
+}
+
+/// On the order program's list. In every shift notes come in and most are taken; then urgent
+/// ones come late, some at a time, and takes between them.
+///
+/// No line depends on the position but right after a take, where it is the taken key. So two
+/// rules for the position after an insert get the same lines, and their sums of passed compare.
+pub fn schedule(trace: &mut Trace) {
+    trace.make(&Settings::new(8, u32::MAX, 512).expect("settings in range"));
+    while trace.goes_on() {
+        shift(trace);
+        if trace.list().is_some_and(|model| model.free.len() < 200) {
+            trace.say("S");
+        }
+    }
+}
+
+fn shift(trace: &mut Trace) {
+    for _ in 0..trace.dice.between(60, 120) {
+        note(trace, u32::MAX);
+    }
+    let left = trace.dice.between(20, 40);
+    let reached = take_down_to(trace, left as usize);
+    for _ in 0..trace.dice.between(10, 20) {
+        let (notes, further) = (trace.dice.between(1, 3), trace.dice.between(0, 2));
+        (0..notes).for_each(|_| note(trace, reached));
+        (0..notes + further).for_each(|_| trace.say("T"));
+    }
+}
+
+/// A key of some entry, at most this one and not live; none if some tries give none.
+fn note(trace: &mut Trace, most: u32) {
+    let Some(model) = trace.list() else {
+        return;
+    };
+    let live = |key| model.standing.get(&key).is_some_and(|at| at.mark == Mark::Live);
+    let mut tried = (0..50).map(|_| key_of(&some_entry(trace)));
+    if let Some(key) = tried.find(|&key| key <= most && !live(key)) {
+        let value = trace.dice.any_size();
+        trace.say(format!("N {key} {value}"));
+    }
+}
+
+/// Takes while more keys than these are live; gives the key taken last.
+fn take_down_to(trace: &mut Trace, left: usize) -> u32 {
+    loop {
+        let Some(model) = trace.list().filter(|_| trace.goes_on()) else {
+            return 0;
+        };
+        let live = model.standing.values().filter(|at| at.mark == Mark::Live);
+        if live.count() <= left {
+            return model.position;
+        }
+        trace.say("T");
+    }
+}
