@@ -10,6 +10,7 @@ use crate::order::order;
 use crate::reading::list;
 use crate::replay::{parse, run, Line, State};
 use crate::settings::*;
+use std::collections::BTreeMap;
 
 fn line(text: &str) -> Line {
     let fields: Vec<&str> = text.split(' ').collect();
@@ -155,36 +156,44 @@ fn for_each_call(name: &str, lines: usize, mut see: impl FnMut(&Model, &Line, &[
     }
 }
 
-/// Late notes of a trace: how many were new, dead, of the position itself, had three dead keys
-/// below them, had another parent than the new position, and were taken at once.
-fn late_notes(name: &str, lines: usize) -> [u32; 6] {
-    let mut seen = [0; 6];
-    let mut late = None;
+/// What an insert at or below the position is a case of.
+fn kinds_of_late(before: &Model, key: u32, after: &Model) -> [(&'static str, bool); 5] {
+    let stood = before.standing.contains_key(&key);
+    [
+        ("new", !stood),
+        ("revived", stood),
+        ("the position's own", key == before.position),
+        ("above several dead keys", before.standing.range(1..key).count() >= 3),
+        ("apart from its parent", after.parent(key).0 != after.position),
+    ]
+}
+
+/// How many such inserts a trace has, by kind, and how many of them a take follows.
+fn late_notes(name: &str, lines: usize) -> BTreeMap<&'static str, u32> {
+    let mut seen = BTreeMap::new();
+    let mut came_late = false;
     for_each_call(name, lines, |model, line, _, after| {
-        if let Line::Call(Call::Take) = *line {
-            seen[5] += u32::from(late.is_some());
-        }
-        late = None;
-        if let Line::Call(Call::Insert { key, .. }) = *line {
-            if key <= model.position {
-                let new = list(after).expect("a list");
-                let stood = model.standing.contains_key(&key);
-                seen[0] += u32::from(!stood);
-                seen[1] += u32::from(stood);
-                seen[2] += u32::from(key == model.position);
-                seen[3] += u32::from(model.standing.range(1..key).count() >= 3);
-                seen[4] += u32::from(new.parent(key).0 != new.position);
-                late = Some(key);
+        let late_before = std::mem::take(&mut came_late);
+        let kinds = match *line {
+            Line::Call(Call::Insert { key, .. }) if key <= model.position => {
+                came_late = true;
+                kinds_of_late(model, key, &list(after).expect("a list")).to_vec()
             }
+            Line::Call(Call::Take) => vec![("taken next", late_before)],
+            _ => Vec::new(),
+        };
+        for (kind, is_so) in kinds {
+            *seen.entry(kind).or_default() += u32::from(is_so);
         }
     });
     seen
 }
 
 #[test]
-fn late_notes_in_traces() {
-    for (name, lines) in [("gen-calls", 5000), ("gen-damage", 10000), ("gen-large", 300), ("gen-large", 500), ("gen-late", 1000)] {
-        println!("{name} {lines} {:?}", late_notes(name, lines));
+fn traces_have_late_notes_of_every_kind() {
+    for (name, lines, least) in [("gen-calls", 5000, 100), ("gen-large", 2000, 20)] {
+        let seen = late_notes(name, lines);
+        assert!(seen.len() == 6 && seen.values().all(|&many| many >= least), "{name}: {seen:?}");
     }
 }
 

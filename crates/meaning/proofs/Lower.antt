@@ -53,21 +53,21 @@ hangs-nears {p = p} h =
 
 -- The first later node that shares exactly d coordinates with x, where all up to a share more; what holds of all later nodes and places holds
 -- of those after it.
-record Leads (b D x d : ℕ) (later : List Node) (R : Place → Type 0) (Q : Node → Type 0) : Type 0 where
-  to : Place
-  leads : firstSharing b D x d later ≡ to .node .cell
-  above : x < to .node .key
-  shares : shared b D x (to .node .key) ≡ d
-  dimension : to .dimension ≡ d
-  holds : R to
-  after : All R (placesAfter b D (to .node) (to .dimension) (to .later))
-  ascends : Asc (to .node .key) (to .later)
-  rest : All Q (to .later)
+pub record Leads (b D x d : ℕ) (later : List Node) (R : Place → Type 0) (Q : Node → Type 0) : Type 0 where
+  pub to : Place
+  pub leads : firstSharing b D x d later ≡ to .node .cell
+  pub above : x < to .node .key
+  pub shares : shared b D x (to .node .key) ≡ d
+  pub dimension : to .dimension ≡ d
+  pub holds : R to
+  pub after : All R (placesAfter b D (to .node) (to .dimension) (to .later))
+  pub ascends : Asc (to .node .key) (to .later)
+  pub rest : All Q (to .later)
 
 -- or there is none
-record LeadsNowhere (b D x d : ℕ) (later : List Node) : Type 0 where
-  leads : firstSharing b D x d later ≡ 0
-  none : All (λ z. shared b D x (z .key) ≡ d → ⊥) later
+pub record LeadsNowhere (b D x d : ℕ) (later : List Node) : Type 0 where
+  pub leads : firstSharing b D x d later ≡ 0
+  pub none : All (λ z. shared b D x (z .key) ≡ d → ⊥) later
 
 module _ (b D : ℕ) (pos : 0 < b) (R : Place → Type 0) (Q : Node → Type 0) where
   link-from : (later : List Node) (x : ℕ) (a : Node) (e d : ℕ) → x ≤ a .key → d < shared b D x (a .key) → Asc (a .key) later →
@@ -128,7 +128,7 @@ module _ (b D : ℕ) (pos : 0 < b) (R : Place → Type 0) (Q : Node → Type 0) 
 -- One step, by where link d of a place leads
 
 module _ {b D k : ℕ} (pos : 0 < b) {p : Place} {d : ℕ} (n : Nears b D k p d) (asc : Asc (p .node .key) (p .later)) where
-  nears-up : LeadsNowhere b D (p .node .key) d (p .later) → Nears b D k p (suc d)
+  pub nears-up : LeadsNowhere b D (p .node .key) d (p .later) → Nears b D k p (suc d)
   nears-up t =
       let low = n .dimension in
       let apart = n .apart in
@@ -147,7 +147,7 @@ module _ {b D k : ℕ} (pos : 0 < b) {p : Place} {d : ℕ} (n : Nears b D k p d)
       at (yes over) = let low = n .below in absurd (omega (arith, ultra b D (p .node .key) k y pos (omega arith) over, n .apart))
       at (no under) = omega arith
 
-  nears-along : {R : Place → Type 0} (t : Leads b D (p .node .key) d (p .later) R (λ z. z .key < k → d ≤ shared b D (p .node .key) (z .key))) →
+  pub nears-along : {R : Place → Type 0} (t : Leads b D (p .node .key) d (p .later) R (λ z. z .key < k → d ≤ shared b D (p .node .key) (z .key))) →
       Nears b D k (t .to) d
   nears-along t =
       let y = t .to .node .key in
@@ -264,25 +264,50 @@ module _ (ws : List ℕ) (b D k : ℕ) (is-D : dimensionsAt ws ≡ D) (pos : 0 <
           (link-from b D pos R Q (p .later) (p .node .key) (p .node) (p .dimension) d (omega arith) (omega (arith, shared-same b D (p .node .key))) asc after
           (n .between))
 
--- On a list, from the place from which k hangs or would hang
+-- On a list
+
+-- what holds of all places holds of those after a place
+own-after : {s : State} → Sound s → {x : ℕ} {p : Place} → Placed s x p →
+    All (Own s) (placesAfter (s .settings .base) (s .settings .dimensions) (p .node) (p .dimension) (p .later))
+unfolding places
+own-after {s} v placed =
+    let b = s .settings .base in
+    let D = s .settings .dimensions in
+    let own = places-placed v in
+    placed-has placed (λ q. All (Own s) (placesAfter b D (q .node) (q .dimension) (q .later))) (own .1, after-all (Own s) b D headNode 0 (s .row) (own .1))
+
+-- where link d of a place leads
+module _ {s : State} (v : Sound s) {x : ℕ} {p : Place} (placed : Placed s x p) (d : ℕ) (up : p .dimension ≤ d) (l : d < s .settings .dimensions) where
+  pub link-leads : linkRead (picture s) x d ≡ firstSharing (s .settings .base) (s .settings .dimensions) (p .node .key) d (p .later)
+  link-leads =
+      ap (λ c. linkRead (picture s) c d) (sym (placed-cell placed))
+      ∙ placed-stands v (subst (λ c. Placed s c p) (sym (placed-cell placed)) placed) .read .link d up l
+      ∙ settled-above (s .settings .base) (s .settings .dimensions) p d up
+
+  pub led : (Q : Node → Type 0) → All Q (p .later) →
+      LeadsNowhere (s .settings .base) (s .settings .dimensions) (p .node .key) d (p .later)
+      ⊎ Leads (s .settings .base) (s .settings .dimensions) (p .node .key) d (p .later) (Own s) Q
+  led Q q =
+      let same = shared-same (s .settings .base) (s .settings .dimensions) (p .node .key) in
+      link-from (s .settings .base) (s .settings .dimensions) (base-positive s v) (Own s) Q (p .later) (p .node .key) (p .node) (p .dimension) d
+      (omega arith) (omega arith) (placed-ascends v placed) (own-after v placed) q
+
+-- From the place from which k hangs or would hang
 
 module _ (s : State) (v : Sound s) (k : ℕ) {x : ℕ} {p : Place} (placed : Placed s x p) (hangs : Hangs (s .settings .base) (s .settings .dimensions) k p) where
   abbrev number : ℕ
   number = suc (shared (s .settings .base) (s .settings .dimensions) (p .node .key) k)
 
   way-lowest : Lowest (s .settings .base) (s .settings .dimensions) k (Own s) p number (lowerWay (picture s) x number)
-  unfolding places picture
+  unfolding picture
   way-lowest =
       let b = s .settings .base in
       let D = s .settings .dimensions in
       let deep = v .ranges .dimensions-least in
-      let own = places-placed v in
       let here : Own s p = subst (λ c. Placed s c p) (sym (placed-cell placed)) placed in
       subst (λ c. Lowest b D k (Own s) p number (wayFrom (D * b) (picture s) c number)) (placed-cell placed)
       (way-over-row (picture s) b D k (picture-dimensions s) (base-positive s v) (omega arith) (Own s) (λ q there. placed-stands v there) (D * b) p here
-      (placed-has placed (λ q. All (Own s) (placesAfter b D (q .node) (q .dimension) (q .later)))
-      (own .1, after-all (Own s) b D headNode 0 (s .row) (own .1)))
-      (placed-ascends v placed) number (hangs-nears hangs) (omega arith))
+      (own-after v placed) (placed-ascends v placed) number (hangs-nears hangs) (omega arith))
 
   pub lower-is : lowerFrom (picture s) x number ≡ smallerThan k (s .row) .cell
   lower-is =

@@ -22,7 +22,7 @@ const MOODS: &[&[&str]] = &[
 ];
 
 /// Notes come and are taken; then urgent ones come late, with dead keys below them.
-const LATE: [&str; 3] = ["hhhs", "tttttf", "uuuuurtt"];
+const LATE: [&str; 3] = ["iiis", "tttttf", "uuuut"];
 
 pub fn calls(trace: &mut Trace) {
     while trace.goes_on() {
@@ -42,23 +42,19 @@ pub fn begin(trace: &mut Trace, most_cells: u32) -> Vec<u32> {
 }
 
 pub fn mood(trace: &mut Trace, keys: &[u32], most_calls: u32) {
-    for letters in trace.dice.pick(MOODS) {
-        stage(trace, keys, letters.as_bytes(), most_calls);
+    let stages = trace.dice.pick(MOODS);
+    for letters in stages {
+        stage(trace, keys, letters.as_bytes(), most_calls / stages.len() as u32);
     }
 }
 
 fn stage(trace: &mut Trace, keys: &[u32], letters: &[u8], most_calls: u32) {
-    for _ in 0..trace.dice.between(3, most_calls) {
+    for _ in 0..trace.dice.between(3, most_calls.max(3)) {
         // The trace may end while the buffer is altered, and then there is no list.
         let Some(model) = trace.list().filter(|_| trace.goes_on()) else {
             return;
         };
         let letter = trace.dice.pick(letters);
-        let letter = match letter {
-            b'h' if 3 * model.free.len() < model.settings.cells => b't',
-            b'h' => b'i',
-            letter => letter,
-        };
         if letter == b'u' {
             late_note(trace);
             continue;

@@ -9,28 +9,45 @@ use super::Trace;
 use crate::model::{Mark, Model};
 use crate::settings::Settings;
 
+/// Dead keys that should stand up to the position before a late note comes.
+const SEVERAL: usize = 4;
+
 /// A key at or below the position: its own, another dead one or a new one; at times a take at
 /// once. Mostly near the position, so that dead keys are left below. While the position is the
 /// head there is no such key.
 pub fn late_note(trace: &mut Trace) {
-    let Some(model) = trace.list().filter(|model| model.position > 0) else {
+    let Some(model) = trace.list() else {
         return;
     };
+    let up_to = model.standing.range(..=model.position);
+    let dead: Vec<u32> = up_to.map(|(&key, _)| key).skip(1).collect();
+    if dead.is_empty() || dead.len() < SEVERAL && !trace.dice.one_in(4) {
+        return go_up(trace, &model);
+    }
     let dice = &mut trace.dice;
-    let dead: Vec<u32> = model.standing.range(1..=model.position).map(|(&key, _)| key).collect();
-    let from = if dice.one_in(4) { 0 } else { dead.len().saturating_sub(4) };
+    let from = if dice.one_in(4) { 0 } else { dead.len().saturating_sub(SEVERAL) };
     let near = &dead[from..];
     let key = match dice.below(8) {
         0 => model.position,
         1 | 2 => dice.pick(near),
         _ => new_up_to_position(dice, &model, near),
     };
-    let value = dice.any_size();
-    let take = dice.one_in(2);
+    let (value, take) = (dice.any_size(), dice.one_in(2));
     trace.say(format!("N {key} {value}"));
     if take {
         trace.say("T");
     }
+}
+
+/// A take, so that more dead keys are left behind. Where nothing is live, the greatest key comes
+/// again first.
+fn go_up(trace: &mut Trace, model: &Model) {
+    let greatest = model.standing.keys().next_back();
+    if let (None, Some(key @ 1..)) = (model.least_live(), greatest) {
+        let value = trace.dice.any_size();
+        trace.say(format!("N {key} {value}"));
+    }
+    trace.say("T");
 }
 
 /// A key near a dead one that does not stand, or a dead one if some tries give none.
@@ -62,7 +79,7 @@ fn shift(trace: &mut Trace) {
     }
     let left = trace.dice.between(20, 40);
     let reached = take_down_to(trace, left as usize);
-    for _ in 0..trace.dice.between(10, 20) {
+    for _ in 0..trace.dice.between(20, 40) {
         let (notes, further) = (trace.dice.between(1, 3), trace.dice.between(0, 2));
         (0..notes).for_each(|_| note(trace, reached));
         (0..notes + further).for_each(|_| trace.say("T"));
