@@ -50,7 +50,7 @@ all-stand (x ∷ row) = (
 )
 
 -- the last of some nodes is the only one with its cell
-last-keyOf : (y : Node) (pre rest : List Node) → Apart (y ∷ (pre ++ rest)) → keyOf (lastFrom y pre .cell) (y ∷ (pre ++ rest)) ≡ lastFrom y pre .key
+pub last-keyOf : (y : Node) (pre rest : List Node) → Apart (y ∷ (pre ++ rest)) → keyOf (lastFrom y pre .cell) (y ∷ (pre ++ rest)) ≡ lastFrom y pre .key
 unfolding lastFrom
 last-keyOf y [] rest o = keyOf-same (y .cell) y rest refl
 last-keyOf y (z ∷ pre) rest o =

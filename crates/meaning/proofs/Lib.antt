@@ -78,6 +78,7 @@ pub mod ShapeByKeys
 pub mod Writes
 pub mod Batch
 pub mod OwedCells
+pub mod FallsBack
 pub mod Promises
 pub mod AgainstSlips
 pub mod Examples

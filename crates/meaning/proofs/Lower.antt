@@ -16,19 +16,21 @@ use Rattle.meaning.specs.Keys.{coordinate, shared}
 use Rattle.meaning.specs.Row.{Node, headNode, firstSharing, Place, placesAfter, places, smallerThan}
 use Rattle.meaning.specs.State.{State}
 use Rattle.meaning.specs.Picture.{picture}
-use Rattle.meaning.specs.Words.{dimensionsAt}
+use Rattle.meaning.specs.Words.{keyAt, dimensionsAt}
 use Rattle.meaning.specs.Walk.{linkRead}
-use Rattle.meaning.specs.Lower.{wayFrom, lowerWay, lastGone, lowerFrom}
+use Rattle.meaning.specs.Lower.{wayFrom, lowerWay, lastGone, lowerFrom, lowerWayFor, lowerFor}
+use Rattle.meaning.specs.Layer.Resting.{rest}
+use Rattle.meaning.specs.declared.Rest.{Rest}
 use Rattle.meaning.proofs.AscendingRow.{Asc, asc-above}
 use Rattle.meaning.proofs.Keys.{shared-same, shared-less, ultra, coordinate-below, coordinate-less}
 use Rattle.meaning.proofs.State.{Sound, base-positive}
 use Rattle.meaning.proofs.Parent.{sharing-behind}
 use Rattle.meaning.proofs.Picture.{picture-dimensions}
-use Rattle.meaning.proofs.Placed.{Placed, Own, placed-has, placed-cell}
+use Rattle.meaning.proofs.Placed.{Placed, Own, placed-has, placed-cell, place-key}
 use Rattle.meaning.proofs.SentencesShape.{places-placed, placed-ascends}
 use Rattle.meaning.proofs.WalkRead.{settled-above}
 use Rattle.meaning.proofs.WalkRow.{last-bounded}
-use Rattle.meaning.proofs.WalkStop.{Hangs}
+use Rattle.meaning.proofs.WalkStop.{Hangs, Wanting, Moved, rests}
 use Rattle.meaning.proofs.Walk.{StandingPlace, Room, room-none, room-up, placed-stands}
 use Rattle.meaning.proofs.Smaller.{smaller-placed}
 
@@ -104,8 +106,11 @@ module _ (b D : ℕ) (pos : 0 < b) (R : Place → Type 0) (Q : Node → Type 0) 
           inl
           (record {
             leads = rw (ne-eqb s d n) (sharing-behind b D pos x d (y .key) later (omega arith) less (asc .1));
-            none = (n, all-map (λ z g i. let w = ultra b D x (y .key) (z .key) pos (omega arith) (omega arith) in omega arith) later
-                (asc-above (y .key) later (asc .1)));
+            none = (
+              n,
+              all-map (λ z g i. let w = ultra b D x (y .key) (z .key) pos (omega arith) (omega arith) in omega arith) later
+                  (asc-above (y .key) later (asc .1)),
+            );
           })
       go (no n) (no le) u further = let l = asc .0 in past (further (omega arith) (omega arith) (asc .1) (all .1) (q .1))
         where
@@ -321,3 +326,35 @@ module _ (s : State) (v : Sound s) (k : ℕ) {x : ℕ} {p : Place} (placed : Pla
       at : Dec (s .settings .dimensions ≤ number) → length (lowerWay (picture s) x number) ≤ s .settings .dimensions * (s .settings .base - 1)
       at (yes top) = omega (arith, way-lowest .none top)
       at (no under) = omega (arith, way-lowest .bounded (omega arith))
+
+-- From where the walk rests
+
+pub way-to-lower : (s : State) → Sound s → (k : ℕ) → 1 ≤ k → k ≤ s .settings .largest →
+    (lowerFor (picture s) k ≡ smallerThan k (s .row) .cell) × (length (lowerWayFor (picture s) k) ≤ s .settings .dimensions * (s .settings .base - 1))
+way-to-lower s v k least most = at (rests s v k least most)
+  where
+    r : Rest
+    r = rest (picture s) k
+
+    b : ℕ
+    b = s .settings .base
+
+    D : ℕ
+    D = s .settings .dimensions
+
+    Is : ℕ → ℕ → Type 0
+    Is x n = (lowerFrom (picture s) x (suc n) ≡ smallerThan k (s .row) .cell) × (length (lowerWay (picture s) x (suc n)) ≤ D * (b - 1))
+
+    is : {x n : ℕ} {p : Place} → Placed s x p → Hangs b D k p → n ≡ shared b D (p .node .key) k → Is x n
+    is {x} placed hangs e = subst (Is x) (sym e) (lower-is s v k placed hangs, lower-bounded s v k placed hangs)
+
+    at : Wanting s k r ⊎ Moved s k r →
+        (lowerFor (picture s) k ≡ smallerThan k (s .row) .cell) × (length (lowerWayFor (picture s) k) ≤ s .settings .dimensions * (s .settings .base - 1))
+    at (inl w) =
+        let below = w .hangs .below in
+        let key = place-key v (w .placed) in
+        rw (lt-ltb (keyAt (picture s) (r .at)) k (omega arith)) (is (w .placed) (w .hangs) (w .coordinate))
+    at (inr m) =
+        let reached = m .reached in
+        let key = place-key v (m .to-placed) in
+        rw (le-ltb (keyAt (picture s) (r .at)) k (omega arith)) (is (m .placed) (m .hangs) (m .number))

@@ -63,9 +63,10 @@ pub smaller-placed : {s : State} → Sound s → {x : ℕ} {p : Place} → Place
 unfolding places LastBelow lastFrom those
 smaller-placed {s} v here k h beyond =
     last-of (those (λ x. ltb (x .key) k) (s .row))
-    ∙ placed-has here (LastBelow k (s .row) headNode)
-    (λ l after. ap (lastFrom headNode) (those-none (λ y. ltb (y .key) k) (s .row) (all-map (λ y m. le-ltb (y .key) k m) (s .row) after)),
-    last-below (s .settings .base) (s .settings .dimensions) k headNode 0 (s .row) (v .ascends)) h beyond
+    ∙ placed-has here (LastBelow k (s .row) headNode) (
+      λ l after. ap (lastFrom headNode) (those-none (λ y. ltb (y .key) k) (s .row) (all-map (λ y m. le-ltb (y .key) k m) (s .row) after)),
+      last-below (s .settings .base) (s .settings .dimensions) k headNode 0 (s .row) (v .ascends),
+    ) h beyond
 
 -- It is the position's, where the position was moved back: on the words, the next smaller.
 pub split-next-smaller : (s : State) → Sound s → (pre : List Node) (x : Node) (post : List Node) → s .row ≡ pre ++ x ∷ post →

@@ -5,8 +5,9 @@ use mathlib.Core.List.{List, [], _∷_}
 use Prim.Native.Nat.{ℕ, zero, suc, _*_}
 use lib.Dec.{eqb, ltb}
 use lib.ListN.{length, getD}
-use Rattle.meaning.specs.Words.{dimensionsAt, baseAt}
+use Rattle.meaning.specs.Words.{keyAt, dimensionsAt, baseAt}
 use Rattle.meaning.specs.Walk.{linkRead}
+use Rattle.meaning.specs.Layer.Resting.{rest}
 
 -- the cells gone to from cell x where its link of number d leads to y, if `further` are those from a cell and a number on: along the link, or
 -- on with the next number where it leads nowhere
@@ -29,3 +30,15 @@ lastGone x cells = getD (x ∷ cells) (length cells) 0
 -- the last cell of the branch of x from link d on
 abbrev pub lowerFrom : List ℕ → ℕ → ℕ → ℕ
 lowerFrom ws x d = lastGone x (lowerWay ws x d)
+
+-- What is asked of the cell and the link from which the way for k starts: the cell from which k hangs, or would hang, and the link after that by
+-- which it does. Where the walk rests below k that is the link that it wants of the cell at hand; else it is the link of its last move.
+abbrev pub fromRest : {A : Type 0} → List ℕ → ℕ → (ℕ → ℕ → A) → A
+fromRest ws k asked =
+    cond (ltb (keyAt ws (rest ws k .at)) k) (asked (rest ws k .at) (suc (rest ws k .coordinate))) (asked (rest ws k .from) (suc (rest ws k .number)))
+
+abbrev pub lowerWayFor : List ℕ → ℕ → List ℕ
+lowerWayFor ws k = fromRest ws k (lowerWay ws)
+
+abbrev pub lowerFor : List ℕ → ℕ → ℕ
+lowerFor ws k = fromRest ws k (lowerFrom ws)

@@ -197,8 +197,12 @@ module _ {ws : List ℕ} {s : Settings} (h : Listed ws s) where
       (λ t v m q.
       let from = hangs-from t v k (h .least) m in
       let below = from .hangs .below in
-      omega (arith, found-from t k q .1, from .number,
-      shared-less (t .settings .base) (t .settings .dimensions) (from .place .node .key) k (dimensions-positive t v) (omega arith)))
+      omega (
+        arith,
+        found-from t k q .1,
+        from .number,
+        shared-less (t .settings .base) (t .settings .dimensions) (from .place .node .key) k (dimensions-positive t v) (omega arith),
+      ))
       (h .list) (h .most) (h .is)
 
   module _ {last at d : ℕ} (w : OnSomeWay ws last at d) where

@@ -1,6 +1,5 @@
 -- `insert::position_after` meets its contract: a key above the position's leaves it; else the search's way leads to the cell of next smaller key.
 use native.Mathlib.Omega.{arith}
-use borrow.Author.Needs.{needs}
 use Rattle.words.proofs.Listed.{listed-shaped}
 use Rattle.insert.proofs.Position.{position-stays, position-lowers}
 use Rattle.insert.proofs.position_after.Statement.{statement}

@@ -1,6 +1,6 @@
 -- `search::lower` meets its contract and ends: each turn goes one step of the way, and raises the number of the link at hand or the cell's digit
 -- there.
-use mathlib.Core.Path.{refl, sym, _∙_, subst}
+use mathlib.Core.Path.{sym, _∙_}
 use Prim.Native.Nat.{_+_, _*_, _-_, _≤_}
 use native.Mathlib.Nat.{mul-le-mul-right}
 use native.Mathlib.Numerals.{add-one}
