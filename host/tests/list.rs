@@ -100,7 +100,7 @@ fn late_note() {
     assert_eq!(position(&l), 0);
     assert_eq!(take(&mut l), taken(2, 20, 1));
     // a key above the position leaves it: 4, 5, 6 and 8 are passed again
-    assert_eq!(insert(&mut l, 9, 91), Ok(4));
+    assert_eq!(insert(&mut l, 9, 91), Ok(3));
     assert_eq!(position(&l), 2);
     assert_eq!(take(&mut l), taken(9, 91, 5));
 }
@@ -143,7 +143,7 @@ fn every_late_note_is_taken_next() {
         }
     }
     let seen = [new, revived, own, above_several];
-    assert!(seen.iter().all(|many| *many > 100), "{seen:?}");
+    assert!(seen.iter().all(|many| *many > 500), "{seen:?}");
 }
 
 /// The texts that the refusals of real calls show, and their numbers: docs/REFERENCE.md, *Refusals*.

@@ -32,10 +32,10 @@ fn position_after(list: &[u32], s: Settings, top: u32, key: u32, f: Found) -> u3
     requires { ⌜ Sought (now list) s key f × (top ≡ positionKey (read (now list))) ⌝ }
     ensures { λ r. ⌜ r ≡ positionAfter (read (now (list .entry))) key ⌝ }
 {
-    if top < key {
-        return words::position(list, s);
+    if key <= top {
+        return search::lower(list, s, f);
     }
-    search::lower(list, s, f)
+    words::position(list, s)
 }
 
 // The path of the position after the call, cell x, is written; a key above the position's key before the call, which is `top`, changes none.

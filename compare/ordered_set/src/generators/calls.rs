@@ -75,7 +75,6 @@ fn stage(trace: &mut Trace, keys: &[u32], letters: &[u8], most_calls: u32) {
 /// One of the keys as the letter says, or any of the list's own if there is none such.
 fn some_key(trace: &mut Trace, model: &Model, keys: &[u32], letter: u8) -> u32 {
     let dice = &mut trace.dice;
-    let own = |wanted: &dyn Fn(u32) -> bool| keys.iter().copied().filter(|&x| wanted(x)).collect();
     let standing = |wanted: fn(&Standing) -> bool| {
         let above_head = model.standing.range(1..);
         above_head.filter(|(_, at)| wanted(at)).map(|(&key, _)| key).collect::<Vec<u32>>()
@@ -86,7 +85,9 @@ fn some_key(trace: &mut Trace, model: &Model, keys: &[u32], letter: u8) -> u32 {
         b'o' => standing(|at| at.owes),
         b'n' => standing(|_| true),
         b'e' => vec![0, 1, largest, largest.saturating_add(1), u32::MAX],
-        b'i' if !dice.one_in(4) => own(&|key| !model.standing.contains_key(&key)),
+        b'i' if !dice.one_in(4) => {
+            keys.iter().copied().filter(|key| !model.standing.contains_key(key)).collect()
+        }
         _ => Vec::new(),
     };
     if wanted.is_empty() {

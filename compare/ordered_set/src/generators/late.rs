@@ -9,12 +9,12 @@ use super::Trace;
 use crate::model::{Mark, Model};
 use crate::settings::Settings;
 
-/// Dead keys that should stand up to the position before a late note comes.
+/// Dead keys that should stand up to the position before a note comes late.
 const SEVERAL: usize = 4;
 
 /// A key at or below the position: its own, another dead one or a new one; at times a take at
-/// once. Mostly near the position, so that dead keys are left below. While the position is the
-/// head there is no such key.
+/// once. Mostly near the position, so that dead keys are left below. Where too few are dead, or
+/// none is, the position goes up instead.
 pub fn late_note(trace: &mut Trace) {
     let Some(model) = trace.list() else {
         return;
@@ -24,18 +24,21 @@ pub fn late_note(trace: &mut Trace) {
     if dead.is_empty() || dead.len() < SEVERAL && !trace.dice.one_in(4) {
         return go_up(trace, &model);
     }
-    let dice = &mut trace.dice;
-    let from = if dice.one_in(4) { 0 } else { dead.len().saturating_sub(SEVERAL) };
-    let near = &dead[from..];
-    let key = match dice.below(8) {
-        0 => model.position,
-        1 | 2 => dice.pick(near),
-        _ => new_up_to_position(dice, &model, near),
-    };
-    let (value, take) = (dice.any_size(), dice.one_in(2));
+    let key = some_late_key(&mut trace.dice, &model, &dead);
+    let (value, take) = (trace.dice.any_size(), trace.dice.one_in(2));
     trace.say(format!("N {key} {value}"));
     if take {
         trace.say("T");
+    }
+}
+
+fn some_late_key(dice: &mut Dice, model: &Model, dead: &[u32]) -> u32 {
+    let from = if dice.one_in(4) { 0 } else { dead.len().saturating_sub(SEVERAL) };
+    let near = dice.pick(&dead[from..]);
+    match dice.below(8) {
+        0 => model.position,
+        1 | 2 => near,
+        _ => new_up_to_position(dice, model, near),
     }
 }
 
@@ -50,19 +53,18 @@ fn go_up(trace: &mut Trace, model: &Model) {
     trace.say("T");
 }
 
-/// A key near a dead one that does not stand, or a dead one if some tries give none.
-fn new_up_to_position(dice: &mut Dice, model: &Model, dead: &[u32]) -> u32 {
+/// A key that does not stand, near this dead one; or the dead one if some tries give none.
+fn new_up_to_position(dice: &mut Dice, model: &Model, near: u32) -> u32 {
     let is_new = |key: &u32| *key < model.position && !model.standing.contains_key(key);
-    let near = dice.pick(dead);
     let mut tried = (0..20).map(|_| neighbour(dice, &model.settings, near));
     tried.find(is_new).unwrap_or(near)
 }
 
-/// On the order program's list. In every shift notes come in and most are taken; then urgent
-/// ones come late, some at a time, and takes between them.
+/// On the order program's list. In every shift notes come and most are taken; then urgent ones
+/// come late, some at a time, and takes between them.
 ///
-/// No line depends on the position but right after a take, where it is the taken key. So two
-/// rules for the position after an insert get the same lines, and their sums of passed compare.
+/// The position is read right after a take alone, where it is the taken key. So every rule for
+/// the position after an insert gets the same lines, and sums of passed can be compared.
 pub fn schedule(trace: &mut Trace) {
     trace.make(&Settings::new(8, u32::MAX, 512).expect("settings in range"));
     while trace.goes_on() {
