@@ -1,2 +1,3 @@
 -- How the check reads a buffer, on the words.
 pub mod Tree
+pub mod Pending
