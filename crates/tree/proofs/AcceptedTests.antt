@@ -38,7 +38,7 @@ either true u e = inl refl
 either false u e = inr e
 
 -- a test that holds at each of n numbers from i on
-all-from : (test : ℕ → Bool) (i n d : ℕ) → allFrom test i n ≡ true → i ≤ d → d < i + n → test d ≡ true
+pub all-from : (test : ℕ → Bool) (i n d : ℕ) → allFrom test i n ≡ true → i ≤ d → d < i + n → test d ≡ true
 unfolding allFrom
 all-from test i zero d e h l = absurd (omega arith)
 all-from test i (suc n) d e h l = at (ℕ-discrete i d) (both (test i) (allFrom test (suc i) n) e) (all-from test (suc i) n d)

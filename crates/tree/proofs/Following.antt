@@ -92,7 +92,7 @@ along-once : (higher : ℕ → Seen → Seen) (ws : List ℕ) (e rest x : ℕ) (
 unfolding along
 along-once higher ws e rest x s = refl
 
-followed-once : (ws : List ℕ) (l : Link) (pending : List Link) (t : Seen) →
+pub followed-once : (ws : List ℕ) (l : Link) (pending : List Link) (t : Seen) →
     followedAll ws (l ∷ pending) t
     ≡ (let u = entered ws (l .cell) (l .number) t in cond (u .right) (followed (t .left) ws (putLinks ws (l .cell) (l .number) pending) u) u)
 unfolding followed

@@ -14,4 +14,5 @@ pub mod CompleteCell
 pub mod CompleteShown
 pub mod Complete
 pub mod Following
+pub mod Loop
 pub mod Tree
