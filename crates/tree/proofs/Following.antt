@@ -10,8 +10,8 @@ use Rattle.lists.proofs.Tests.{cond-has}
 use Rattle.meaning.specs.Words.{dimensionsAt, cellsAt}
 use Rattle.meaning.specs.Walk.{linkRead}
 use Rattle.tree.specs.declared.Seen.{Seen}
-use Rattle.tree.specs.Tree.{cellRight, wrong, entered, along, children, atHead, seenAll}
-use Rattle.tree.specs.Pending.{Link, put, putFrom, putLinks, followed}
+use Rattle.tree.specs.Tree.{cellRight, entered, along, children, atHead, seenAll}
+use Rattle.tree.specs.Pending.{Link, put, putFrom, putLinks, followed, followedAll}
 use Rattle.tree.proofs.AcceptedTests.{cell-right}
 
 -- The cells left
@@ -70,11 +70,7 @@ followed-enough (suc fuel) (suc more) ws (m ∷ pending) s h l =
     at true e on = let falls = entered-falls ws (m .cell) (m .number) s e in on t (omega arith) (omega arith)
     at false e on = refl
 
--- what is pending followed with cells enough
-abbrev pub followedAll : List ℕ → List Link → Seen → Seen
-followedAll ws pending s = followed (suc (s .left)) ws pending s
-
--- .. after something has been seen, if that is right
+-- What is pending followed after something has been seen, if that is right
 abbrev pub followedAfter : List ℕ → List Link → Seen → Seen
 followedAfter ws pending t = cond (t .right) (followedAll ws pending t) t
 

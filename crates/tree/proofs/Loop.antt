@@ -2,24 +2,23 @@
 -- A cell's links may be put once they and its debt are right; where it owes, its one link is followed at once, and the links that it is due
 -- are put with those of the cell that it owes from.
 use mathlib.Core.Path.{_≡_, refl, sym, ap, ap₂, _∙_}
-use mathlib.Core.Bool.{Bool, true, false, cond, _&&_, _||_, not, and-true, and-false, or-true, or-false, false≢true, true≢false}
-use mathlib.Core.List.{List, [], _∷_}
+use mathlib.Core.Bool.{Bool, true, false, cond, _&&_, _||_, not, and-true, and-false, or-true, or-false, false≢true}
+use mathlib.Core.List.{List, _∷_}
 use Prim.Native.Nat.{ℕ, zero, suc, _+_, _-_, _≤_, _<_}
-use native.Mathlib.Decide.{ℕ-discrete, decLt}
 use native.Mathlib.Omega.{arith}
 use lib.Dec.{eqb, ltb}
-use borrow.Author.Tests.{eqb-true, eqb-false, eq-eqb, ne-eqb, ltb-true}
+use borrow.Author.Tests.{eqb-true, eq-eqb, ne-eqb, ltb-true}
 use Rattle.lists.proofs.Tests.{both}
 use Rattle.meaning.specs.Row.{between}
 use Rattle.meaning.specs.Words.{owedAt, lowAt, highAt, linkAt, dimensionsAt, cellsAt, positionAt}
 use Rattle.meaning.specs.Walk.{linkRead}
 use Rattle.meaning.proofs.WalkRead.{between-is, between-below, read-unowing, read-above, read-through}
 use Rattle.tree.specs.declared.Seen.{Seen}
-use Rattle.tree.specs.Tree.{allFrom, follows, writesKey, nodeRight, dueTo, linksBelow, debtRight, agreedAt, cellAloneRight, cellRight, wrong, entered}
-use Rattle.tree.specs.Pending.{Link, put, putFrom, putLinks, followed}
-use Rattle.tree.specs.Loop.{aloneRight, metRight, met, hangsRight, linksNone, owesNothing, owesRight}
+use Rattle.tree.specs.Tree.{allFrom, follows, writesKey, nodeRight, dueTo, linksBelow, debtRight, agreedAt, cellRight, wrong, entered}
+use Rattle.tree.specs.Pending.{Link, put, putFrom, putLinks, followed, followedAll}
+use Rattle.tree.specs.Loop.{aloneRight, metRight, met, hangsRight, linksNone, owesNothing, owesRight, Hung, plain, owed, verdict, noList, leftOver}
 use Rattle.tree.proofs.AcceptedTests.{all-from}
-use Rattle.tree.proofs.Following.{followed-enough, entered-falls, followedAll, followed-once}
+use Rattle.tree.proofs.Following.{followed-enough, followed-once}
 
 -- Tests at each of some numbers
 
@@ -86,10 +85,7 @@ put-one : (link : ℕ → ℕ) (d : ℕ) (pending : List Link) → (link d ≡ 0
 unfolding putFrom
 put-one link d pending some = rw (ne-eqb (link d) 0 some) refl
 
--- How a cell y was met, by link e after cell x: by a link of its own number, or, where x owes, by the one link that x has.
-pub data Hung (ws : List ℕ) (x e from : ℕ) : Type 0 where
-  plain : owedAt ws x ≡ 0 → from ≡ e → Hung ws x e from
-  owed : (owedAt ws x ≡ 0 → ⊥) → from ≡ lowAt ws x → from < e → e ≡ highAt ws x → Hung ws x e from
+-- How a cell was met
 
 pub hung-least : {ws : List ℕ} {x e from : ℕ} → Hung ws x e from → from ≤ e
 hung-least (plain none same) = omega arith
@@ -165,15 +161,15 @@ put-free ws y e from pending none h l =
     ∙ ap (λ d. putFrom (linkAt ws y) d (D - e) (putFrom (linkAt ws y) from (e - from) pending)) next)
 
 -- what a cell that owes as it may says
-record Owes (ws : List ℕ) (y e : ℕ) : Type 0 where
-  some : owedAt ws y ≡ 0 → ⊥
-  low : lowAt ws y ≡ e
-  high : e < highAt ws y
-  inside : highAt ws y < dimensionsAt ws
-  cell : owedAt ws y < cellsAt ws
-  links : (d : ℕ) → d < dimensionsAt ws → linkAt ws y d ≡ cond (eqb d (highAt ws y)) (owedAt ws y) 0
+pub record Owes (ws : List ℕ) (y e : ℕ) : Type 0 where
+  pub some : owedAt ws y ≡ 0 → ⊥
+  pub low : lowAt ws y ≡ e
+  pub high : e < highAt ws y
+  pub inside : highAt ws y < dimensionsAt ws
+  pub cell : owedAt ws y < cellsAt ws
+  pub links : (d : ℕ) → d < dimensionsAt ws → linkAt ws y d ≡ cond (eqb d (highAt ws y)) (owedAt ws y) 0
 
-owes-told : (ws : List ℕ) (y e : ℕ) → owesRight ws y e ≡ true → Owes ws y e
+pub owes-told : (ws : List ℕ) (y e : ℕ) → owesRight ws y e ≡ true → Owes ws y e
 unfolding owesRight
 owes-told ws y e t =
     let link : ℕ → Bool = λ d. eqb (linkAt ws y d) (cond (eqb d (highAt ws y)) (owedAt ws y) 0) in
@@ -221,18 +217,6 @@ put-owing ws y e pending o =
     positive : (n : ℕ) → (n ≡ 0 → ⊥) → 0 < n
     positive zero ne = absurd (ne refl)
     positive (suc n) ne = omega arith
-
--- The verdict: what has been seen, if that is right.
-abbrev pub verdict : Seen → Seen
-verdict t = cond (t .right) t (record { right = false; left = 0; last = 0; agreed = 0; reached = false })
-
-abbrev pub noList : Seen
-noList = record { right = false; left = 0; last = 0; agreed = 0; reached = false }
-
--- What is left to do when cell y has been met by link e after cell x, with these links pending
-abbrev pub leftOver : List ℕ → ℕ → ℕ → ℕ → ℕ → List Link → Seen → Seen
-leftOver ws x y e from pending s =
-    cond (hangsRight ws x y e) (followedAll ws (putLinks ws y e (putFrom (linkAt ws y) from (e - from) pending)) s) (wrong s)
 
 module _ (ws : List ℕ) {x e from : ℕ} (h : Hung ws x e from) (y : ℕ) (inside : e ≤ dimensionsAt ws) (pending : List Link) (s : Seen) where
   -- its links are wrong

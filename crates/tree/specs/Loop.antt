@@ -1,13 +1,15 @@
 -- The parts of the check's one loop, on the words: a cell is tested when it is met, by its key, mark, value and path; and once more when its
 -- links are put, by those links and its debt. `from` is the least number by which it may have a link: the number by which it was met, or,
 -- where the cell read before owes from it, that cell's low.
+use mathlib.Core.Path.{_≡_}
 use mathlib.Core.Bool.{Bool, true, false, cond, _&&_, _||_, not}
 use mathlib.Core.List.{List}
-use Prim.Native.Nat.{ℕ, _-_}
+use Prim.Native.Nat.{ℕ, _-_, _<_}
 use lib.Dec.{eqb, ltb}
 use Rattle.meaning.specs.Words.{owedAt, lowAt, highAt, linkAt, dimensionsAt, cellsAt, positionAt}
 use Rattle.tree.specs.declared.Seen.{Seen}
-use Rattle.tree.specs.Tree.{allFrom, follows, writesKey, nodeRight, linksBelow, debtRight, agreedAt}
+use Rattle.tree.specs.Tree.{allFrom, follows, writesKey, nodeRight, linksBelow, debtRight, agreedAt, wrong}
+use Rattle.tree.specs.Pending.{Link, putFrom, putLinks, followedAll}
 
 -- cell y, met by link e after what has been seen, is right but for its links and its debt
 abbrev pub aloneRight : List ℕ → ℕ → ℕ → Seen → Bool
@@ -43,3 +45,20 @@ owesRight ws y e =
     && (ltb (highAt ws y) (dimensionsAt ws)
     && (ltb (owedAt ws y) (cellsAt ws)
     && allFrom (λ d. eqb (linkAt ws y d) (cond (eqb d (highAt ws y)) (owedAt ws y) 0)) 0 (dimensionsAt ws)))))
+
+-- How a cell was met by link e after cell x: by a link of its own number, or, where x owes, by the one link that x has.
+pub data Hung (ws : List ℕ) (x e from : ℕ) : Type 0 where
+  plain : owedAt ws x ≡ 0 → from ≡ e → Hung ws x e from
+  owed : (owedAt ws x ≡ 0 → ⊥) → from ≡ lowAt ws x → from < e → e ≡ highAt ws x → Hung ws x e from
+
+-- what is left to do when cell y has been met by link e after cell x, with these links pending
+abbrev pub leftOver : List ℕ → ℕ → ℕ → ℕ → ℕ → List Link → Seen → Seen
+leftOver ws x y e from pending s =
+    cond (hangsRight ws x y e) (followedAll ws (putLinks ws y e (putFrom (linkAt ws y) from (e - from) pending)) s) (wrong s)
+
+-- The verdict: what has been seen, if that is right.
+abbrev pub noList : Seen
+noList = record { right = false; left = 0; last = 0; agreed = 0; reached = false }
+
+abbrev pub verdict : Seen → Seen
+verdict t = cond (t .right) t noList

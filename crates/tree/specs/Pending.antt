@@ -38,3 +38,7 @@ followedOn further ws (l ∷ pending) s =
 unfoldable pub followed : ℕ → List ℕ → List Link → Seen → Seen
 followed zero ws pending s = wrong s
 followed (suc fuel) ws pending s = followedOn (followed fuel ws) ws pending s
+
+-- .. with cells enough
+abbrev pub followedAll : List ℕ → List Link → Seen → Seen
+followedAll ws pending s = followed (suc (s .left)) ws pending s
