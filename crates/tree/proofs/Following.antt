@@ -75,7 +75,7 @@ abbrev pub followedAfter : List ℕ → List Link → Seen → Seen
 followedAfter ws pending t = cond (t .right) (followedAll ws pending t) t
 
 -- one step of each
-put-once : (link : ℕ → ℕ) (d n : ℕ) (pending : List Link) → putFrom link d (suc n) pending ≡ putFrom link (suc d) n (put (link d) d pending)
+pub put-once : (link : ℕ → ℕ) (d n : ℕ) (pending : List Link) → putFrom link d (suc n) pending ≡ putFrom link (suc d) n (put (link d) d pending)
 unfolding putFrom
 put-once link d n pending = refl
 

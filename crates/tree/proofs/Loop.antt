@@ -51,7 +51,7 @@ all-append test i (suc m) n =
 
 -- Links that are put
 
-put-zero : (link : ℕ → ℕ) (d : ℕ) (pending : List Link) → putFrom link d 0 pending ≡ pending
+pub put-zero : (link : ℕ → ℕ) (d : ℕ) (pending : List Link) → putFrom link d 0 pending ≡ pending
 unfolding putFrom
 put-zero link d pending = refl
 
@@ -143,7 +143,7 @@ debt-tested {ws} {x} {e} {from} h y some = at (eqb (owedAt ws y) 0) (eqb (lowAt 
     at true z f = f ∙ sym (and-false (eqb from e))
     at false z f = ap (λ t. t && more) (before h)
 
-owes-none : (ws : List ℕ) (y : ℕ) → owesNothing ws y ≡ true → owedAt ws y ≡ 0
+pub owes-none : (ws : List ℕ) (y : ℕ) → owesNothing ws y ≡ true → owedAt ws y ≡ 0
 unfolding owesNothing
 owes-none ws y t = eqb-true (owedAt ws y) 0 (both (eqb (owedAt ws y) 0) (eqb (lowAt ws y) 0 && eqb (highAt ws y) 0) t .0)
 

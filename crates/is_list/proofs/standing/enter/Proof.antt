@@ -5,24 +5,23 @@ use mathlib.Core.Path.{_≡_}
 use native.Mathlib.Omega.{arith}
 use borrow.Author.Needs.{needs}
 use Rattle.words.proofs.Shaped.{shaped-dimensions}
-use Rattle.tree.specs.Tree.{cellAloneRight}
+use Rattle.tree.specs.Loop.{aloneRight}
 use Rattle.cell_tests.proofs.Tests.{holds, lacks}
 use Rattle.cell_tests.proofs.OneCell.{alone}
-use Rattle.is_list.proofs.InOrder.{enter-not, enter-lost, enter-position, enter-other, entered-wrong, entered-right}
+use Rattle.is_list.proofs.InOrder.{enter-not, enter-lost, enter-position, enter-other}
 use Rattle.is_list.proofs.standing.enter.Statement.{statement}
 use Rattle.is_list.proofs.standing.enter.Tie as tie
 
 -- the cell was found right
-right : (c : tie.Else1) → let a = c .before .before .before .args in cellAloneRight (a .list .now) (a .y) (a .e) (a .seen) ≡ true
-right c = holds (c .before .cell-alone-right .ensures) (c .if1 .left)
+right : (c : tie.Else1) → let a = c .before .before .before .args in aloneRight (a .list .now) (a .y) (a .e) (a .seen) ≡ true
+right c = holds (c .before .alone-right .ensures) (c .if1 .left)
 
 returns : tie.Need-returns
 returns c =
-    let t = c .before .before .cell-alone-right in
+    let t = c .before .before .alone-right in
     let s = c .before .before .before .before in
     let a = s .args in
-    entered-wrong (s .pre .0) (a .y) (a .e) (a .seen) (s .pre .1 .1 .1) (c .wrong .ensures)
-    (enter-not (a .list .now) (a .y) (a .e) (a .seen) (lacks (t .ensures) (c .before .if1 .taken)))
+    enter-not (s .pre .0) (a .y) (a .e) (a .seen) (lacks (t .ensures) (c .before .if1 .taken)) (c .wrong .ensures)
 
 sub-left : tie.Need-sub-left
 sub-left c =
@@ -35,8 +34,7 @@ returns-2 c =
     let a = s .args in
     let r = right (c .before .before .before .before .before .before .before) in
     let d = shaped-dimensions (s .pre .0) in
-    entered-wrong (s .pre .0) (a .y) (a .e) (a .seen) (s .pre .1 .1 .1) (c .wrong2 .ensures)
-    (enter-lost (a .list .now) (a .y) (a .e) (a .seen) r (omega arith) (λ e. omega arith))
+    enter-lost (s .pre .0) (a .y) (a .e) (a .seen) r (omega arith) (λ e. omega arith) (c .wrong2 .ensures)
 
 returns-3 : tie.Need-returns-3
 returns-3 c =
@@ -45,8 +43,7 @@ returns-3 c =
     let r = right (c .before .before .before .before .before .before) in
     let d = shaped-dimensions (s .pre .0) in
     let g = c .before .before .before .before .before .agreed-at .ensures in
-    entered-right (s .pre .0) (a .y) (a .e) (a .seen) (s .pre .1 .1 .1) r (g .1)
-    (enter-position (a .list .now) (a .y) (a .e) (a .seen) r (omega arith) (g .0) (omega arith))
+    enter-position (s .pre .0) (a .y) (a .e) (a .seen) r (omega arith) (g .0) (g .1) (omega arith)
 
 returns-4 : tie.Need-returns-4
 returns-4 c =
@@ -54,8 +51,7 @@ returns-4 c =
     let a = s .args in
     let r = right (c .before .before .before .before) in
     let g = c .before .before .before .agreed-at .ensures in
-    entered-right (s .pre .0) (a .y) (a .e) (a .seen) (s .pre .1 .1 .1) r (g .1)
-    (enter-other (a .list .now) (a .y) (a .e) (a .seen) r (λ e. omega arith) (g .0))
+    enter-other (s .pre .0) (a .y) (a .e) (a .seen) r (λ e. omega arith) (g .0) (g .1)
 
 pub enter-spec : {M : Type 1} → statement M
 enter-spec =
