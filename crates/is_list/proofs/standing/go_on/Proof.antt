@@ -1,6 +1,6 @@
 -- `is_list::standing::go_on` meets its contract: its links and its debt decide what comes after a cell; where it owes nothing, its links are put and the
 -- last of those pending is taken off.
-use mathlib.Core.Path.{refl, sym}
+use mathlib.Core.Path.{refl}
 use native.Mathlib.Omega.{arith}
 use borrow.Author.Needs.{needs}
 use Rattle.cell_tests.proofs.Tests.{holds, lacks}

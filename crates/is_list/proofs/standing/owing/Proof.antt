@@ -1,5 +1,4 @@
 -- `is_list::standing::owing` meets its contract: the two tests are those of the definition.
-use mathlib.Core.Path.{refl, sym}
 use native.Mathlib.Omega.{arith}
 use borrow.Author.Needs.{needs}
 use Rattle.cell_tests.proofs.Tests.{holds, lacks}

@@ -1,7 +1,6 @@
 -- `is_list::standing::read` meets its contract and ends: at each turn what is left to do at the cell read last comes to the same verdict as all of it at
 -- the head, and each turn reads a cell more.
 use mathlib.Core.Path.{refl}
-use native.Mathlib.Omega.{arith}
 use borrow.Author.Needs.{needs}
 use borrow.Author.Tests.{not-true, not-false}
 use Rattle.tree.proofs.Loop.{hung-least}
