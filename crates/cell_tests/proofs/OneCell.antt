@@ -13,16 +13,16 @@ use borrow.Author.Tests.{ltb-true, lt-ltb, le-ltb, le-leb, lt-leb, eq-eqb, ne-eq
 use borrow.Rule.Slice.PartMut.{midOf}
 use Rattle.settings.specs.Numbers.{fieldsBeforeCoordinates}
 use Rattle.settings.specs.declared.Settings.{Settings}
-use Rattle.meaning.specs.Words.{wordIndex, keyAt, valueAt, markAt, owedAt, lowAt, highAt, coordinateAt, dimensionsAt, largestAt, cellsAt}
+use Rattle.meaning.specs.Words.{wordIndex, keyAt, valueAt, markAt, owedAt, lowAt, highAt, coordinateAt, linkAt, dimensionsAt, largestAt, cellsAt}
 use Rattle.words.specs.Shaped.{Shaped}
 use Rattle.words.proofs.Shaped.{shaped-dimensions, shaped-base, part-coordinates}
 use Rattle.tree.specs.declared.Seen.{Seen}
-use Rattle.tree.specs.Tree.{allBelow, written, writesKey, follows, nodeRight}
-use Rattle.tree.specs.Loop.{aloneRight, owesNothing, owesRight}
+use Rattle.tree.specs.Tree.{allFrom, allBelow, written, writesKey, follows, nodeRight}
+use Rattle.tree.specs.Loop.{aloneRight, linksNone, owesNothing, owesRight}
 use Rattle.tree.proofs.AcceptedTests.{joined-all}
 use Rattle.tree.proofs.Loop.{Owes, owes-told}
 use Rattle.cell_tests.specs.Tests.{onlyLink}
-use Rattle.cell_tests.proofs.Tests.{refuted}
+use Rattle.cell_tests.proofs.Tests.{refuted, all-start}
 
 -- Coordinates
 
@@ -106,6 +106,12 @@ module _ (ws : List ℕ) (y : ℕ) (reached : Bool) where
   pub node-neither : (markAt ws y ≡ 2 → ⊥) → (markAt ws y ≡ 1 → ⊥) → nodeRight ws y reached ≡ false
   unfolding nodeRight
   node-neither dead live = rw (ne-eqb (markAt ws y) 2 dead, ne-eqb (markAt ws y) 1 live, and-false) refl
+
+-- The links below a number
+
+pub links-start : (ws : List ℕ) (y n : ℕ) → linksNone ws y n ≡ allFrom (λ i. eqb (linkAt ws y i) 0) 0 (n - 0)
+unfolding linksNone
+links-start ws y n = all-start (λ i. eqb (linkAt ws y i) 0) n
 
 -- The debt
 

@@ -14,11 +14,10 @@ use borrow.Rule.Slice.PartMut.{midOf}
 use Rattle.settings.specs.Numbers.{cellWords}
 use Rattle.settings.specs.declared.Settings.{Settings}
 use Rattle.lists.specs.Zeros.{allZero}
-use Rattle.meaning.specs.Words.{wordIndex, wordAt, keyAt, valueAt, markAt, coordinateAt, linkAt, dimensionsAt, cellsAt}
+use Rattle.meaning.specs.Words.{wordIndex, wordAt, keyAt, valueAt, markAt, coordinateAt, dimensionsAt, cellsAt}
 use Rattle.words.specs.Shaped.{Shaped}
 use Rattle.words.proofs.Shaped.{shaped-dimensions, shaped-cells, part-inside, part-words}
 use Rattle.tree.specs.Tree.{allFrom, headRight, freeRight}
-use Rattle.tree.specs.Loop.{linksNone}
 use Rattle.tree.proofs.AcceptedTests.{Head, head-right}
 
 -- Tests
@@ -135,14 +134,3 @@ free-zero {ws} {s} h {c} hc p q =
     let n : cellWords (s .dimensions) - 1 ≡ cellWords (dimensionsAt ws) - 1 = omega (arith, shaped-dimensions h) in
     rw (lt-ltb c (cellsAt ws) inside)
     (sym (zero-fields h hc 1 (cellWords (s .dimensions) - 1) (omega arith) p q ∙ ap (allFrom (λ i. eqb (wordAt ws c i) 0) 1) n))
-
--- The links of a cell below a number
-
-pub links-zero :
-    {ws : List ℕ} {s : Settings} → Shaped ws s → {y : ℕ} → y < s .cells → (n : ℕ) → n ≤ s .dimensions → {start end : ℕ} →
-    start ≡ wordIndex (s .dimensions) y (6 + s .dimensions) → end ≡ start + n → linksNone ws y n ≡ allZero (midOf start (end - start) ws)
-unfolding linksNone
-links-zero {ws} {s} h {y} hy n hn p q =
-    all-shift (λ d. eqb (linkAt ws y d) 0) (λ i. eqb (wordAt ws y i) 0) n 0 (6 + s .dimensions)
-    (λ k. ap (λ i. eqb (wordAt ws y i) 0) (omega (arith, shaped-dimensions h)))
-    ∙ sym (zero-fields h hy (6 + s .dimensions) n (omega arith) p q)

@@ -83,9 +83,14 @@ pub fn links_none(list: &[u32], s: Settings, y: u32, n: u32) -> bool
     requires { ⌜ Shaped (now list) s × ((y < s .cells) × (n ≤ s .dimensions)) ⌝ }
     ensures { λ r. ⌜ r ≡ linksNone (now (list .entry)) y n ⌝ }
 {
-    let start = words::word_index(s, y, words::COORDINATES + s.dimensions);
-    let end = start + n as usize;
-    lists::all_zero(&list[start..end])
+    let mut d: u32 = 0;
+    while d < n {
+        if words::link(list, s, y, d) != 0 {
+            return false;
+        }
+        d += 1;
+    }
+    true
 }
 
 // Whether cell y owes nothing, and its low and high are 0.

@@ -1,27 +1,48 @@
--- `cell_tests::standing::links_none` meets its contract: the links below the number, lent as a part, decide.
-use mathlib.Core.Path.{sym, _∙_}
-use Prim.Native.Nat.{_+_}
+-- `cell_tests::standing::links_none` meets its contract: the links from d on that are still to be tested decide as all of them do.
+use mathlib.Core.Path.{_≡_, sym, _∙_}
+use Prim.Native.Nat.{_-_, _≤_}
 use native.Mathlib.Omega.{arith}
+use lib.Dec.{eqb}
 use borrow.Author.Needs.{needs}
-use Rattle.words.proofs.Shaped.{part-inside}
-use Rattle.cell_tests.proofs.Tests.{links-zero}
+use borrow.Author.Tests.{eq-eqb, ne-eqb}
+use Rattle.meaning.specs.Words.{linkAt}
+use Rattle.tree.specs.Tree.{allFrom}
+use Rattle.tree.specs.Loop.{linksNone}
+use Rattle.cell_tests.proofs.Tests.{all-next, all-fails, all-done}
+use Rattle.cell_tests.proofs.OneCell.{links-start}
 use Rattle.cell_tests.proofs.standing.links_none.Statement.{statement}
 use Rattle.cell_tests.proofs.standing.links_none.Tie as tie
 
-part-all-zero-end : tie.Need-part-all-zero-end
-part-all-zero-end c =
-    let s = c .before .before .before in
-    let a = s .args in
-    omega (arith, part-inside (s .pre .0) (s .pre .1 .0) (6 + a .s .dimensions) (a .n) (omega (arith, s .pre .1 .1)), c .word-index .ensures .0)
+abbrev Inv-loop : tie.InvT-loop
+Inv-loop list s y n d₀ d = (d ≤ n) × (linksNone list y n ≡ allFrom (λ i. eqb (linkAt list y i) 0) d (n - d))
 
-returns : tie.Need-returns
+abbrev μ-loop : tie.MeasureT-loop
+μ-loop list s y n d₀ d = n - d
+
+loop-holds : tie.Need-loop-holds Inv-loop μ-loop
+loop-holds c = let a = c .before .args in (search needs, links-start (a .list .now) (a .y) (a .n))
+
+returns : tie.Need-returns Inv-loop μ-loop
 returns c =
-    let s = c .before .before .before .before .before in
-    let start = c .before .before .word-index .ensures .0 in
-    c .all-zero .ensures ∙ sym (links-zero (s .pre .0) (s .pre .1 .0) (s .args .n) (s .pre .1 .1) start (omega arith))
+    let v = c .before .before .before .loop in
+    let a = c .before .before .before .before .before .args in
+    let some = ne-eqb (linkAt (a .list .now) (a .y) (v .d)) 0 (λ e. omega arith) in
+    sym (v .inv .1 ∙ all-fails (λ i. eqb (linkAt (a .list .now) (a .y) i) 0) (omega arith) some)
+
+loop-again : tie.Need-loop-again Inv-loop μ-loop
+loop-again c =
+    let v = c .before .before .before .loop in
+    let a = c .before .before .before .before .before .args in
+    let none = eq-eqb (linkAt (a .list .now) (a .y) (v .d)) 0 (omega arith) in
+    (search needs, v .inv .1 ∙ all-next (λ i. eqb (linkAt (a .list .now) (a .y) i) 0) (omega arith) none)
+
+returns-2 : tie.Need-returns-2 Inv-loop μ-loop
+returns-2 c =
+    let v = c .before .loop in
+    let a = c .before .before .before .args in
+    sym (v .inv .1 ∙ all-done (λ i. eqb (linkAt (a .list .now) (a .y) i) 0) (omega arith))
 
 pub links-none-spec : {M : Type 1} → statement M
 links-none-spec =
     tie.close
-    (tie.spec (λ c. search needs) (λ c κs. search needs) (λ c. search needs) (λ c. search needs) (λ c. search needs) (λ c. search needs) part-all-zero-end
-    (λ c κs. search needs) returns)
+    (tie.spec Inv-loop μ-loop loop-holds (λ c κs. search needs) returns (λ c. search needs) (λ c. search needs) loop-again returns-2)
