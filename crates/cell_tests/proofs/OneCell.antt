@@ -3,14 +3,15 @@ use mathlib.Core.Path.{_≡_, refl, sym}
 use mathlib.Core.Bool.{Bool, true, false, _&&_, and-false, or-false}
 use mathlib.Core.List.{List, [], _∷_}
 use Prim.Native.Nat.{ℕ, suc, _+_, _*_, _-_, _^_, _≤_, _<_}
-use native.Mathlib.Nat.{le-refl, mul-le-mul, mul-one}
+use native.Mathlib.Nat.{le-refl, mul-le-mul, suc-mul, pow-le-pow-right}
+use Rattle.settings.proofs.Numbers.{power-more}
 use native.Mathlib.Numerals.{add-one}
 use native.Mathlib.Omega.{arith}
 use lib.Dec.{eqb, ltb}
 use lib.ListN.{length, getD, drop, drop-of-length-le}
 use lib.Seq.{drop-cons}
 use borrow.Author.Tests.{ltb-true, lt-ltb, le-ltb, le-leb, lt-leb, eq-eqb, ne-eqb}
-use borrow.Rule.Slice.PartMut.{midOf}
+use borrow.Rule.Slice.PartMut.{midOf, mid-len}
 use Rattle.settings.specs.Numbers.{fieldsBeforeCoordinates}
 use Rattle.settings.specs.declared.Settings.{Settings}
 use Rattle.meaning.specs.Words.{wordIndex, keyAt, valueAt, markAt, owedAt, lowAt, highAt, coordinateAt, linkAt, dimensionsAt, largestAt, cellsAt}
@@ -34,25 +35,10 @@ sameCoordinate ws x y d = eqb (coordinateAt ws y d) (coordinateAt ws x d)
 abbrev pub writesAfter : ℕ → ℕ → ℕ → List ℕ → Bool
 writesAfter b key n xs = allBelow b xs && eqb (written b n xs) key
 
--- what is written is at least the number already read
-written-least : (b n : ℕ) (xs : List ℕ) → 0 < b → n ≤ written b n xs
-unfolding written
-written-least b n [] h = le-refl n
-written-least b n (x ∷ xs) h =
-    let m : n * 1 ≤ n * b = mul-le-mul (le-refl n) h in
-    omega (arith, mul-one n, written-least b (n * b + x) xs h)
-
 module _ (b key n : ℕ) (part : List ℕ) {i : ℕ} where
   pub key-high : i < length part → b ≤ getD part i 0 → writesAfter b key n (drop i part) ≡ false
   unfolding allBelow
   key-high h high = rw (drop-cons part i 0 h, le-ltb (getD part i 0) b high) refl
-
-  pub key-above : i < length part → 0 < b → key < n * b + getD part i 0 → writesAfter b key n (drop i part) ≡ false
-  unfolding written
-  key-above h pos above =
-      let m = n * b + getD part i 0 in
-      let least = written-least b m (drop (suc i) part) pos in
-      rw (drop-cons part i 0 h, ne-eqb (written b m (drop (suc i) part)) key (λ e. omega arith), and-false) refl
 
   pub key-more :
       i < length part → getD part i 0 < b →
@@ -64,13 +50,25 @@ module _ (b key n : ℕ) (part : List ℕ) {i : ℕ} where
   unfolding allBelow written
   key-end h = rw (drop-of-length-le part h) refl
 
--- a number that is at most the key, times b, with one coordinate more, fits 64 bits
-pub product-fits : {b key n : ℕ} → n ≤ key → key < 2 ^ 32 → b < 2 ^ 32 → n * b ≤ 18446744065119617025
-product-fits {b} {key} {n} hn hk hb =
-    let hn' : n ≤ 4294967295 = omega arith in
-    let hb' : b ≤ 4294967295 = omega arith in
-    let m : n * b ≤ 4294967295 * 4294967295 = mul-le-mul hn' hb' in
-    omega arith
+-- after one coordinate more the number is below the next power of b, which fits where the last one does
+pub power-next : {b n x : ℕ} (i : ℕ) → n < b ^ i → x < b → n * b + x < b ^ (i + 1)
+power-next {b} {n} {x} i h l =
+    let m : suc n * b ≤ b ^ i * b = mul-le-mul h (le-refl b) in
+    omega (arith, l, suc-mul n b, power-more b i refl)
+
+pub next-fits : {b n x i : ℕ} (m : ℕ) → n < b ^ i → x < b → i < m → b ^ m < 2 ^ 64 → n * b + x < 2 ^ 64
+next-fits {b} {n} {x} {i} m h l inside fits =
+    let some : 0 < b = omega arith in
+    let more : i + 1 ≤ m = omega arith in
+    omega (arith, power-next i h l, pow-le-pow-right some more)
+
+pub power-written :
+    (ws : List ℕ) (s : Settings) (y : ℕ) {start end : ℕ} → start ≡ wordIndex (s .dimensions) y fieldsBeforeCoordinates → end ≡ start + s .dimensions →
+    wordIndex (s .dimensions) y fieldsBeforeCoordinates + s .dimensions ≤ length ws → s .base ^ s .dimensions < 2 ^ 64 →
+    s .base ^ length (midOf start (end - start) ws) < 2 ^ 64
+power-written ws s y {start} {end} p q inside fits =
+    let long : length (midOf start (end - start) ws) ≡ s .dimensions = omega (arith, mid-len start end ws (omega arith)) in
+    rw long fits
 
 -- the coordinate words of cell y, lent as the part from `start` to `end`
 pub key-written :

@@ -1,8 +1,9 @@
 // Whether one standing cell is right: when it is met by a link, after the cell that was read before it, and when its links are put.
 ghost use mathlib.Core.Path.{_≡_};
 ghost use mathlib.Core.Bool.{_&&_};
-ghost use Prim.Native.Nat.{_≤_, _<_};
+ghost use Prim.Native.Nat.{_^_, _≤_, _<_};
 ghost use lib.Dec.{eqb};
+ghost use lib.ListN.{length};
 ghost use Rattle.words.specs.Shaped.{Shaped};
 ghost use Rattle.tree.specs.Tree.{allBelow, written, writesKey, follows, nodeRight};
 ghost use Rattle.tree.specs.Loop.{aloneRight, linksNone, owesNothing, owesRight};
@@ -10,10 +11,10 @@ ghost use Rattle.cell_tests.specs.Tests.{onlyLink};
 use settings::Settings;
 use tree::Seen;
 
-// Whether a cell's coordinate words, lent as a part, are each below b and write the key. The number read so far stops as soon as it is
-// above the key, so it fits.
+// Whether a cell's coordinate words, lent as a part, are each below b and write the key. After i words the number is below b to the power i,
+// so it fits, and nothing but the words is tested on the way.
 fn writes_key(part: &[u32], b: u32, key: u32) -> bool
-    requires { ⌜ 0 < b ⌝ }
+    requires { ⌜ b ^ length (now part) < 2 ^ 64 ⌝ }
     ensures { λ r. ⌜ r ≡ (allBelow b (now (part .entry)) && eqb (written b 0 (now (part .entry))) key) ⌝ }
 {
     let top = key as u64;
@@ -26,9 +27,6 @@ fn writes_key(part: &[u32], b: u32, key: u32) -> bool
             return false;
         }
         n = n * base + digit as u64;
-        if top < n {
-            return false;
-        }
         i += 1;
     }
     n == top
@@ -36,7 +34,7 @@ fn writes_key(part: &[u32], b: u32, key: u32) -> bool
 
 // Whether the coordinate words of cell y are its key's coordinates.
 fn cell_writes_key(list: &[u32], s: Settings, y: u32) -> bool
-    requires { ⌜ Shaped (now list) s × ((y < s .cells) × (0 < s .base)) ⌝ }
+    requires { ⌜ Shaped (now list) s × ((y < s .cells) × (s .base ^ s .dimensions < 2 ^ 64)) ⌝ }
     ensures { λ r. ⌜ r ≡ writesKey (now (list .entry)) y ⌝ }
 {
     let start = words::word_index(s, y, words::COORDINATES);
@@ -150,7 +148,7 @@ pub fn owes_right(list: &[u32], s: Settings, y: u32, e: u32) -> bool
 
 // Whether cell y, met by link e, is right after what has been seen, but for the path, its links and its debt.
 pub fn alone_right(list: &[u32], s: Settings, y: u32, e: u32, seen: Seen) -> bool
-    requires { ⌜ Shaped (now list) s × ((0 < s .base) × ((e < s .dimensions) × (seen .last < s .cells))) ⌝ }
+    requires { ⌜ Shaped (now list) s × ((s .base ^ s .dimensions < 2 ^ 64) × ((e < s .dimensions) × (seen .last < s .cells))) ⌝ }
     ensures { λ r. ⌜ r ≡ aloneRight (now (list .entry)) y e seen ⌝ }
 {
     if seen.left == 0 {
