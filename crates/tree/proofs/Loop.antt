@@ -10,11 +10,11 @@ use lib.Dec.{eqb, ltb}
 use borrow.Author.Tests.{eqb-true, eq-eqb, ne-eqb, ltb-true}
 use Rattle.lists.proofs.Tests.{both}
 use Rattle.meaning.specs.Row.{between}
-use Rattle.meaning.specs.Words.{owedAt, lowAt, highAt, linkAt, dimensionsAt, cellsAt, positionAt}
+use Rattle.meaning.specs.Words.{owedAt, lowAt, highAt, linkAt, dimensionsAt, cellsAt}
 use Rattle.meaning.specs.Walk.{linkRead}
 use Rattle.meaning.proofs.WalkRead.{between-is, between-below, read-unowing, read-above, read-through}
 use Rattle.tree.specs.declared.Seen.{Seen}
-use Rattle.tree.specs.Tree.{allFrom, follows, writesKey, nodeRight, dueTo, linksBelow, debtRight, agreedAt, cellRight, wrong, entered}
+use Rattle.tree.specs.Tree.{allFrom, follows, writesKey, nodeRight, dueTo, linksBelow, debtRight, pathRight, cellRight, wrong, entered}
 use Rattle.tree.specs.Pending.{Link, put, putFrom, putLinks, followed, followedAll}
 use Rattle.tree.specs.Loop.{aloneRight, metRight, met, hangsRight, linksNone, owesNothing, owesRight, Hung, plain, owed, verdict, noList, leftOver}
 use Rattle.tree.proofs.AcceptedTests.{all-from}
@@ -276,7 +276,7 @@ cell-parts : (ws : List ℕ) (y e : ℕ) (s : Seen) → cellRight ws y e s ≡ m
 unfolding cellRight metRight
 cell-parts ws y e s =
     regroup (ltb 0 (s .left)) (ltb y (cellsAt ws)) (follows ws (s .last) y e) (writesKey ws y) (nodeRight ws y (s .reached))
-    (linksBelow ws (s .last) y e) (debtRight ws (s .last) y e) (not (eqb y (positionAt ws)) || eqb (agreedAt ws y e (s .agreed)) (dimensionsAt ws))
+    (linksBelow ws (s .last) y e) (debtRight ws (s .last) y e) (pathRight ws y e s)
 
 entered-is : (ws : List ℕ) (y e : ℕ) (s : Seen) → entered ws y e s ≡ cond (metRight ws y e s && hangsRight ws (s .last) y e) (met ws y e s) (wrong s)
 unfolding entered

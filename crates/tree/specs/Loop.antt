@@ -8,7 +8,7 @@ use Prim.Native.Nat.{ℕ, _-_, _<_}
 use lib.Dec.{eqb, ltb}
 use Rattle.meaning.specs.Words.{owedAt, lowAt, highAt, linkAt, dimensionsAt, cellsAt, positionAt}
 use Rattle.tree.specs.declared.Seen.{Seen}
-use Rattle.tree.specs.Tree.{allFrom, follows, writesKey, nodeRight, linksBelow, debtRight, agreedAt, wrong}
+use Rattle.tree.specs.Tree.{allFrom, follows, writesKey, nodeRight, linksBelow, debtRight, agreedAfter, pathRight, wrong}
 use Rattle.tree.specs.Pending.{Link, putFrom, putLinks, followedAll}
 
 -- cell y, met by link e after what has been seen, is right but for its links and its debt
@@ -17,12 +17,12 @@ aloneRight ws y e s =
     ltb 0 (s .left) && (ltb y (cellsAt ws) && (follows ws (s .last) y e && (writesKey ws y && nodeRight ws y (s .reached))))
 
 unfoldable pub metRight : List ℕ → ℕ → ℕ → Seen → Bool
-metRight ws y e s = aloneRight ws y e s && (not (eqb y (positionAt ws)) || eqb (agreedAt ws y e (s .agreed)) (dimensionsAt ws))
+metRight ws y e s = aloneRight ws y e s && pathRight ws y e s
 
 -- what has been seen once cell y is met by link e
 abbrev pub met : List ℕ → ℕ → ℕ → Seen → Seen
 met ws y e s =
-    record { right = true; left = s .left - 1; last = y; agreed = agreedAt ws y e (s .agreed); reached = s .reached || eqb y (positionAt ws) }
+    record { right = true; left = s .left - 1; last = y; agreed = agreedAfter ws y e s; reached = s .reached || eqb y (positionAt ws) }
 
 -- its links and its debt are right, x being the cell read before
 abbrev pub hangsRight : List ℕ → ℕ → ℕ → ℕ → Bool
