@@ -2,7 +2,8 @@
 use mathlib.Core.Path.{_≡_, refl, sym, ap, _∙_}
 use mathlib.Core.Bool.{Bool, true, false, cond, _&&_, not, and-false, false≢true}
 use mathlib.Core.List.{List, []}
-use Prim.Native.Nat.{ℕ, zero, suc, _-_, _≤_, _<_}
+use Prim.Native.Nat.{ℕ, zero, suc, _-_, _^_, _≤_, _<_}
+use Rattle.settings.proofs.Numbers.{base-power-fits}
 use native.Mathlib.Nat.{sub-zero}
 use native.Mathlib.Omega.{arith}
 use lib.Dec.{eqb}
@@ -98,7 +99,7 @@ module _ (ws : List ℕ) where
 pub record Headed (ws : List ℕ) (s : Settings) : Type 0 where
   pub right : headerRight ws ≡ true
   pub shaped : Shaped ws s
-  pub base : 0 < s .base
+  pub power : s .base ^ s .dimensions < 2 ^ 64
   pub cells : 0 < s .cells
 
 pub headed : {ws : List ℕ} {s : Settings} {r : Reading} → r ≡ headerOf ws → r ≡ variants.IsList s → Headed ws s
@@ -119,7 +120,7 @@ headed {ws} {s} p q = at (headerRight ws) refl (sym p ∙ q)
                 dimensions-most = h .in-range .dimensions-most;
                 cells-most = h .in-range .cells-most;
               };
-          base = h .positive;
+          power = base-power-fits (h .in-range .dimensions-most) (h .in-range .largest-most) (h .in-range .largest-least) (h .base);
           cells = omega (arith, h .in-range .cells-least);
         })
     at false e f = absurd (let z : _≡_ {A = ℕ} 0 1 = cc in omega arith)

@@ -1,6 +1,6 @@
 -- The cells in order, as the code reads them: the path's words beside the way down, a cell that is met, and the links that are put.
 use mathlib.Core.Path.{_≡_, refl, sym, ap, ap₂, _∙_, subst}
-use mathlib.Core.Bool.{Bool, true, false, cond, _&&_, or-true, or-false, false≢true}
+use mathlib.Core.Bool.{Bool, true, false, cond, _&&_, not, or-true, false≢true}
 use mathlib.Core.List.{List, [], _∷_}
 use Prim.Native.Nat.{ℕ, zero, suc, _+_, _-_, _≤_, _<_}
 use native.Mathlib.Decide.{ℕ-discrete}
@@ -66,18 +66,26 @@ module _ (ws : List ℕ) (y e : ℕ) (seen : Seen) where
   unfolding metRight
   met-lone f = rw f refl
 
+  met-past : aloneRight ws y e seen ≡ true → seen .reached ≡ true → metRight ws y e seen ≡ true
+  unfolding metRight
+  met-past h past = rw (h, past) refl
+
   met-lost :
-      aloneRight ws y e seen ≡ true → y ≡ positionAt ws → (agreedAt ws y e (seen .agreed) ≡ dimensionsAt ws → ⊥) → metRight ws y e seen ≡ false
+      aloneRight ws y e seen ≡ true → seen .reached ≡ false → y ≡ positionAt ws → (agreedAt ws y e (seen .agreed) ≡ dimensionsAt ws → ⊥) →
+      metRight ws y e seen ≡ false
   unfolding metRight
-  met-lost h here off = rw (h, eq-eqb y (positionAt ws) here, ne-eqb (agreedAt ws y e (seen .agreed)) (dimensionsAt ws) off) refl
+  met-lost h before here off =
+      rw (h, before, eq-eqb y (positionAt ws) here, ne-eqb (agreedAt ws y e (seen .agreed)) (dimensionsAt ws) off) refl
 
-  met-position : aloneRight ws y e seen ≡ true → y ≡ positionAt ws → agreedAt ws y e (seen .agreed) ≡ dimensionsAt ws → metRight ws y e seen ≡ true
+  met-position :
+      aloneRight ws y e seen ≡ true → seen .reached ≡ false → agreedAt ws y e (seen .agreed) ≡ dimensionsAt ws → metRight ws y e seen ≡ true
   unfolding metRight
-  met-position h here on = rw (h, eq-eqb y (positionAt ws) here, eq-eqb (agreedAt ws y e (seen .agreed)) (dimensionsAt ws) on) refl
+  met-position h before on =
+      rw (h, before, eq-eqb (agreedAt ws y e (seen .agreed)) (dimensionsAt ws) on, or-true (not (eqb y (positionAt ws)))) refl
 
-  met-other : aloneRight ws y e seen ≡ true → (y ≡ positionAt ws → ⊥) → metRight ws y e seen ≡ true
+  met-other : aloneRight ws y e seen ≡ true → seen .reached ≡ false → (y ≡ positionAt ws → ⊥) → metRight ws y e seen ≡ true
   unfolding metRight
-  met-other h other = rw (h, ne-eqb y (positionAt ws) other) refl
+  met-other h before other = rw (h, before, ne-eqb y (positionAt ws) other) refl
 
 module _ {ws : List ℕ} {s : Settings} (h : Shaped ws s) (y e : ℕ) (seen : Seen) where
   entered-wrong : {r : Seen} → r ≡ wrong seen → metRight ws y e seen ≡ false → Entered ws s y e seen r
@@ -94,9 +102,9 @@ module _ {ws : List ℕ} {s : Settings} (h : Shaped ws s) (y e : ℕ) (seen : Se
   enter-not f p = entered-wrong p (met-lone ws y e seen f)
 
   pub enter-lost :
-      {r : Seen} → aloneRight ws y e seen ≡ true → y ≡ positionAt ws → (agreedAt ws y e (seen .agreed) ≡ dimensionsAt ws → ⊥) → r ≡ wrong seen →
-      Entered ws s y e seen r
-  enter-lost t here off p = entered-wrong p (met-lost ws y e seen t here off)
+      {r : Seen} → aloneRight ws y e seen ≡ true → seen .reached ≡ false → y ≡ positionAt ws →
+      (agreedAt ws y e (seen .agreed) ≡ dimensionsAt ws → ⊥) → r ≡ wrong seen → Entered ws s y e seen r
+  enter-lost t before here off p = entered-wrong p (met-lost ws y e seen t before here off)
 
   entered-right :
       {agreed : ℕ} {reached : Bool} → aloneRight ws y e seen ≡ true → agreed ≤ s .dimensions → metRight ws y e seen ≡ true →
@@ -113,18 +121,23 @@ module _ {ws : List ℕ} {s : Settings} (h : Shaped ws s) (y e : ℕ) (seen : Se
         falls = λ r. omega arith;
       }
 
+  pub enter-past :
+      aloneRight ws y e seen ≡ true → seen .reached ≡ true → seen .agreed ≤ s .dimensions →
+      Entered ws s y e seen (record { right = true; left = seen .left - 1; last = y; agreed = seen .agreed; reached = true })
+  enter-past t past fits = entered-right t fits (met-past ws y e seen t past) (rw past refl)
+
   pub enter-position :
-      {agreed : ℕ} → aloneRight ws y e seen ≡ true → y ≡ positionAt ws → agreed ≡ agreedAt ws y e (seen .agreed) → agreed ≤ s .dimensions →
-      agreed ≡ dimensionsAt ws → Entered ws s y e seen (record { right = true; left = seen .left - 1; last = y; agreed = agreed; reached = true })
-  enter-position {agreed} t here q fits on =
-      entered-right t fits (met-position ws y e seen t here (sym q ∙ on))
-      (rw (← q, eq-eqb y (positionAt ws) here, or-true (seen .reached)) refl)
+      {agreed : ℕ} → aloneRight ws y e seen ≡ true → seen .reached ≡ false → y ≡ positionAt ws → agreed ≡ agreedAt ws y e (seen .agreed) →
+      agreed ≤ s .dimensions → agreed ≡ dimensionsAt ws →
+      Entered ws s y e seen (record { right = true; left = seen .left - 1; last = y; agreed = agreed; reached = true })
+  enter-position {agreed} t before here q fits on =
+      entered-right t fits (met-position ws y e seen t before (sym q ∙ on)) (rw (before, ← q, eq-eqb y (positionAt ws) here) refl)
 
   pub enter-other :
-      {agreed : ℕ} → aloneRight ws y e seen ≡ true → (y ≡ positionAt ws → ⊥) → agreed ≡ agreedAt ws y e (seen .agreed) → agreed ≤ s .dimensions →
-      Entered ws s y e seen (record { right = true; left = seen .left - 1; last = y; agreed = agreed; reached = seen .reached })
-  enter-other {agreed} t other q fits =
-      entered-right t fits (met-other ws y e seen t other) (rw (← q, ne-eqb y (positionAt ws) other, or-false (seen .reached)) refl)
+      {agreed : ℕ} → aloneRight ws y e seen ≡ true → seen .reached ≡ false → (y ≡ positionAt ws → ⊥) → agreed ≡ agreedAt ws y e (seen .agreed) →
+      agreed ≤ s .dimensions → Entered ws s y e seen (record { right = true; left = seen .left - 1; last = y; agreed = agreed; reached = false })
+  enter-other {agreed} t before other q fits =
+      entered-right t fits (met-other ws y e seen t before other) (rw (before, ← q, ne-eqb y (positionAt ws) other) refl)
 
 -- Links that are put, one after the other
 

@@ -2,7 +2,7 @@
 use mathlib.Core.Path.{_≡_}
 use mathlib.Core.Bool.{true, cond, _&&_}
 use mathlib.Core.List.{List, [], _∷_}
-use Prim.Native.Nat.{ℕ, zero, suc, _-_, _≤_, _<_}
+use Prim.Native.Nat.{ℕ, zero, suc, _-_, _^_, _≤_, _<_}
 use lib.Dec.{eqb}
 use lib.ListN.{length, getD}
 use Rattle.settings.specs.declared.Settings.{Settings}
@@ -72,7 +72,7 @@ pub record NextIs (ws : List ℕ) (s : Settings) (y e from : ℕ) (pending : Lis
 -- where the loop starts: at a head that owes nothing
 pub record Started (ws : List ℕ) (s : Settings) (start : Seen) : Type 0 where
   pub shaped : Shaped ws s
-  pub base : 0 < s .base
+  pub power : s .base ^ s .dimensions < 2 ^ 64
   pub within : SeenWithin s start
   pub right : start .right ≡ true
   pub head : start .last ≡ 0

@@ -2,7 +2,7 @@
 // still to be followed are kept pending, at most one of each number: the next cell is where the one of the highest number leads.
 ghost use mathlib.Core.Path.{_≡_};
 ghost use mathlib.Core.List.{[]};
-ghost use Prim.Native.Nat.{_-_, _≤_, _<_};
+ghost use Prim.Native.Nat.{_-_, _^_, _≤_, _<_};
 ghost use Rattle.meaning.specs.Words.{linkAt};
 ghost use Rattle.words.specs.Shaped.{Shaped};
 ghost use Rattle.tree.specs.Tree.{atHead};
@@ -69,16 +69,25 @@ fn wrong(seen: Seen) -> Seen
     }
 }
 
-// What has been seen once cell y is met by link e.
+// What has been seen once cell y is met by link e. Past the position the path is no longer compared.
 fn enter(list: &[u32], s: Settings, y: u32, e: u32, seen: Seen) -> Seen
-    requires { ⌜ Shaped (now list) s × ((0 < s .base) × ((e < s .dimensions) × SeenWithin s seen)) ⌝ }
+    requires { ⌜ Shaped (now list) s × ((s .base ^ s .dimensions < 2 ^ 64) × ((e < s .dimensions) × SeenWithin s seen)) ⌝ }
     ensures { λ r. ⌜ Entered (now (list .entry)) s y e seen r ⌝ }
 {
     if !standing::alone_right(list, s, y, e, seen) {
         return wrong(seen);
     }
-    let agreed = path::agreed_at(list, s, y, e, seen.agreed);
     let left = seen.left - 1;
+    if seen.reached {
+        return Seen {
+            right: true,
+            left,
+            last: y,
+            agreed: seen.agreed,
+            reached: true,
+        };
+    }
+    let agreed = path::agreed_at(list, s, y, e, seen.agreed);
     if y == words::position(list, s) {
         if agreed != s.dimensions {
             return wrong(seen);
@@ -96,7 +105,7 @@ fn enter(list: &[u32], s: Settings, y: u32, e: u32, seen: Seen) -> Seen
         left,
         last: y,
         agreed,
-        reached: seen.reached,
+        reached: false,
     }
 }
 

@@ -68,7 +68,7 @@ read-requires c κs =
     let start = c .before .before .at-head in
     record {
       shaped = h .shaped;
-      base = h .base;
+      power = h .power;
       within = start .ensures .1;
       right = not-false (start .result .right) (c .if2 .left);
       head = head-last l (start .ensures .0);

@@ -37,7 +37,7 @@ enter-requires : tie.Need-enter-requires Inv-loop μ-loop
 enter-requires c κs =
     let pre = c .before .before .before .before .before .before .before .before .before .before .pre in
     let k = c .before .before .before .before .before .before .before .before .loop .inv in
-    (pre .shaped, (pre .base, (c .before .before .before .before .before .go-on .ensures .goes (at-way c) (c .before .goes .given .1) .number, k .within)))
+    (pre .shaped, (pre .power, (c .before .before .before .before .before .go-on .ensures .goes (at-way c) (c .before .goes .given .1) .number, k .within)))
 
 returns-3 : tie.Need-returns-3 Inv-loop μ-loop
 returns-3 c =
