@@ -143,8 +143,6 @@ pub enum Refusal {
         /// How many cells a find looked at; 0 for a finish.
         looked: u32,
     },
-    /// 9, insert, record, finish, sweep: a cell owed from is not standing. No list gives it.
-    OwedNotStanding,
     /// 13, record: the bytes break the grammar of a record, or a field is out of its range.
     BadRecord,
     /// 14, record: the full number is below 0 or above 4,294,967,295.
@@ -172,7 +170,6 @@ impl Refusal {
             Refusal::NoFreeCell { .. } => 6,
             Refusal::NothingLive { .. } => 7,
             Refusal::NotThere { .. } => 8,
-            Refusal::OwedNotStanding => 9,
             Refusal::BadRecord => 13,
             Refusal::NumberOutside => 14,
             Refusal::BadBatch => 19,
@@ -193,7 +190,6 @@ impl fmt::Display for Refusal {
             Refusal::NoFreeCell { looked } => write!(f, "no cell is free; cells looked at: {looked}"),
             Refusal::NothingLive { above } => write!(f, "nothing is live; standing keys above the position: {above}"),
             Refusal::NotThere { looked } => write!(f, "the key is not there; cells looked at: {looked}"),
-            Refusal::OwedNotStanding => f.write_str("a cell that is owed from is free"),
             Refusal::BadRecord => f.write_str("the record breaks the grammar or a field's range"),
             Refusal::NumberOutside => f.write_str("the full number does not fit in 32 bits"),
             Refusal::BadBatch => f.write_str("the words are no batch of calls, or there is no room for the answers"),
@@ -268,7 +264,6 @@ fn checked(a: sys::Answer) -> Result<sys::Answer, Refusal> {
         6 => Err(Refusal::NoFreeCell { looked: a.count }),
         7 => Err(Refusal::NothingLive { above: a.count }),
         8 => Err(Refusal::NotThere { looked: a.count }),
-        9 => Err(Refusal::OwedNotStanding),
         13 => Err(Refusal::BadRecord),
         14 => Err(Refusal::NumberOutside),
         19 => Err(Refusal::BadBatch),

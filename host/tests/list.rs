@@ -74,14 +74,13 @@ fn refusals_as_texts() {
         (insert(&mut l, 5, 0).unwrap_err(), "refusal 6: no cell is free; cells looked at: 1"),
         (take(&mut fresh(2, 15, 4)).unwrap_err(), "refusal 7: nothing is live; standing keys above the position: 0"),
         (find(&l, 15).unwrap_err(), "refusal 8: the key is not there; cells looked at: 2"),
-        (Refusal::OwedNotStanding, "refusal 9: a cell that is owed from is free"),
         (record(&mut l, b"", &mut 0).unwrap_err(), "refusal 13: the record breaks the grammar or a field's range"),
         (record(&mut l, b"0,1,0,,65535", &mut 0).unwrap_err(), "refusal 14: the full number does not fit in 32 bits"),
         (
             batch(&mut l, &[Call::take()], &mut []).unwrap_err(),
             "refusal 19: the words are no batch of calls, or there is no room for the answers",
         ),
-        (Refusal::Unknown(77), "refusal 77: no call answers it; the archive and the package do not belong together"),
+        (Refusal::Unknown(9), "refusal 9: no call answers it; the archive and the package do not belong together"),
     ];
     for (refusal, text) in shown {
         let error: Box<dyn std::error::Error> = Box::new(refusal);

@@ -27,8 +27,8 @@ pub struct Answer {
     pub count: u32,
 }
 
-/// Refusals. Number 9 is never given: a cell owed from that is not standing makes the buffer no
-/// list, which is 3, and comes first.
+/// Refusals. Number 9 is retired: a cell owed from that is not standing makes the buffer no list,
+/// which is 3.
 pub const OUT_OF_RANGE: u32 = 1;
 pub const LENGTH_NOT_EXACT: u32 = 2;
 pub const NOT_A_LIST: u32 = 3;

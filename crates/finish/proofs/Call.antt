@@ -1,12 +1,12 @@
 -- Each way out of finish has the outcome of the definition, by what the search found.
 use mathlib.Core.Path.{_≡_, refl, sym, ap, _∙_}
-use mathlib.Core.Bool.{Bool, true, false, false≢true}
+use mathlib.Core.Bool.{true, false}
 use mathlib.Core.List.{List}
 use Prim.Native.Nat.{ℕ, _-_, _≤_, _<_}
 use Rattle.settings.specs.declared.Settings.{Settings}
 use Rattle.meaning.specs.Reading.{read}
 use Rattle.meaning.specs.Refusals.{answer, Meets}
-use Rattle.meaning.specs.Operations.{owesFromFree, finishOut}
+use Rattle.meaning.specs.Operations.{finishOut}
 use Rattle.meaning.specs.Layer.Stores.{finishWords}
 use Rattle.meaning.specs.Words.{lowAt, highAt}
 use Rattle.meaning.specs.declared.Answer.{Answer}
@@ -17,7 +17,6 @@ use Rattle.search.specs.Found.{foundOf}
 use Rattle.search.specs.declared.Found.{Found}
 use Rattle.words.proofs.Listed.{on-listed}
 use Rattle.search.proofs.Slots.{found-standing, found-missing}
-use Rattle.finish.proofs.Debts.{listed-owes}
 
 pub bad-key-meets :
     {ws : List ℕ} {s : Settings} → Listed ws s → (key : ℕ) {r : Answer} → (1 ≤ key → s .largest < key) → r ≡ answer 4 0 0 0 →
@@ -25,12 +24,6 @@ pub bad-key-meets :
 bad-key-meets h key {r} bad a =
     on-listed (λ t ws s. (1 ≤ key → s .largest < key) → Meets (finishOut ws key) r ws)
     (λ t v b. rw (finish-outcome-bad-key t v key b) (record { answered = a; left = refl })) h bad
-
--- a cell owed from stands
-pub never-meets :
-    {ws : List ℕ} {s : Settings} → Listed ws s → (key x : ℕ) {r : Answer} {left : List ℕ} {owes : Bool} → owes ≡ owesFromFree ws x → owes ≡ true →
-    Meets (finishOut ws key) r left
-never-meets h key x e owes = absurd (false≢true (sym (e ∙ listed-owes h x) ∙ owes))
 
 module _ {ws : List ℕ} {s : Settings} (h : Listed ws s) (key : ℕ) (least : 1 ≤ key) (most : key ≤ s .largest) {f : Found}
     (is : f ≡ foundOf (read ws) key) where

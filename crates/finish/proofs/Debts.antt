@@ -11,14 +11,12 @@ use Rattle.meaning.specs.Keys.{shared}
 use Rattle.meaning.specs.Row.{firstOf, Place, placeOf}
 use Rattle.meaning.specs.State.{State, placesOf}
 use Rattle.meaning.specs.Picture.{picture}
-use Rattle.meaning.specs.Operations.{owesFromFree}
 use Rattle.meaning.specs.Words.{lowAt, highAt}
 use Rattle.meaning.specs.Layer.Listed.{Listed}
 use Rattle.meaning.proofs.Keys.{shared-le}
 use Rattle.meaning.proofs.State.{Sound, Debt}
 use Rattle.meaning.proofs.Placed.{Placed, placed-has, place-low, place-high, free-cell-rest}
 use Rattle.meaning.proofs.CellsWithin.{owed-within}
-use Rattle.meaning.proofs.Outcomes.{owed-never-free}
 use Rattle.words.proofs.Listed.{on-listed}
 use Rattle.finish.specs.Payable.{Payable}
 
@@ -66,7 +64,3 @@ listed-payable = on-listed (λ t ws s. (x : ℕ) → x < s .cells → Payable ws
 
 pub listed-low : {ws : List ℕ} {s : Settings} → Listed ws s → (x : ℕ) → x < s .cells → lowAt ws x ≤ highAt ws x
 listed-low = on-listed (λ t ws s. (x : ℕ) → x < s .cells → lowAt ws x ≤ highAt ws x) (λ t v x h. low-high v x h .0)
-
--- refusal 9's test is never met
-pub listed-owes : {ws : List ℕ} {s : Settings} → Listed ws s → (x : ℕ) → owesFromFree ws x ≡ false
-listed-owes = on-listed (λ t ws s. (x : ℕ) → owesFromFree ws x ≡ false) owed-never-free

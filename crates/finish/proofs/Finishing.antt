@@ -1,45 +1,16 @@
--- Finishing on words of the right shape: the code's tests and stores are those of the definitions. A number past the last cell has no
--- words, so that its mark reads as 0.
+-- Finishing on words of the right shape: the code's stores are those of the definitions.
 use mathlib.Core.Path.{_≡_, refl, sym, _∙_}
-use mathlib.Core.Bool.{true, false}
 use mathlib.Core.List.{List}
 use Prim.Native.Nat.{ℕ, suc, _+_, _-_, _≤_, _<_}
-use native.Mathlib.Nat.{mul-le-mul-right}
 use native.Mathlib.Numerals.{add-one}
 use native.Mathlib.Omega.{arith}
-use lib.Dec.{eqb}
-use lib.ListN.{length, getD, List·getD-eq-default}
-use borrow.Author.Tests.{eq-eqb, ne-eqb}
-use Rattle.settings.specs.Numbers.{cellWords}
+use lib.ListN.{getD}
 use Rattle.settings.specs.declared.Settings.{Settings}
-use Rattle.meaning.specs.Words.{wordIndex, markAt, owedAt, lowAt, highAt, linkAt, linkField}
-use Rattle.meaning.specs.Operations.{owesFromFree}
+use Rattle.meaning.specs.Words.{wordIndex, owedAt, lowAt, highAt, linkAt, linkField}
 use Rattle.meaning.specs.Layer.Stores.{store, moveLinks, clearDebt, finishWords}
 use Rattle.meaning.proofs.Stores.{finishWords-none, finishWords-some}
 use Rattle.words.specs.Shaped.{Shaped}
 use Rattle.words.proofs.Shaped.{shaped-dimensions, link-is}
-
--- Refusal 9's test
-
-pub owes-nothing : (ws : List ℕ) (x : ℕ) {owed : ℕ} → owed ≡ owedAt ws x → owed ≡ 0 → false ≡ owesFromFree ws x
-unfolding owesFromFree
-owes-nothing ws x e none = rw (← e, eq-eqb _ 0 none) refl
-
-mark-beyond : {ws : List ℕ} {s : Settings} → Shaped ws s → (x : ℕ) → s .cells ≤ x → markAt ws x ≡ 0
-mark-beyond {ws} {s} h x beyond =
-    let outside : length ws ≤ wordIndex (s .dimensions) x 2 = omega (arith, h .long, mul-le-mul-right (cellWords (s .dimensions)) beyond) in
-    rw (shaped-dimensions h) (List·getD-eq-default ws 0 outside)
-
--- the cell that is owed from has mark m
-pub owes-marked :
-    (ws : List ℕ) (x : ℕ) {owed m : ℕ} → owed ≡ owedAt ws x → (owed ≡ 0 → ⊥) → m ≡ markAt ws owed → eqb m 0 ≡ owesFromFree ws x
-unfolding owesFromFree
-owes-marked ws x e some mark = rw (← e, ne-eqb _ 0 some, ← mark) refl
-
-pub owes-beyond :
-    {ws : List ℕ} {s : Settings} → Shaped ws s → (x : ℕ) {owed : ℕ} → owed ≡ owedAt ws x → (owed ≡ 0 → ⊥) → s .cells ≤ owed →
-    true ≡ owesFromFree ws x
-owes-beyond {ws} h x {owed} e some beyond = owes-marked ws x e some (sym (mark-beyond h owed beyond))
 
 -- Links moved, one after the other
 

@@ -1,36 +1,14 @@
 // Finish: what a cell owes is moved to it: Debts 5.
 ghost use mathlib.Core.Path.{_≡_};
 ghost use Prim.Native.Nat.{_-_, _≤_, _<_};
-ghost use Rattle.meaning.specs.Refusals.{owedNotStanding, answerOf, Meets};
-ghost use Rattle.meaning.specs.Operations.{owesFromFree, finishOut};
+ghost use Rattle.meaning.specs.Refusals.{Meets};
+ghost use Rattle.meaning.specs.Operations.{finishOut};
 ghost use Rattle.meaning.specs.Layer.Stores.{moveLinks, clearDebt, finishWords};
 ghost use Rattle.meaning.specs.Layer.Listed.{Listed};
 ghost use Rattle.words.specs.Shaped.{Shaped};
 ghost use Rattle.finish.specs.Payable.{Payable};
 use meaning::Answer;
 use settings::Settings;
-
-// Refusal 9's test: whether cell x owes from a cell that is not standing. A number past the last cell is no standing cell.
-pub fn owes_from_free(list: &[u32], s: Settings, x: u32) -> bool
-    requires { ⌜ Shaped (now list) s × (x < s .cells) ⌝ }
-    ensures { λ r. ⌜ r ≡ owesFromFree (now (list .entry)) x ⌝ }
-{
-    let owed = words::word(list, s, x, words::OWED);
-    if owed == 0 {
-        return false;
-    }
-    if s.cells <= owed {
-        return true;
-    }
-    words::word(list, s, owed, words::MARK) == words::FREE
-}
-
-// Refusal 9, for the operations that finish what is owed. On a list a cell owed from stands, so none of them gets here.
-pub fn owed_not_standing() -> Answer
-    ensures { λ r. ⌜ r ≡ answerOf owedNotStanding ⌝ }
-{
-    meaning::refused(meaning::OWED_NOT_STANDING)
-}
 
 // Links low to high-1 move from cell c to cell n.
 fn move_links(list: &mut [u32], s: Settings, n: u32, c: u32, low: u32, high: u32)
@@ -85,9 +63,6 @@ pub fn finish(list: &mut [u32], s: Settings, key: u32) -> Answer
     let f = search::search(list, s, key);
     if !f.standing {
         return meaning::refused_at(meaning::KEY_NOT_STANDING, key, 0);
-    }
-    if owes_from_free(list, s, f.c) {
-        return owed_not_standing();
     }
     let moved = words::word(list, s, f.c, words::HIGH) - words::word(list, s, f.c, words::LOW);
     finish_cell(list, s, f.c);

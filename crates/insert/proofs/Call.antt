@@ -1,7 +1,7 @@
 -- Each way out of insert has the outcome of the definition, by what the search found; and the words that an accepted insert has written,
 -- but for the path, are those of the state after the call.
 use mathlib.Core.Path.{_≡_, refl, sym, ap, _∙_, subst}
-use mathlib.Core.Bool.{Bool, true, false, cond, false≢true, _||_}
+use mathlib.Core.Bool.{Bool, true, false, cond}
 use mathlib.Core.List.{List, [], _∷_}
 use Prim.Native.Nat.{ℕ, _+_, _≤_, _<_}
 use native.Mathlib.Decide.{ℕ-discrete}
@@ -20,7 +20,7 @@ use Rattle.meaning.specs.Picture.{mark, path, picture}
 use Rattle.meaning.specs.Reading.{read}
 use Rattle.meaning.specs.Refusals.{answer, Meets, accepted}
 use Rattle.meaning.specs.Words.{wordIndex, wordAt, markAt, firstFreeAt, linkField}
-use Rattle.meaning.specs.Operations.{owesFromFree, positionAfter, revived, Slot, slotFor, added, insertOut}
+use Rattle.meaning.specs.Operations.{positionAfter, revived, Slot, slotFor, added, insertOut}
 use Rattle.meaning.specs.Layer.Stores.{store, finishWords, writePath, writeNode, newWords, insertWords, paidWords}
 use Rattle.meaning.specs.declared.Answer.{Answer}
 use Rattle.meaning.specs.Layer.Listed.{Listed}
@@ -48,7 +48,7 @@ use Rattle.words.proofs.Listed.{on-listed}
 use Rattle.search.proofs.Slots.{Present, SlotFound, node-placed, found-standing, found-missing, found-slot}
 use Rattle.new_cell.specs.NewCell.{slotOf, Fits}
 use Rattle.finish.specs.Payable.{Payable}
-use Rattle.finish.proofs.Debts.{payable, listed-payable, listed-owes}
+use Rattle.finish.proofs.Debts.{payable, listed-payable}
 use Rattle.insert.specs.Inserting.{Sought, Ending, EndsInSome, PathWritten}
 
 -- what holds of each state in order, its picture and its settings, where the search has answered so, holds of the list
@@ -256,9 +256,6 @@ module _ {ws : List ℕ} {s : Settings} {key : ℕ} {f : Found} (k : Sought ws s
   pub parent-cell : f .parent < s .cells
   parent-cell = on-sought (λ t ws s. f .parent < s .cells) k (λ t v m q. found-missing v (k .least) q missing .parent-below)
 
-  pub c-cell : f .c < s .cells
-  c-cell = on-sought (λ t ws s. f .c < s .cells) k (λ t v m q. found-missing v (k .least) q missing .c-below)
-
   pub p-link : f .p < s .dimensions
   p-link = on-sought (λ t ws s. f .p < s .dimensions) k (λ t v m q. found-missing v (k .least) q missing .p-below)
 
@@ -300,13 +297,6 @@ module _ {ws : List ℕ} {s : Settings} {key : ℕ} {f : Found} (k : Sought ws s
       rw (insert-outcome-full t v key value (k .least) most (absent .node) (free-none (t .free) positive (e ∙ picture-free t) none))
       (record { answered = a ∙ ap (answer 6 key 0) (absent .looked); left = refl }))
       word
-
-  -- a cell owed from stands
-  pub never-meets : (value : ℕ) {r : Answer} {left : List ℕ} {owes : Bool} →
-      owes ≡ (owesFromFree ws (f .parent) || owesFromFree ws (f .c)) → owes ≡ true → Meets (insertOut ws key value) r left
-  never-meets value e owes =
-      let none : (owesFromFree ws (f .parent) || owesFromFree ws (f .c)) ≡ false = rw (listed-owes (k .list) (f .parent), listed-owes (k .list) (f .c)) refl in
-      absurd (false≢true (sym (e ∙ none) ∙ owes))
 
   pub new-leads : (value : ℕ) {n : ℕ} → n ≡ firstFreeAt ws → 0 < n →
       Leads ws (insertWords (s .base) (s .dimensions) ws key value (slotOf n f)) s (positionKey (read ws)) key value f

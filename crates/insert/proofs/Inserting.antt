@@ -1,6 +1,5 @@
--- What insert does in two steps: value and mark of a standing cell, the debts of parent and c, and the test of both.
+-- What insert does in two steps: value and mark of a standing cell, and the debts of parent and c.
 use mathlib.Core.Path.{_≡_, refl}
-use mathlib.Core.Bool.{Bool, true, false, _||_}
 use mathlib.Core.List.{List}
 use Prim.Native.Nat.{ℕ, suc}
 use native.Mathlib.Omega.{arith}
@@ -22,11 +21,3 @@ paid-one D ws parent c e = rw (eq-eqb c 0 e) refl
 
 pub paid-two : (D : ℕ) (ws : List ℕ) (parent c : ℕ) → (c ≡ 0 → ⊥) → finishWords D (finishWords D ws parent) c ≡ paidWords D ws parent c
 paid-two D ws parent c ne = rw (ne-eqb c 0 ne) refl
-
--- The test of both
-
-pub first-owes : (r t u : Bool) → r ≡ t → r ≡ true → true ≡ (t || u)
-first-owes r t u e owes = rw (← e, owes) refl
-
-pub second-owes : (r t u v : Bool) → r ≡ t → r ≡ false → v ≡ u → v ≡ (t || u)
-second-owes r t u v e none is = rw (← e, none) is

@@ -1,7 +1,7 @@
 -- The position: its key, as the words of a list say it; and the path that is written where the position becomes the parent.
 use mathlib.Core.Path.{_≡_, refl, sym, ap, _∙_, subst}
 use mathlib.Core.List.{List, _∷_, map}
-use Prim.Native.Nat.{ℕ, _+_, _-_, _≤_, _<_}
+use Prim.Native.Nat.{ℕ, _≤_, _<_}
 use Rattle.settings.specs.declared.Settings.{Settings}
 use Rattle.lists.specs.Lists.{occurrences}
 use Rattle.meaning.specs.Row.{headNode}

@@ -1,12 +1,12 @@
 // Insert: a new cell in the slot that the search found, its own adoption left owing; or a dead key revived.
 ghost use mathlib.Core.Path.{_≡_};
-ghost use mathlib.Core.Bool.{true, false, _||_};
+ghost use mathlib.Core.Bool.{true, false};
 ghost use Prim.Native.Nat.{_<_};
 ghost use lib.ListN.{getD};
 ghost use Rattle.meaning.specs.State.{positionKey};
 ghost use Rattle.meaning.specs.Reading.{read};
 ghost use Rattle.meaning.specs.Refusals.{Meets};
-ghost use Rattle.meaning.specs.Operations.{owesFromFree, insertOut};
+ghost use Rattle.meaning.specs.Operations.{insertOut};
 ghost use Rattle.meaning.specs.Words.{markAt};
 ghost use Rattle.meaning.specs.Layer.Stores.{finishWords, paidWords};
 ghost use Rattle.meaning.specs.Layer.Listed.{Listed};
@@ -76,17 +76,6 @@ fn add(list: &mut [u32], s: Settings, n: u32, f: Found, key: u32, value: u32)
     move_position(list, s, top, key, parent);
 }
 
-// Refusal 9's test for an insert: the parent's debt, and c's; where there is no c, the head's, which owes nothing.
-fn slot_owes_from_free(list: &[u32], s: Settings, f: Found) -> bool
-    requires { ⌜ Shaped (now list) s × ((f .parent < s .cells) × (f .c < s .cells)) ⌝ }
-    ensures { λ r. ⌜ r ≡ (owesFromFree (now (list .entry)) (f .parent) || owesFromFree (now (list .entry)) (f .c)) ⌝ }
-{
-    if finish::owes_from_free(list, s, f.parent) {
-        return true;
-    }
-    finish::owes_from_free(list, s, f.c)
-}
-
 // A key that stands: refused if it is live.
 fn insert_standing(list: &mut [u32], s: Settings, f: Found, key: u32, value: u32) -> Answer
     requires { ⌜ Sought (now list) s key f × (f .standing ≡ true) ⌝ }
@@ -107,9 +96,6 @@ fn insert_new(list: &mut [u32], s: Settings, f: Found, key: u32, value: u32) -> 
     let n = list[words::FIRST_FREE];
     if n == 0 {
         return meaning::refused_at(meaning::NO_FREE_CELL, key, f.looked);
-    }
-    if slot_owes_from_free(list, s, f) {
-        return finish::owed_not_standing();
     }
     add(list, s, n, f, key, value);
     meaning::accepted(key, 0, f.looked)

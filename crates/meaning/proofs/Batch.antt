@@ -1,13 +1,14 @@
 -- A batch does what its calls do one after the other, and each answer stands in its four words.
 use mathlib.Core.Path.{_≡_, refl, sym, _∙_, ap, subst}
 use mathlib.Core.Bool.{Bool, true, false, cond, _&&_}
-use mathlib.Core.List.{List, [], _∷_, _++_, map, append-assoc}
-use Prim.Native.Nat.{ℕ, suc, _+_, _*_, _≤_}
+use mathlib.Core.List.{List, [], _∷_, _++_, map}
+use Prim.Native.Nat.{ℕ, suc, _*_, _≤_}
 use native.Mathlib.Omega.{arith}
 use lib.Dec.{leb}
 use lib.ListN.{length, take, drop, length-append}
-use lib.Seq.{take-at, drop-at}
+use lib.Seq.{drop-at}
 use borrow.Author.Tests.{leb-true}
+use Rattle.lists.proofs.Tests.{cond-has}
 use Rattle.meaning.specs.Refusals.{Outcome, badBatch, refused}
 use Rattle.meaning.specs.Reading.{readingOf}
 use Rattle.meaning.specs.Calls.{alone, madeOn, afterCalls}
@@ -105,3 +106,14 @@ refused-batch-alters-nothing calls lent = at (readingOf (lent .words))
 pub batch-refusals : BatchRefusals
 unfolding batchOut readingOf
 batch-refusals calls lent = (λ none. rw none refl, λ list no-room. rw (list, no-room) refl)
+
+pub batch-never-nine : (calls : List ℕ) (lent : BatchLent) → batchOut calls lent .answered .refusal ≡ 9 → ⊥
+unfolding batchOut batchDone
+batch-never-nine calls lent = at (readingOf (lent .words))
+  where
+    NotNine : Outcome BatchLent → Type 0
+    NotNine o = o .answered .refusal ≡ 9 → ⊥
+
+    at : (reading : Reading) → NotNine (batchOn calls lent reading)
+    at (IsList s) = cond-has NotNine (fits calls (lent .answers)) _ _ (λ e. omega arith) (λ e. omega arith)
+    at NotAList = λ e. omega arith

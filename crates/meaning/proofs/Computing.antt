@@ -9,10 +9,10 @@ use Rattle.meaning.specs.Row.{firstSharing, placesAfter, places, link, p
 use Rattle.meaning.specs.State.{keyOf, ascending, debtHolds, tests, valid}
 use Rattle.meaning.specs.Picture.{standingWords, nextFree, freeWords, wordsOf, firstWith, path, cellPictures, picture}
 use Rattle.meaning.specs.Reading.{standing, chain, read, sized, isList, readingOf}
-use Rattle.meaning.specs.Operations.{onList, onKey, owesFromFree, looked, fresh, setUpOut, finished, linksMoved, finishAt, finishOut, findAt, onReading, setUpBy}
+use Rattle.meaning.specs.Operations.{onList, onKey, looked, fresh, setUpOut, finished, linksMoved, finishAt, finishOut, findAt, onReading, setUpBy}
 use Rattle.meaning.specs.Operations.{findOut, leadsTo, dimensionAt, settledLinkAt, parentIn, positionAfter, revived, slotFor, added, insertNew}
 use Rattle.meaning.specs.Operations.{insertAt, insertOut, deadFront, fromLive, keysAbove, keysPassed, taken, takeFrom, takeOut, lastOf}
-use Rattle.meaning.specs.Operations.{lastAlone, freedBy, swept, someOwesFromFree, sweepOn, sweepOut}
+use Rattle.meaning.specs.Operations.{lastAlone, freedBy, swept, sweepOut}
 use Rattle.meaning.specs.Rule.{counted, leastAbove, plusOne, rule}
 use Rattle.meaning.specs.Walk.{linkRead, stepAt, trailFrom, trail, goneTo, walk}
 use Rattle.meaning.specs.Calls.{outcome, afterCalls}
@@ -20,8 +20,8 @@ use Rattle.meaning.specs.Calls.{outcome, afterCalls}
 unfoldable pub computing : ℕ
 unfolding flatMap inRange firstAbove baseOf coordinates shared firstSharing placesAfter places link placeOf nodeAt put those every keyOf ascending
     occurrences debtHolds tests valid numbersFrom standingWords nextFree freeWords wordsOf firstWith path cellPictures picture blocks standing chain
-    read sized same isList readingOf onReading onList onKey owesFromFree looked fresh checkedOf setUpBy setUpOut finished linksMoved finishAt finishOut findAt findOut leadsTo
+    read sized same isList readingOf onReading onList onKey looked fresh checkedOf setUpBy setUpOut finished linksMoved finishAt finishOut findAt findOut leadsTo
     dimensionAt settledLinkAt parentIn positionAfter revived slotFor added insertNew insertAt insertOut deadFront fromLive keysAbove
-    keysPassed taken takeFrom takeOut lastOf lastAlone freedBy swept someOwesFromFree sweepOn sweepOut counted leastAbove plusOne rule
+    keysPassed taken takeFrom takeOut lastOf lastAlone freedBy swept sweepOut counted leastAbove plusOne rule
     linkRead stepAt trailFrom trail goneTo walk outcome afterCalls
 computing = 0

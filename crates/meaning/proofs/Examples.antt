@@ -15,7 +15,7 @@ use Rattle.meaning.specs.Walk.{walk}
 use Rattle.meaning.specs.Operations.{setUpOut, insertOut, finishOut}
 use Rattle.meaning.specs.Calls.{alone, madeOn, afterCalls}
 use Rattle.meaning.specs.Promises.{FromFresh, Live}
-use Rattle.meaning.specs.declared.Call.the-variants.{SetUp, Insert, Find, Finish, Take, Sweep}
+use Rattle.meaning.specs.declared.Call.the-variants.{Insert, Find, Finish, Take, Sweep}
 use Rattle.meaning.specs.declared.Call.{Call}
 use Rattle.meaning.proofs.Computing.{computing}
 

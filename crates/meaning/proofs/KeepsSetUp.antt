@@ -1,8 +1,8 @@
 -- Set up gives a state in order: no cell stands but the head, and the chain has each number from 1 to C-1 once.
-use mathlib.Core.Path.{_≡_, refl, _∙_}
+use mathlib.Core.Path.{_≡_, refl}
 use mathlib.Core.Bool.{true}
 use mathlib.Core.List.{[]}
-use Prim.Native.Nat.{ℕ, _+_, _-_, _≤_, _<_}
+use Prim.Native.Nat.{ℕ, _-_}
 use native.Mathlib.Omega.{arith}
 use Rattle.settings.specs.Numbers.{inRange, baseOf}
 use Rattle.settings.proofs.Numbers.{ranges}

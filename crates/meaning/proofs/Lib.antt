@@ -75,6 +75,7 @@ pub mod ShapeByKeys
 -- What is promised; examples.
 pub mod Writes
 pub mod Batch
+pub mod OwedCells
 pub mod Promises
 pub mod AgainstSlips
 pub mod Examples

@@ -1,13 +1,12 @@
 -- A call takes a list to a list with the settings that it had, so that a caller that has checked its list once need not check it again.
-use mathlib.Core.Path.{_≡_, refl, sym, _∙_, subst}
+use mathlib.Core.Path.{_≡_, refl, _∙_}
 use mathlib.Core.Bool.{true}
 use mathlib.Core.List.{List}
 use Prim.Native.Nat.{ℕ}
 use Rattle.settings.specs.declared.Settings.{Settings}
 use Rattle.records.specs.declared.note.Logged.{Logged}
 use Rattle.meaning.specs.Reading.{readingOf}
-use Rattle.meaning.specs.Refusals.{Outcome}
-use Rattle.meaning.specs.Records.{Lent, lentOf, Asked, nothing, insertion, noteAsks, askedOut, noteOut}
+use Rattle.meaning.specs.Records.{lentOf, Asked, nothing, insertion, noteAsks, askedOut, noteOut}
 use Rattle.meaning.specs.Calls.{outcome, Made, alone, madeOn}
 use Rattle.meaning.specs.Promises.{keepsSettings}
 use Rattle.meaning.specs.Layer.Listed.{Listed}

@@ -1,45 +1,40 @@
 -- The outcome of each operation on the picture of a state in order, case by case. The picture is a list and reads as its state, so the
--- tests of an operation are those of the state. Refusal 9 never comes up: the owed cell of a cell that owes is the next standing one,
--- whose mark is not 0; every other cell has the owed word 0. And, by going through each operation on any words, a refused call alters
--- nothing.
-use mathlib.Core.Path.{_≡_, refl, ap, _∙_, subst}
-use mathlib.Core.Bool.{Bool, true, false, cond, _&&_, _||_, not}
+-- tests of an operation are those of the state. And, by going through each operation on any words: a call is accepted, or it is refused by a
+-- number of the table and alters nothing.
+use mathlib.Core.Path.{_≡_, refl, sym, ap, _∙_, subst}
+use mathlib.Core.Bool.{Bool, true, false, cond, _&&_}
 use mathlib.Core.List.{List, [], _∷_}
 use mathlib.Core.Option.{Option, none, some}
-use Prim.Native.Nat.{ℕ, zero, suc, _+_, _*_, _≤_, _<_}
-use native.Mathlib.Nat.{mul-le-mul-right, lt-of-not-le}
-use native.Mathlib.Decide.{decLe, decLt}
+use Prim.Native.Nat.{ℕ, zero, suc, _≤_, _<_}
+use native.Mathlib.Nat.{lt-of-not-le}
+use native.Mathlib.Decide.{decLe}
 use native.Mathlib.Omega.{arith}
 use lib.Dec.{eqb, leb}
-use lib.ListN.{length, getD, List·getD-eq-default}
+use lib.ListN.{length}
 use borrow.Author.Tests.{eq-eqb, ne-eqb, le-leb, lt-leb}
-use Rattle.settings.specs.Numbers.{inRange, lengthOf, headerWords, cellWords}
+use Rattle.settings.specs.Numbers.{inRange, lengthOf}
 use Rattle.settings.specs.Checked.{checkedOf, settingsOf}
 use Rattle.settings.specs.declared.Checked.the-variants.{Accepted, OutOfRange}
-use Rattle.lists.proofs.All.{All, all-zip}
 use Rattle.lists.proofs.Tests.{cond-has}
 use Rattle.records.specs.Notes.{noteBy}
-use Rattle.records.specs.declared.note.Logged.{Logged}
-use Rattle.meaning.specs.Row.{Node, firstOf, Place, places, owed, placeOf, nodeAt}
+use Rattle.meaning.specs.Row.{Node, placeOf, nodeAt}
 use Rattle.meaning.specs.State.{State, positionKey, placesOf}
-use Rattle.meaning.specs.Picture.{mark, standingWords, wordsOf, picture, nextFree}
+use Rattle.meaning.specs.Picture.{picture}
 use Rattle.meaning.specs.Reading.{read, settingsAt, isList, readingOf}
 use Rattle.meaning.specs.Refusals.{Outcome, accepted, Refusal, outOfRange, wrongLength, notAList, badKey, keyLive, noFreeCell, nothingLive}
-use Rattle.meaning.specs.Refusals.{keyNotLive, keyNotStanding, owedNotStanding, refused}
-use Rattle.meaning.specs.Words.{markAt, owedAt}
-use Rattle.meaning.specs.Operations.{onList, onKey, owesFromFree, looked, fresh, setUpOut, finished, withRow, linksMoved, finishAt, finishOut, onReading, setUpBy}
+use Rattle.meaning.specs.Refusals.{keyNotLive, keyNotStanding, lineNotReadable, badRecord, numberOutside, badBatch, answerOf, refused}
+use Rattle.meaning.specs.Operations.{onList, onKey, looked, fresh, setUpOut, finished, withRow, linksMoved, finishAt, finishOut, onReading, setUpBy}
 use Rattle.meaning.specs.Operations.{findAt, findOut, revived, slotFor, added, insertNew, insertAt, insertOut, fromLive, keysAbove, keysPassed}
-use Rattle.meaning.specs.Operations.{taken, takeFrom, takeOut, freedBy, swept, someOwesFromFree, sweepOn, sweepOut}
-use Rattle.meaning.specs.Records.{Lent, Asked, nothing, insertion, noteAsks, recorded, askedOut, noteOn, noteOut, recordOut}
+use Rattle.meaning.specs.Operations.{taken, takeFrom, takeOut, freedBy, swept, sweepOut}
+use Rattle.meaning.specs.Records.{Lent, lentOf, Asked, nothing, insertion, noteAsks, recorded, askedOut, noteOn, noteOut, recordOut}
 use Rattle.meaning.specs.Calls.{onWords, outcome}
 use Rattle.meaning.specs.Promises.{RefusedAltersNothing}
+use Rattle.meaning.specs.declared.Call.{Call}
 use Rattle.meaning.specs.declared.Call.the-variants.{SetUp, Insert, Find, Finish, Take, Sweep, Record}
 use Rattle.meaning.specs.declared.Reading.{Reading}
 use Rattle.meaning.specs.declared.Reading.the-variants.{IsList, NotAList}
 use Rattle.meaning.proofs.State.{Sound}
-use Rattle.meaning.proofs.Picture.{picture-length, picture-dimensions, picture-word, Told, told, first-has, freeWords-rest, places-later}
-use Rattle.meaning.proofs.ReadBack.{mark-stands, read-of-picture, picture-is-list, list-is-picture, list-sound}
-use Rattle.meaning.proofs.WalkRead.{row-mark-read}
+use Rattle.meaning.proofs.ReadBack.{read-of-picture, picture-is-list, list-is-picture, list-sound}
 
 -- What holds of each state in order and its picture holds of each list and the state that it holds.
 pub on-read-lists : (P : State → List ℕ → Type 0) → ((s : State) → Sound s → P s (picture s)) → (ws : List ℕ) → isList ws ≡ true → P (read ws) ws
@@ -47,73 +42,6 @@ on-read-lists P f ws e = subst (P (read ws)) (list-is-picture ws e) (f (read ws)
 
 pub on-lists : (P : List ℕ → Type 0) → ((s : State) → Sound s → P (picture s)) → (ws : List ℕ) → isList ws ≡ true → P ws
 on-lists P f ws e = on-read-lists (λ s. P) f ws e
-
--- The words of a cell that the debt test reads
-
--- a debt test fails if the owed word is 0 or names a cell whose mark is not 0
-debt-clear : (ws : List ℕ) (x o : ℕ) → owedAt ws x ≡ o → (0 < o → eqb (markAt ws o) 0 ≡ false) → owesFromFree ws x ≡ false
-unfolding owesFromFree
-debt-clear ws x o e f = ap (λ n. not (eqb n 0) && eqb (markAt ws n) 0) e ∙ at o f
-  where
-    at : (n : ℕ) → (0 < n → eqb (markAt ws n) 0 ≡ false) → (not (eqb n 0) && eqb (markAt ws n) 0) ≡ false
-    at zero g = refl
-    at (suc n) g = rw (g (omega arith), ne-eqb (suc n) 0 (λ q. omega arith)) refl
-
-owed-marked : (ws : List ℕ) (owes : Bool) (y : Node) → (owes ≡ true → markAt ws (y .cell) ≡ mark (y .live)) →
-    0 < cond owes (y .cell) 0 → eqb (markAt ws (cond owes (y .cell) 0)) 0 ≡ false
-owed-marked ws true y f h = ap (λ n. eqb n 0) (f refl) ∙ mark-stands (y .live)
-owed-marked ws false y f h = absurd (omega arith)
-
--- what a standing cell owes from stands
-pub places-owed : (s : State) → Sound s → All (λ p. 0 < owed p → eqb (markAt (picture s) (owed p)) 0 ≡ false)
-    (places (s .settings .base) (s .settings .dimensions) (s .row))
-places-owed s v =
-    let b = s .settings .base in
-    let D = s .settings .dimensions in
-    all-zip (λ p debt later.
-    owed-marked (picture s) (p .node .owes) (firstOf (p .later)) (λ o. first-has (λ x. markAt (picture s) (x .cell) ≡ mark (x .live)) (p .later) later
-    (debt o .later)))
-    (places b D (s .row)) (v .debts) (places-later (λ x. markAt (picture s) (x .cell) ≡ mark (x .live)) b D (s .row) (row-mark-read s v))
-
--- Refusal 9 comes of no cell of the picture of a state in order
-pub owed-stands : (s : State) → Sound s → (x : ℕ) → x < s .settings .cells → owesFromFree (picture s) x ≡ false
-unfolding wordsOf standingWords
-owed-stands s v x h =
-    at (placeOf x (places b D (s .row))) (picture-word s x 3 h (omega arith))
-    (told (λ p. 0 < owed p → eqb (markAt (picture s) (owed p)) 0 ≡ false) x (places b D (s .row)) (places-owed s v))
-  where
-    b : ℕ
-    b = s .settings .base
-
-    D : ℕ
-    D = s .settings .dimensions
-
-    at : (o : Option Place) → owedAt (picture s) x ≡ getD (wordsOf b D (s .free) x o) 3 0 →
-        Told (λ p. 0 < owed p → eqb (markAt (picture s) (owed p)) 0 ≡ false) x o → owesFromFree (picture s) x ≡ false
-    at none word t = debt-clear (picture s) x 0 (word ∙ freeWords-rest D (nextFree x (s .free)) 3 (omega arith) (omega arith)) (λ q. absurd (omega arith))
-    at (some p) word t = debt-clear (picture s) x (owed p) word (t .1)
-
--- .. nor of a number that is no cell's
-pub owed-beyond : (s : State) (x : ℕ) → s .settings .cells ≤ x → owesFromFree (picture s) x ≡ false
-owed-beyond s x h =
-    let D = s .settings .dimensions in
-    let beyond = mul-le-mul-right (cellWords D) h in
-    let outside : length (picture s) ≤ headerWords + D + x * cellWords D + 3 = omega (arith, picture-length s) in
-    debt-clear (picture s) x 0
-    (ap (λ n. getD (picture s) (headerWords + n + x * cellWords n + 3) 0) (picture-dimensions s) ∙ List·getD-eq-default (picture s) 0 outside)
-    (λ q. absurd (omega arith))
-
-pub owed-never-free : (s : State) → Sound s → (x : ℕ) → owesFromFree (picture s) x ≡ false
-owed-never-free s v x = at (decLt x (s .settings .cells))
-  where
-    at : Dec (x < s .settings .cells) → owesFromFree (picture s) x ≡ false
-    at (yes h) = owed-stands s v x h
-    at (no h) = owed-beyond s x (omega arith)
-
-pub row-owed-never-free : (s : State) → Sound s → (row : List Node) → someOwesFromFree (picture s) row ≡ false
-unfolding someOwesFromFree
-row-owed-never-free s v [] = refl
-row-owed-never-free s v (x ∷ row) = rw (owed-never-free s v (x .cell), row-owed-never-free s v row) refl
 
 -- Every operation but set up
 
@@ -201,7 +129,7 @@ pub insert-outcome-new : (s : State) → Sound s → (key value : ℕ) → 1 ≤
 unfolding insertAt insertNew
 insert-outcome-new s v key value l h e room =
     insert-outcome s v key value l h ∙ ap (insertAt (picture s) s key value) e
-    ∙ rw (ne-eqb (length (s .free)) 0 (λ q. omega arith), owed-never-free s v (slotFor s key .parent), owed-never-free s v (slotFor s key .c)) refl
+    ∙ rw (ne-eqb (length (s .free)) 0 (λ q. omega arith)) refl
 
 -- Find
 
@@ -261,8 +189,7 @@ pub finish-outcome-standing : (s : State) → Sound s → (key : ℕ) → 1 ≤ 
     (x : Node) → nodeAt key (s .row) ≡ some x →
     finishOut (picture s) key ≡ accepted key 0 (linksMoved s (placeOf (x .cell) (placesOf s (s .row)))) (picture (withRow s (finished (x .cell) (s .row))))
 unfolding finishAt
-finish-outcome-standing s v key l h x e =
-    finish-outcome s v key l h ∙ ap (finishAt (picture s) s key) e ∙ rw (owed-never-free s v (x .cell)) refl
+finish-outcome-standing s v key l h x e = finish-outcome s v key l h ∙ ap (finishAt (picture s) s key) e
 
 -- Take
 
@@ -288,11 +215,11 @@ take-outcome-first s v x later e = take-outcome s v ∙ ap (takeFrom (picture s)
 
 pub sweep-outcome-not-a-list : (ws : List ℕ) → isList ws ≡ false → sweepOut ws ≡ refused notAList ws
 unfolding sweepOut
-sweep-outcome-not-a-list ws e = not-on-list ws (sweepOn ws) e
+sweep-outcome-not-a-list ws e = not-on-list ws (λ s. accepted 0 0 (length (freedBy (s .row))) (picture (swept s))) e
 
 pub sweep-outcome : (s : State) → Sound s → sweepOut (picture s) ≡ accepted 0 0 (length (freedBy (s .row))) (picture (swept s))
-unfolding sweepOut sweepOn
-sweep-outcome s v = on-picture s v (sweepOn (picture s)) ∙ rw (row-owed-never-free s v (s .row)) refl
+unfolding sweepOut
+sweep-outcome s v = on-picture s v (λ s. accepted 0 0 (length (freedBy (s .row))) (picture (swept s)))
 
 -- What holds of each end of an operation, on any words, holds of its outcome
 
@@ -333,9 +260,7 @@ module _ (P : Outcome (List ℕ) → Type 0) (ws : List ℕ) (turned : (r : Refu
     where
       at : (s : State) (o : Option Node) → P (insertAt ws s key value o)
       at s none =
-          let t = slotFor s key in
-          cond-has P (eqb (length (s .free)) 0) _ _ (turned (noFreeCell key (looked s key)))
-          (cond-has P (owesFromFree ws (t .parent) || owesFromFree ws (t .c)) _ _ (turned owedNotStanding) (done (looked s key) (added s key value t)))
+          cond-has P (eqb (length (s .free)) 0) _ _ (turned (noFreeCell key (looked s key))) (done (looked s key) (added s key value (slotFor s key)))
       at s (some x) = cond-has P (x .live) _ _ (turned (keyLive key (looked s key))) (done (looked s key) (revived s x value))
 
   find-has : (key : ℕ) → ((value count : ℕ) → P (accepted key value count ws)) → P (findOut ws key)
@@ -352,8 +277,7 @@ module _ (P : Outcome (List ℕ) → Type 0) (ws : List ℕ) (turned : (r : Refu
     where
       at : (s : State) (o : Option Node) → P (finishAt ws s key o)
       at s none = turned (keyNotStanding key)
-      at s (some x) = cond-has P (owesFromFree ws (x .cell)) _ _ (turned owedNotStanding)
-          (done (linksMoved s (placeOf (x .cell) (placesOf s (s .row)))) (withRow s (finished (x .cell) (s .row))))
+      at s (some x) = done (linksMoved s (placeOf (x .cell) (placesOf s (s .row)))) (withRow s (finished (x .cell) (s .row)))
 
   take-has : ((key value count : ℕ) (s : State) → P (accepted key value count (picture s))) → P (takeOut ws)
   unfolding takeOut takeFrom
@@ -364,55 +288,82 @@ module _ (P : Outcome (List ℕ) → Type 0) (ws : List ℕ) (turned : (r : Refu
       at s (x ∷ later) = done (x .key) (x .value) (keysPassed (positionKey s) (x .key) (s .row)) (taken s x)
 
   sweep-has : ((count : ℕ) (s : State) → P (accepted 0 0 count (picture s))) → P (sweepOut ws)
-  unfolding sweepOut sweepOn
-  sweep-has done = onList-has P ws (sweepOn ws) (turned notAList) (λ s. cond-has P (someOwesFromFree ws (s .row)) _ _ (turned owedNotStanding)
-      (done (length (freedBy (s .row))) (swept s)))
+  unfolding sweepOut
+  sweep-has done =
+      onList-has P ws (λ s. accepted 0 0 (length (freedBy (s .row))) (picture (swept s))) (turned notAList)
+      (λ s. done (length (freedBy (s .row))) (swept s))
 
--- A refused call alters nothing
+-- A call is accepted, or it is refused by a number of the table and alters nothing.
 
-abbrev Kept : List ℕ → Outcome (List ℕ) → Type 0
-Kept ws o = (o .answered .refusal ≡ 0 → ⊥) → o .left ≡ ws
+data Ends {Lent : Type 0} (lent : Lent) (o : Outcome Lent) : Type 0 where
+  well : o .answered .refusal ≡ 0 → Ends lent o
+  refusing : (r : Refusal) → o ≡ refused r lent → Ends lent o
+
+turned-away : {Lent : Type 0} (lent : Lent) (r : Refusal) → Ends lent (refused r lent)
+turned-away lent r = refusing r refl
 
 -- .. and so nothing else that was lent
-kept-lent : (lent : Lent) (o : Outcome (List ℕ)) → Kept (lent .words) o → (o .answered .refusal ≡ 0 → ⊥) → onWords lent o .left ≡ lent
-kept-lent lent o kept ne = λ i. record { words = kept ne i; bytes = lent .bytes; last = lent .last }
+ends-lent : (lent : Lent) (o : Outcome (List ℕ)) → Ends (lent .words) o → Ends lent (onWords lent o)
+ends-lent lent o (well z) = well z
+ends-lent lent o (refusing r e) = refusing r (ap (onWords lent) e)
 
--- a refused insert alters neither the words nor the last number
-kept-recorded :
-    (lent : Lent) (number : ℕ) (o : Outcome (List ℕ)) → Kept (lent .words) o → (o .answered .refusal ≡ 0 → ⊥) → recorded lent number o .left ≡ lent
-kept-recorded lent number o kept ne =
-    let same : cond (eqb (o .answered .refusal) 0) number (lent .last) ≡ lent .last = rw (ne-eqb (o .answered .refusal) 0 ne) refl in
-    λ i. record { words = kept ne i; bytes = lent .bytes; last = same i }
+-- the numbers of the table
+pub table : (r : Refusal) → (answerOf r .refusal ≡ 0 → ⊥) × (answerOf r .refusal ≡ 9 → ⊥)
+table outOfRange = (λ e. omega arith, λ e. omega arith)
+table wrongLength = (λ e. omega arith, λ e. omega arith)
+table notAList = (λ e. omega arith, λ e. omega arith)
+table badKey = (λ e. omega arith, λ e. omega arith)
+table (keyLive key count) = (λ e. omega arith, λ e. omega arith)
+table (noFreeCell key count) = (λ e. omega arith, λ e. omega arith)
+table (nothingLive above) = (λ e. omega arith, λ e. omega arith)
+table (keyNotLive key count) = (λ e. omega arith, λ e. omega arith)
+table (keyNotStanding key) = (λ e. omega arith, λ e. omega arith)
+table lineNotReadable = (λ e. omega arith, λ e. omega arith)
+table badRecord = (λ e. omega arith, λ e. omega arith)
+table numberOutside = (λ e. omega arith, λ e. omega arith)
+table badBatch = (λ e. omega arith, λ e. omega arith)
 
-insert-kept : (ws : List ℕ) (key value : ℕ) → Kept ws (insertOut ws key value)
-insert-kept ws key value = insert-has (Kept ws) ws (λ r ne. refl) key value (λ count s ne. absurd (ne refl))
+insert-ends : (ws : List ℕ) (key value : ℕ) → Ends ws (insertOut ws key value)
+insert-ends ws key value = insert-has (Ends ws) ws (turned-away ws) key value (λ count s. well refl)
 
-asked-kept : (lent : Lent) (asked : Asked) → (askedOut lent asked .answered .refusal ≡ 0 → ⊥) → askedOut lent asked .left ≡ lent
-asked-kept lent (nothing refusal) ne = refl
-asked-kept lent (insertion key number) ne = kept-recorded lent number (insertOut (lent .words) key number) (insert-kept (lent .words) key number) ne
+-- a refused insert advances no last number
+ends-recorded : (lent : Lent) (number : ℕ) (o : Outcome (List ℕ)) → Ends (lent .words) o → Ends lent (recorded lent number o)
+ends-recorded lent number o (well z) = well z
+ends-recorded lent number o (refusing r e) =
+    refusing r (ap (recorded lent number) e ∙
+    ap (λ t. record { answered = answerOf r; left = lentOf (lent .words) (lent .bytes) (cond t number (lent .last)) }) (ne-eqb (answerOf r .refusal) 0 (table r .0)))
 
-note-kept : (logged : Logged) (lent : Lent) → (noteOut logged lent .answered .refusal ≡ 0 → ⊥) → noteOut logged lent .left ≡ lent
-unfolding noteOut
-note-kept logged lent = at (readingOf (lent .words))
+asked-ends : (lent : Lent) (asked : Asked) → Ends lent (askedOut lent asked)
+asked-ends lent (nothing r) = refusing r refl
+asked-ends lent (insertion key number) = ends-recorded lent number (insertOut (lent .words) key number) (insert-ends (lent .words) key number)
+
+ends : (call : Call) (lent : Lent) → Ends lent (outcome call lent)
+unfolding outcome recordOut noteOut
+ends (SetUp D K C) lent = ends-lent lent _ (set-up-has (Ends (lent .words)) (lent .words) (turned-away (lent .words)) D K C (well refl))
+ends (Insert key value) lent = ends-lent lent _ (insert-ends (lent .words) key value)
+ends (Find key) lent = ends-lent lent _ (find-has (Ends (lent .words)) (lent .words) (turned-away (lent .words)) key (λ value count. well refl))
+ends (Finish key) lent = ends-lent lent _ (finish-has (Ends (lent .words)) (lent .words) (turned-away (lent .words)) key (λ count s. well refl))
+ends Take lent = ends-lent lent _ (take-has (Ends (lent .words)) (lent .words) (turned-away (lent .words)) (λ key value count s. well refl))
+ends Sweep lent = ends-lent lent _ (sweep-has (Ends (lent .words)) (lent .words) (turned-away (lent .words)) (λ count s. well refl))
+ends Record lent = at (readingOf (lent .words))
   where
-    at : (reading : Reading) → (noteOn lent logged reading .answered .refusal ≡ 0 → ⊥) → noteOn lent logged reading .left ≡ lent
-    at (IsList s) ne = asked-kept lent (noteAsks (lent .last) logged) ne
-    at NotAList ne = refl
+    at : (reading : Reading) → Ends lent (noteOn lent (noteBy (lent .bytes)) reading)
+    at (IsList s) = asked-ends lent (noteAsks (lent .last) (noteBy (lent .bytes)))
+    at NotAList = refusing notAList refl
 
 pub refused-alters-nothing : RefusedAltersNothing
-unfolding outcome recordOut
-refused-alters-nothing (SetUp D K C) lent =
-    kept-lent lent (setUpOut D K C (lent .words)) (set-up-has (Kept (lent .words)) (lent .words) (λ r ne. refl) D K C (λ ne. absurd (ne refl)))
-refused-alters-nothing (Insert key value) lent = kept-lent lent (insertOut (lent .words) key value) (insert-kept (lent .words) key value)
-refused-alters-nothing (Find key) lent =
-    kept-lent lent (findOut (lent .words) key) (find-has (Kept (lent .words)) (lent .words) (λ r ne. refl) key (λ value count ne. refl))
-refused-alters-nothing (Finish key) lent =
-    kept-lent lent (finishOut (lent .words) key) (finish-has (Kept (lent .words)) (lent .words) (λ r ne. refl) key (λ count s ne. absurd (ne refl)))
-refused-alters-nothing Take lent =
-    kept-lent lent (takeOut (lent .words)) (take-has (Kept (lent .words)) (lent .words) (λ r ne. refl) (λ key value count s ne. absurd (ne refl)))
-refused-alters-nothing Sweep lent =
-    kept-lent lent (sweepOut (lent .words)) (sweep-has (Kept (lent .words)) (lent .words) (λ r ne. refl) (λ count s ne. absurd (ne refl)))
-refused-alters-nothing Record lent = note-kept (noteBy (lent .bytes)) lent
+refused-alters-nothing call lent ne = at (ends call lent)
+  where
+    at : Ends lent (outcome call lent) → outcome call lent .left ≡ lent
+    at (well z) = absurd (ne z)
+    at (refusing r e) = ap (λ o. o .left) e
+
+pub call-never-nine : (call : Call) (lent : Lent) → outcome call lent .answered .refusal ≡ 9 → ⊥
+call-never-nine call lent nine = at (ends call lent)
+  where
+    at : Ends lent (outcome call lent) → ⊥
+    at (well z) = omega arith
+    at (refusing r e) = table r .1 (sym (ap (λ o. o .answered .refusal) e) ∙ nine)
 
 -- on a list a record does what it asks for
 pub record-asks : (lent : Lent) → isList (lent .words) ≡ true → recordOut lent ≡ askedOut lent (noteAsks (lent .last) (noteBy (lent .bytes)))

@@ -25,6 +25,7 @@ use Rattle.meaning.specs.Promises.{PresentMeansThatKey, TakesInTurn, Tak
 use Rattle.meaning.specs.Promises.{InsertWrites, FinishWrites, SweepWrites, EachCellOnce, SweptCellsFirst, InsertUsesFirst, SharedMeansLeading}
 use Rattle.meaning.specs.Promises.{ListMeansSentences, WalkIsRule, WalkOnce, WalkBounded, WalkEnds, WalkByKeysAlone, OrderIsLexicographic}
 use Rattle.meaning.specs.Promises.{ShapeByKeysAlone, AnswersAreBooked, OneOutcome, RecordIsInsert, LastIsValue, BatchIsCalls, RefusedBatchAltersNothing, BatchRefusals}
+use Rattle.meaning.specs.Promises.{OwedCellsStand, OwedCellsStandFromFresh, OwedCellsStandInSweep, NineIsRetired}
 use Rattle.meaning.proofs.Keys.{shared-agreed, lexicographic, coordinates-determine}
 use Rattle.meaning.proofs.AscendingKeys.{asc-rising, rising-equal}
 use Rattle.meaning.proofs.State.{Sound, base-positive, base-above}
@@ -37,6 +38,7 @@ use Rattle.meaning.proofs.Book as book
 use Rattle.meaning.proofs.BookReplies as replies
 use Rattle.meaning.proofs.Writes as leaves
 use Rattle.meaning.proofs.Batch as batch
+use Rattle.meaning.proofs.OwedCells as owed
 use Rattle.meaning.proofs.Serves as serves
 use Rattle.meaning.proofs.BookPresent as present
 use Rattle.meaning.proofs.Walk as walks
@@ -217,6 +219,18 @@ refused-batch-alters-nothing = batch.refused-batch-alters-nothing
 
 pub batch-refusals : BatchRefusals
 batch-refusals = batch.batch-refusals
+
+pub owed-cells-stand : OwedCellsStand
+owed-cells-stand = owed.owed-cells-stand
+
+pub owed-cells-stand-from-fresh : OwedCellsStandFromFresh
+owed-cells-stand-from-fresh ws from = owed-cells-stand ws (lists-stay-lists ws from)
+
+pub owed-cells-stand-in-sweep : OwedCellsStandInSweep
+owed-cells-stand-in-sweep = owed.owed-cells-stand-in-sweep
+
+pub nine-is-retired : NineIsRetired
+nine-is-retired = (λ r. outcomes.table r .1, (outcomes.call-never-nine, batch.batch-never-nine))
 
 pub refused-alters-nothing : RefusedAltersNothing
 refused-alters-nothing = outcomes.refused-alters-nothing

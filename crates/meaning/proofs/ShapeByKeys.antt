@@ -1,6 +1,6 @@
 -- The settled shape follows from the keys alone: what the sentences say of a settled link is said by D, b and the keys of standing cells,
 -- so it holds of the cells with the same keys in another list that has the same ones.
-use mathlib.Core.Path.{_≡_, refl, sym, _∙_, ap, subst}
+use mathlib.Core.Path.{_≡_, sym, _∙_, ap, subst}
 use mathlib.Core.Bool.{true}
 use mathlib.Core.List.{List, map}
 use Prim.Native.Nat.{ℕ, _<_}
@@ -8,7 +8,7 @@ use native.Mathlib.Omega.{arith}
 use Rattle.lists.specs.Compared.{agreed}
 use Rattle.lists.proofs.All.{All, all-map, all-of-map, all-mapped}
 use Rattle.meaning.specs.Keys.{coordinate, coordinates}
-use Rattle.meaning.specs.Reading.{read, isList}
+use Rattle.meaning.specs.Reading.{isList}
 use Rattle.meaning.specs.Words.{keyAt, owedAt, linkAt, dimensionsAt, baseAt}
 use Rattle.meaning.specs.Book.{standingKeys}
 use Rattle.meaning.specs.Sentences.{sharedAt, digitAt, Standing, NextSmaller, Dimension, of-head, of-other, LargerAt, Settled, leads}

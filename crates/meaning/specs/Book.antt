@@ -135,7 +135,7 @@ abbrev pub takeReply : List Pair → Reply
 takeReply [] = replies 7 0 0
 takeReply (p ∷ pairs) = replies 0 (p .key) (p .value)
 
--- what a call on a list of `long` words replies: *The operations*, with the refusals in the order of *Refusals 1*; 3 and 9 are no list's
+-- what a call on a list of `long` words replies: *The operations*, with the refusals in the order of *Refusals 1*; 3 is no list's
 unfoldable pub replyToCall : Call → Asked → ℕ → Book → Reply
 replyToCall (SetUp D K C) asked long k = cond (inRange D K C) (cond (eqb long (lengthOf D C)) (replies 0 0 0) (replies 2 0 0)) (replies 1 0 0)
 replyToCall (Insert key value) asked long k = keyed key k (insertReply key k)

@@ -1,6 +1,6 @@
 -- The six operations: for every list of words and all numbers, the four numbers answered and every word afterwards. The operations,
 -- Refusals.
-use mathlib.Core.Bool.{Bool, true, false, cond, _&&_, _||_, not}
+use mathlib.Core.Bool.{Bool, true, false, cond, _&&_, not}
 use mathlib.Core.List.{List, [], _∷_, _++_, map, reverseAux, dropLast}
 use mathlib.Core.Option.{Option, none, some}
 use Prim.Native.Nat.{ℕ, _-_}
@@ -17,9 +17,8 @@ use Rattle.meaning.specs.State.{State, keyOf, positionKey, placesOf}
 use Rattle.meaning.specs.Picture.{picture}
 use Rattle.meaning.specs.Reading.{read, readingOf}
 use Rattle.meaning.specs.Refusals.{Outcome, accepted, outOfRange, wrongLength, notAList, badKey, keyLive, noFreeCell, nothingLive, keyNotLive}
-use Rattle.meaning.specs.Refusals.{keyNotStanding, owedNotStanding, refused}
+use Rattle.meaning.specs.Refusals.{keyNotStanding, refused}
 use Rattle.meaning.specs.Rule.{rule}
-use Rattle.meaning.specs.Words.{markAt, owedAt, freeMark}
 use Rattle.meaning.specs.declared.Reading.{Reading}
 use Rattle.meaning.specs.declared.Reading.the-variants.{IsList, NotAList}
 
@@ -34,10 +33,6 @@ onList ws act = onReading ws act (readingOf ws)
 -- Refusal 4: key 0 or above K.
 unfoldable pub onKey : List ℕ → State → ℕ → Outcome (List ℕ) → Outcome (List ℕ)
 onKey ws s key done = cond (leb 1 key && leb key (s .settings .largest)) done (refused badKey ws)
-
--- Refusal 9: the cell that the owed word of cell x names has mark 0.
-unfoldable pub owesFromFree : List ℕ → ℕ → Bool
-owesFromFree ws x = not (eqb (owedAt ws x) 0) && eqb (markAt ws (owedAt ws x)) freeMark
 
 -- Looked 5: looked is over the keys that stand before the call; by the rule, Looked 4.
 unfoldable pub looked : State → ℕ → ℕ
@@ -83,8 +78,7 @@ linksMoved s (some x) = high (s .settings .base) (s .settings .dimensions) x - l
 unfoldable pub finishAt : List ℕ → State → ℕ → Option Node → Outcome (List ℕ)
 finishAt ws s key none = refused (keyNotStanding key) ws
 finishAt ws s key (some x) =
-    cond (owesFromFree ws (x .cell)) (refused owedNotStanding ws)
-    (accepted key 0 (linksMoved s (placeOf (x .cell) (placesOf s (s .row)))) (picture (withRow s (finished (x .cell) (s .row)))))
+    accepted key 0 (linksMoved s (placeOf (x .cell) (placesOf s (s .row)))) (picture (withRow s (finished (x .cell) (s .row))))
 
 -- The operations 4: finish answers the key and the links moved; the key may be dead.
 unfoldable pub finishOut : List ℕ → ℕ → Outcome (List ℕ)
@@ -173,10 +167,8 @@ added s key value t =
 
 unfoldable pub insertNew : List ℕ → State → ℕ → ℕ → Outcome (List ℕ)
 insertNew ws s key value =
-    let t = slotFor s key in
     cond (eqb (length (s .free)) 0) (refused (noFreeCell key (looked s key)) ws)
-    (cond (owesFromFree ws (t .parent) || owesFromFree ws (t .c)) (refused owedNotStanding ws)
-    (accepted key 0 (looked s key) (picture (added s key value t))))
+    (accepted key 0 (looked s key) (picture (added s key value (slotFor s key))))
 
 unfoldable pub insertAt : List ℕ → State → ℕ → ℕ → Option Node → Outcome (List ℕ)
 insertAt ws s key value none = insertNew ws s key value
@@ -251,15 +243,6 @@ swept s =
       position = lastOf (deadFront (s .row)) .cell;
     }
 
--- Refusals 2: for a sweep, every cell's debt.
-unfoldable pub someOwesFromFree : List ℕ → List Node → Bool
-someOwesFromFree ws [] = false
-someOwesFromFree ws (x ∷ row) = owesFromFree ws (x .cell) || someOwesFromFree ws row
-
-unfoldable pub sweepOn : List ℕ → State → Outcome (List ℕ)
-sweepOn ws s =
-    cond (someOwesFromFree ws (s .row)) (refused owedNotStanding ws) (accepted 0 0 (length (freedBy (s .row))) (picture (swept s)))
-
 -- The operations 6: sweep answers the number of cells freed.
 unfoldable pub sweepOut : List ℕ → Outcome (List ℕ)
-sweepOut ws = onList ws (sweepOn ws)
+sweepOut ws = onList ws (λ s. accepted 0 0 (length (freedBy (s .row))) (picture (swept s)))

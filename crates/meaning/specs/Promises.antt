@@ -15,7 +15,7 @@ use Rattle.meaning.specs.declared.Answer.{Answer}
 use Rattle.meaning.specs.Keys.{coordinates, shared}
 use Rattle.meaning.specs.Row.{Node, nodeAt}
 use Rattle.meaning.specs.Reading.{read, settingsAt, isList}
-use Rattle.meaning.specs.Refusals.{Outcome, Meets, notAList, badBatch, refused}
+use Rattle.meaning.specs.Refusals.{Outcome, Meets, Refusal, notAList, badBatch, answerOf, refused}
 use Rattle.meaning.specs.Rule.{rule}
 use Rattle.meaning.specs.Words.{keyAt, markAt, owedAt, lowAt, highAt, linkAt, dimensionsAt, largestAt, cellsAt, baseAt, liveMark}
 use Rattle.meaning.specs.Walk.{walk, trailFrom, trail, ends}
@@ -25,6 +25,7 @@ use Rattle.meaning.specs.Writes.{OwesNothing, OwesSame, Finished, Insert
 use Rattle.meaning.specs.Calls.{outcome, Made, alone, madeOn, afterCalls}
 use Rattle.meaning.specs.Batch.{BatchLent, callsIn, answerWords, fits, batchOut}
 use Rattle.meaning.specs.Sentences.{Standing, AList}
+use Rattle.meaning.specs.Layer.SweepStores.{finishAll}
 use Rattle.meaning.specs.Book.{Pair, livePairs, standingKeys, bookOf, bookedAll, replyIn, replyTo}
 use Rattle.meaning.specs.declared.Call.the-variants.{SetUp, Insert, Find, Finish, Take, Sweep, Record}
 use Rattle.meaning.specs.declared.Call.{Call}
@@ -287,6 +288,28 @@ BatchRefusals =
     (calls : List ℕ) (lent : BatchLent) →
     (isList (lent .words) ≡ false → batchOut calls lent ≡ refused notAList lent) ×
     (isList (lent .words) ≡ true → fits calls (lent .answers) ≡ false → batchOut calls lent ≡ refused badBatch lent)
+
+-- 13. Number 9 is retired. In a list every cell owed from stands;
+abbrev pub OwedStand : List ℕ → Type 0
+OwedStand ws = (x : ℕ) → x < cellsAt ws → 0 < owedAt ws x → Standing ws (owedAt ws x)
+
+abbrev pub OwedCellsStand : Type 0
+OwedCellsStand = (ws : List ℕ) → isList ws ≡ true → OwedStand ws
+
+-- .. so it holds after any calls from a fresh list,
+abbrev pub OwedCellsStandFromFresh : Type 0
+OwedCellsStandFromFresh = (ws : List ℕ) → FromFresh ws → OwedStand ws
+
+-- .. and within a sweep, on the words between one debt and the next: what n cells from x on owed is finished, and no more.
+abbrev pub OwedCellsStandInSweep : Type 0
+OwedCellsStandInSweep =
+    (ws : List ℕ) → isList ws ≡ true → (x n : ℕ) → x + n ≤ cellsAt ws → OwedStand (finishAll (dimensionsAt ws) ws x n)
+
+-- .. and 9 is no number of the table, and no call's and no batch's.
+abbrev pub NineIsRetired : Type 0
+NineIsRetired =
+    ((r : Refusal) → answerOf r .refusal ≡ 9 → ⊥) × (((call : Call) (lent : Lent) → outcome call lent .answered .refusal ≡ 9 → ⊥) ×
+    ((calls : List ℕ) (lent : BatchLent) → batchOut calls lent .answered .refusal ≡ 9 → ⊥))
 
 -- Any two outcomes that a contract allows are equal: the seven exported functions all ensure `Meets o r lent`, of the outcome o of their call
 -- and whatever was lent to it.

@@ -40,8 +40,6 @@ pub data Refusal : Type 0 where
   keyNotLive : (key looked : ℕ) → Refusal
   -- finish: key not standing
   keyNotStanding : (key : ℕ) → Refusal
-  -- insert, finish, sweep: a cell owed from is not standing
-  owedNotStanding : Refusal
   -- program: line not readable
   lineNotReadable : Refusal
   -- record: it breaks the grammar, or a field's range
@@ -51,7 +49,7 @@ pub data Refusal : Type 0 where
   -- batch: the words are no calls, or there is no room for the answers
   badBatch : Refusal
 
--- the table's numbers, and the answers after the number
+-- the table's numbers, and the answers after the number; 9 is retired and not used again
 abbrev pub answerOf : Refusal → Answer
 answerOf outOfRange = answer 1 0 0 0
 answerOf wrongLength = answer 2 0 0 0
@@ -62,7 +60,6 @@ answerOf (noFreeCell key looked) = answer 6 key 0 looked
 answerOf (nothingLive above) = answer 7 0 0 above
 answerOf (keyNotLive key looked) = answer 8 key 0 looked
 answerOf (keyNotStanding key) = answer 8 key 0 0
-answerOf owedNotStanding = answer 9 0 0 0
 answerOf lineNotReadable = answer 10 0 0 0
 answerOf badRecord = answer 13 0 0 0
 answerOf numberOutside = answer 14 0 0 0

@@ -32,8 +32,6 @@ pub const KEY_NOT_LIVE: u32 = 8;
 
 pub const KEY_NOT_STANDING: u32 = 8;
 
-pub const OWED_NOT_STANDING: u32 = 9;
-
 pub const LINE_NOT_READABLE: u32 = 10;
 
 pub const BAD_RECORD: u32 = 13;

@@ -1,9 +1,8 @@
 -- Each way out of a sweep has the outcome of the definition: what is left is the picture of the swept state, and the count is that of the
 -- nodes freed, whether all was paid before or not.
-use mathlib.Core.Path.{_≡_, refl, sym, ap, _∙_}
-use mathlib.Core.Bool.{Bool, true, false, false≢true, _||_}
+use mathlib.Core.Path.{_≡_, sym, ap, _∙_}
 use mathlib.Core.List.{List, map}
-use Prim.Native.Nat.{ℕ, zero, suc, _+_, _-_}
+use Prim.Native.Nat.{ℕ, _+_, _-_}
 use native.Mathlib.Omega.{arith}
 use lib.ListN.{length, length-map, length-reverseAux}
 use Rattle.settings.specs.declared.Settings.{Settings}
@@ -11,30 +10,16 @@ use Rattle.meaning.specs.State.{State}
 use Rattle.meaning.specs.Picture.{picture}
 use Rattle.meaning.specs.Reading.{read}
 use Rattle.meaning.specs.Refusals.{answer, accepted, Meets}
-use Rattle.meaning.specs.Operations.{owesFromFree, paid, withRow, deadFront, lastOf, freedBy, swept, sweepOut}
+use Rattle.meaning.specs.Operations.{paid, withRow, deadFront, lastOf, freedBy, swept, sweepOut}
 use Rattle.meaning.specs.Layer.SweepStores.{finishAll}
 use Rattle.meaning.specs.declared.Answer.{Answer}
 use Rattle.meaning.specs.Layer.Listed.{Listed}
 use Rattle.meaning.proofs.SweepWords.{swept-paid, swept-stays}
 use Rattle.meaning.proofs.Outcomes.{sweep-outcome}
-use Rattle.finish.proofs.Debts.{listed-owes}
 use Rattle.words.proofs.Listed.{on-listed}
 use Rattle.free_between.specs.declared.Target.{Target}
 use Rattle.free_between.specs.Between.{SweptTo, Paid}
-use Rattle.sweep.specs.Sweeping.{someOwesFrom}
 use Rattle.sweep.proofs.Lists.{paid-read}
-
--- refusal 9's test is never met
-
-none-owes : (ws : List ℕ) → ((x : ℕ) → owesFromFree ws x ≡ false) → (x n : ℕ) → someOwesFrom ws x n ≡ false
-unfolding someOwesFrom
-none-owes ws f x zero = refl
-none-owes ws f x (suc n) = ap (λ t. t || someOwesFrom ws (suc x) n) (f x) ∙ none-owes ws f (suc x) n
-
-pub never-meets :
-    {ws : List ℕ} {s : Settings} → Listed ws s → {r : Answer} {left : List ℕ} {owes : Bool} → owes ≡ someOwesFrom ws 1 (s .cells - 1) →
-    owes ≡ true → Meets (sweepOut ws) r left
-never-meets {ws} {s} h e owes = absurd (false≢true (sym (e ∙ none-owes ws (listed-owes h) 1 (s .cells - 1)) ∙ owes))
 
 -- The swept state
 

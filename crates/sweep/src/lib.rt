@@ -8,25 +8,9 @@ ghost use Rattle.meaning.specs.Layer.SweepStores.{finishAll};
 ghost use Rattle.meaning.specs.Layer.Listed.{Listed};
 ghost use Rattle.words.specs.Shaped.{Shaped};
 ghost use Rattle.free_between.specs.Between.{SweptTo, Paid};
-ghost use Rattle.sweep.specs.Sweeping.{someOwesFrom};
 use free_between::Target;
 use meaning::Answer;
 use settings::Settings;
-
-// Refusal 9's test for a sweep: every cell's debt.
-fn some_owes_from_free(list: &[u32], s: Settings) -> bool
-    requires { ⌜ Shaped (now list) s ⌝ }
-    ensures { λ r. ⌜ r ≡ someOwesFrom (now (list .entry)) 1 (s .cells - 1) ⌝ }
-{
-    let mut x: u32 = 1;
-    while x < s.cells {
-        if finish::owes_from_free(list, s, x) {
-            return true;
-        }
-        x += 1;
-    }
-    false
-}
 
 // All that is owed is finished.
 fn finish_all(list: &mut [u32], s: Settings)
@@ -75,9 +59,6 @@ pub fn sweep(list: &mut [u32], s: Settings) -> Answer
     requires { ⌜ Listed (now list) s ⌝ }
     ensures { λ r. ⌜ Meets (sweepOut (now (list .entry))) r (now (list .exit)) ⌝ }
 {
-    if some_owes_from_free(list, s) {
-        return finish::owed_not_standing();
-    }
     finish_all(list, s);
     let t = seek_target(list, s);
     if t.cell == 0 {

@@ -1,5 +1,4 @@
--- `finish::finish` meets its contract: the key and what the search found decide the way out, and each has the outcome of the definition;
--- the way out with refusal 9 is never gone, since on a list a cell owed from stands.
+-- `finish::finish` meets its contract: the key and what the search found decide the way out, and each has the outcome of the definition.
 use mathlib.Core.Path.{ap₂}
 use Prim.Native.Nat.{_-_, _≤_, _<_}
 use native.Mathlib.Omega.{arith}
@@ -8,7 +7,7 @@ use borrow.Author.Tests.{not-true, not-false}
 use Rattle.words.proofs.Shaped.{field-within}
 use Rattle.words.proofs.Listed.{listed-shaped}
 use Rattle.finish.proofs.Debts.{listed-payable, listed-low}
-use Rattle.finish.proofs.Call.{bad-key-meets, absent-meets, standing-cell, never-meets, standing-meets}
+use Rattle.finish.proofs.Call.{bad-key-meets, absent-meets, standing-cell, standing-meets}
 use Rattle.finish.proofs.finish.Statement.{statement}
 use Rattle.finish.proofs.finish.Tie as tie
 
@@ -42,41 +41,30 @@ returns-3 c =
     absent-meets (s .pre) (s .args .key) (k .0) (k .1) (f .ensures .found) (not-true (f .result .standing) (c .before .if3 .taken))
     (c .refused-at .ensures)
 
-owes-from-free-requires : tie.Need-owes-from-free-requires
-owes-from-free-requires c κs =
-    let e = c .before in
-    (listed-shaped (e .before .before .before .before .before .before .before .before .pre), cell e)
-
-returns-4 : tie.Need-returns-4
-returns-4 c =
-    let s = c .before .before .before .before .before .before .before .before .before .before .before .before in
-    let f = c .before .before .before .before .before .before .search in
-    never-meets (s .pre) (s .args .key) (f .result .c) (c .before .before .owes-from-free .ensures) (c .before .if4 .taken)
-
 word-requires : tie.Need-word-requires
 word-requires c κs =
-    let e = c .before .before .before .before in
+    let e = c .before in
     (listed-shaped (e .before .before .before .before .before .before .before .before .pre), field-within (cell e) (omega arith))
 
 word-requires-2 : tie.Need-word-requires-2
 word-requires-2 c κs =
-    let e = c .before .before .before .before .before .before in
+    let e = c .before .before .before in
     (listed-shaped (e .before .before .before .before .before .before .before .before .pre), field-within (cell e) (omega arith))
 
 sub-moved : tie.Need-sub-moved
 sub-moved c =
-    let e = c .before .before .before .before .before .before .before in
+    let e = c .before .before .before .before in
     omega (arith, listed-low (e .before .before .before .before .before .before .before .before .pre) (e .before .before .search .result .c) (cell e))
 
 finish-cell-requires : tie.Need-finish-cell-requires
 finish-cell-requires c κs =
-    let e = c .before .before .before .before .before .before .before .before in
+    let e = c .before .before .before .before .before in
     let h = e .before .before .before .before .before .before .before .before .pre in
     (listed-shaped h, listed-payable h (e .before .before .search .result .c) (cell e))
 
-returns-5 : tie.Need-returns-5
-returns-5 c =
-    let e = c .before .before .before .before .before .before .before .before .before .before .before .before in
+returns-4 : tie.Need-returns-4
+returns-4 c =
+    let e = c .before .before .before .before .before .before .before .before .before in
     let s = e .before .before .before .before .before .before .before .before in
     let f = e .before .before .search in
     let k = asked (e .before .before .before .before) in
@@ -89,5 +77,4 @@ pub finish-spec : {M : Type 1} → statement M
 finish-spec =
     tie.close
     (tie.spec (λ c κs. search needs) returns (λ c κs. search needs) returns-2 (λ c κs. search needs) (λ c κs. search needs) (λ c. search needs)
-    returns-3 owes-from-free-requires (λ c κs. search needs) (λ c. search needs) returns-4 word-requires word-requires-2 sub-moved
-    finish-cell-requires (λ c κs. search needs) (λ c. search needs) returns-5)
+    returns-3 word-requires word-requires-2 sub-moved finish-cell-requires (λ c κs. search needs) (λ c. search needs) returns-4)

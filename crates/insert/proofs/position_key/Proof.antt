@@ -1,7 +1,6 @@
 -- `insert::position_key` meets its contract: the key word of the position's cell is its key.
 use mathlib.Core.Path.{_∙_, ap}
 use native.Mathlib.Omega.{arith}
-use borrow.Author.Needs.{needs}
 use Rattle.meaning.specs.Words.{keyAt}
 use Rattle.words.proofs.Shaped.{field-within}
 use Rattle.words.proofs.Listed.{listed-shaped}

@@ -1,2 +1,0 @@
--- What the functions of a sweep ask and answer.
-pub mod Sweeping
