@@ -1,11 +1,11 @@
-//! The list through its Rust functions: fourteen steps, units that begin alike, notes for one unit, the edges, the texts of the refusals,
-//! the methods of `List`, and a random comparison with an ordered map.
+//! The list through its Rust functions: fourteen steps, units that begin alike, notes for one unit, notes that come late, the edges, the
+//! texts of the refusals, the methods of `List`, and a random comparison with an ordered map.
 
 mod common;
 
 use common::{entry_key, fresh, Dice};
 use mdlist_host::*;
-use std::collections::BTreeMap;
+use std::collections::{BTreeMap, BTreeSet};
 
 fn taken(key: u32, value: u32, passed: u32) -> Result<Taken, Refusal> {
     Ok(Taken { key, value, passed })
@@ -55,6 +55,95 @@ fn two_notes_for_one_unit() {
     assert_eq!(take(&mut l), taken(268_914_688, 71, 1));
     assert_eq!(take(&mut l), taken(268_918_783, 72, 1));
     assert_eq!(take(&mut l), taken(268_918_784, 73, 1));
+}
+
+/// The words of a cell: docs/REFERENCE.md, *The words*.
+fn cell(list: &[u32], x: u32) -> &[u32] {
+    let d = list[0] as usize;
+    let length = 6 + 2 * d;
+    &list[5 + d + x as usize * length..][..length]
+}
+
+/// The key of the position: its cell is the last word of the path.
+fn position(list: &[u32]) -> u32 {
+    cell(list, list[4 + list[0] as usize])[0]
+}
+
+/// The keys that stand, the head's 0 among them.
+fn standing(list: &[u32]) -> BTreeSet<u32> {
+    (0..list[2]).map(|x| cell(list, x)).filter(|words| words[2] != 0).map(|words| words[0]).collect()
+}
+
+/// A note at or below the position moves it to the key before the note's, and the next take passes no other: docs/REFERENCE.md,
+/// *The operations 2*.
+#[test]
+fn late_note() {
+    let mut l = fresh(2, 15, 8);
+    for key in [4, 5, 6, 9] {
+        assert!(insert(&mut l, key, 10 * key).is_ok());
+    }
+    for key in [4, 5, 6, 9] {
+        assert_eq!(take(&mut l), taken(key, 10 * key, 1));
+    }
+    assert_eq!(insert(&mut l, 8, 80), Ok(2));
+    assert_eq!(position(&l), 6);
+    assert_eq!(take(&mut l), taken(8, 80, 1));
+    // the position's own key, which is dead now
+    assert_eq!(insert(&mut l, 8, 81), Ok(2));
+    assert_eq!(position(&l), 6);
+    assert_eq!(take(&mut l), taken(8, 81, 1));
+    // a dead key and then a new one with no other below
+    assert_eq!(insert(&mut l, 4, 41), Ok(1));
+    assert_eq!(position(&l), 0);
+    assert_eq!(take(&mut l), taken(4, 41, 1));
+    assert_eq!(insert(&mut l, 2, 20), Ok(0));
+    assert_eq!(position(&l), 0);
+    assert_eq!(take(&mut l), taken(2, 20, 1));
+    // a key above the position leaves it: 4, 5, 6 and 8 are passed again
+    assert_eq!(insert(&mut l, 9, 91), Ok(3));
+    assert_eq!(position(&l), 2);
+    assert_eq!(take(&mut l), taken(9, 91, 5));
+}
+
+#[test]
+fn every_late_note_is_taken_next() {
+    let mut dice = Dice(4);
+    let [mut new, mut revived, mut own, mut above_several] = [0; 4];
+    for (d, k, c) in [(2, 15, 8), (3, 1000, 40), (8, u32::MAX, 64), (15, 1_048_575, 20), (16, u32::MAX, 30)] {
+        let mut list = fresh(d, k, c);
+        for _ in 0..3000 {
+            let (before, stood) = (position(&list), standing(&list));
+            let key = match dice.below(8) {
+                0 => before.max(1),
+                1 => 1 + dice.below(u64::from(k)) as u32,
+                _ => 1 + dice.below(u64::from(k.min(60))) as u32,
+            };
+            let value = dice.below(1 << 31) as u32;
+            match dice.below(16) {
+                0..=7 => match insert(&mut list, key, value) {
+                    Ok(_) if key <= before => {
+                        assert_eq!(Some(&position(&list)), stood.range(..key).next_back());
+                        // on a copy, so that notes also come late after one that waits
+                        assert_eq!(take(&mut list.clone()), taken(key, value, 1));
+                        new += u32::from(!stood.contains(&key));
+                        revived += u32::from(stood.contains(&key));
+                        own += u32::from(key == before);
+                        above_several += u32::from(stood.range(1..key).count() >= 3);
+                    }
+                    Ok(_) => assert_eq!(position(&list), before),
+                    Err(Refusal::KeyLive { .. }) => (),
+                    Err(refusal) => {
+                        assert!(matches!(refusal, Refusal::NoFreeCell { .. }), "{refusal}");
+                        assert!(sweep(&mut list).is_ok());
+                    }
+                },
+                8 => _ = finish(&mut list, key),
+                _ => _ = take(&mut list),
+            }
+        }
+    }
+    let seen = [new, revived, own, above_several];
+    assert!(seen.iter().all(|many| *many > 500), "{seen:?}");
 }
 
 /// The texts that the refusals of real calls show, and their numbers: docs/REFERENCE.md, *Refusals*.

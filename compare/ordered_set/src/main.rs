@@ -26,6 +26,7 @@ ordered_set logger              the logger program
 ordered_set gen-calls SEED COUNT
 ordered_set gen-damage SEED COUNT
 ordered_set gen-large SEED COUNT
+ordered_set gen-late SEED COUNT
 ordered_set gen-order SEED COUNT
 ordered_set gen-records SEED COUNT
 ordered_set gen-export SEED COUNT

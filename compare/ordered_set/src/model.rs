@@ -55,6 +55,7 @@ impl Model {
         }
     }
 
+    /// The greatest standing key below this one, which need not stand itself.
     pub fn next_smaller(&self, key: u32) -> Option<u32> {
         self.standing.range(..key).next_back().map(|(&x, _)| x)
     }

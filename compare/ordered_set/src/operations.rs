@@ -146,9 +146,20 @@ fn insert(model: &mut Model, key: u32, value: u32, looked: usize) -> Answer {
         },
     }
     if key <= model.position {
-        model.position = model.parent(key).0;
+        model.position = model.next_smaller(key).expect("the head stands below every key");
+        must_be_taken_next(model, key, value);
     }
     Answer::done(key, 0, looked)
+}
+
+/// All up to the old position were dead, and no key stands between the new position and this
+/// one. So the next take has to hand out this key, and to pass no other.
+fn must_be_taken_next(model: &Model, key: u32, value: u32) {
+    let next = take(&mut model.clone());
+    assert!(
+        next == Answer::done(key, value, 1),
+        "{key} came late, and the next take does not answer 0 {key} {value} 1 but {next}"
+    );
 }
 
 /// The operations 2: a key that does not stand.

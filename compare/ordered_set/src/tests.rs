@@ -2,7 +2,7 @@
 
 mod records;
 
-use crate::generators::edges::FOURTEEN_STEPS;
+use crate::generators::edges::{FOURTEEN_STEPS, LATE_BEFORE_ALL, LATE_NOTE};
 use crate::generators::{named, whole, write};
 use crate::model::Model;
 use crate::operations::Call;
@@ -10,6 +10,7 @@ use crate::order::order;
 use crate::reading::list;
 use crate::replay::{parse, run, Line, State};
 use crate::settings::*;
+use std::collections::BTreeMap;
 
 fn line(text: &str) -> Line {
     let fields: Vec<&str> = text.split(' ').collect();
@@ -52,8 +53,7 @@ fn fourteen_steps() {
     let mut state = State::at_first();
     run(&mut state, &line("U 2 15 8 87"));
     for (step, (answer, position, owes)) in FOURTEEN_STEPS.split('|').zip(expected) {
-        let given = run(&mut state, &line(step)).expect("a call");
-        assert_eq!([given.refusal, given.key, given.value, given.count], answer, "{step}");
+        assert_eq!(answered(&mut state, step), answer, "{step}");
         let model = list(&state.words).expect("a list");
         assert_eq!((model.position, &owing(&model)[..]), (position, owes), "{step}");
         if step == "S" {
@@ -62,6 +62,42 @@ fn fourteen_steps() {
     }
     let model = list(&state.words).expect("a list");
     assert_eq!(model.standing[&5].cell, 1);
+}
+
+/// The four numbers that a call answers.
+fn answered(state: &mut State, call: &str) -> [u32; 4] {
+    let given = run(state, &line(call)).expect("a call");
+    [given.refusal, given.key, given.value, given.count]
+}
+
+/// Makes the calls one after the other; gives the last one's answer and the key of the position.
+fn left_by(calls: &str) -> ([u32; 4], u32) {
+    let mut state = State::at_first();
+    let answers = calls.split('|').map(|call| answered(&mut state, call));
+    let last = answers.last().expect("a call");
+    (last, list(&state.words).expect("a list").position)
+}
+
+/// 8 hangs from 4 and stands after 6.
+#[test]
+fn late_note() {
+    assert_eq!(left_by(LATE_NOTE), ([0, 8, 0, 2], 6));
+    assert_eq!(left_by(&format!("{LATE_NOTE}|T")), ([0, 8, 80, 1], 8));
+    // The position's own key again, which is dead now.
+    assert_eq!(left_by(&format!("{LATE_NOTE}|T|N 8 81")), ([0, 8, 0, 2], 6));
+    assert_eq!(left_by(&format!("{LATE_NOTE}|T|N 8 81|T")), ([0, 8, 81, 1], 8));
+    // A key above the position leaves it, and the dead ones between are passed.
+    assert_eq!(left_by(&format!("{LATE_NOTE}|N 9 91")), ([0, 9, 0, 3], 6));
+    assert_eq!(left_by(&format!("{LATE_NOTE}|T|N 10 100|T")), ([0, 10, 100, 2], 10));
+}
+
+/// Keys with no other below them: a new one, then a dead one.
+#[test]
+fn late_note_before_all() {
+    assert_eq!(left_by(LATE_BEFORE_ALL), ([0, 2, 0, 0], 0));
+    assert_eq!(left_by(&format!("{LATE_BEFORE_ALL}|T")), ([0, 2, 20, 1], 2));
+    assert_eq!(left_by(&format!("{LATE_BEFORE_ALL}|T|N 2 21")), ([0, 2, 0, 1], 0));
+    assert_eq!(left_by(&format!("{LATE_BEFORE_ALL}|T|N 2 21|T")), ([0, 2, 21, 1], 2));
 }
 
 #[test]
@@ -120,6 +156,47 @@ fn for_each_call(name: &str, lines: usize, mut see: impl FnMut(&Model, &Line, &[
     }
 }
 
+/// What an insert at or below the position is a case of.
+fn kinds_of_late(before: &Model, key: u32, after: &Model) -> [(&'static str, bool); 5] {
+    let stood = before.standing.contains_key(&key);
+    [
+        ("new", !stood),
+        ("revived", stood),
+        ("the position's own", key == before.position),
+        ("above several dead keys", before.standing.range(1..key).count() >= 3),
+        ("apart from its parent", after.parent(key).0 != after.position),
+    ]
+}
+
+/// How many such inserts a trace has, by kind, and how many of them a take follows.
+fn late_notes(name: &str, lines: usize) -> BTreeMap<&'static str, u32> {
+    let mut seen = BTreeMap::new();
+    let mut came_late = false;
+    for_each_call(name, lines, |model, line, _, after| {
+        let late_before = std::mem::take(&mut came_late);
+        let kinds = match *line {
+            Line::Call(Call::Insert { key, .. }) if key <= model.position => {
+                came_late = true;
+                kinds_of_late(model, key, &list(after).expect("a list")).to_vec()
+            }
+            Line::Call(Call::Take) => vec![("taken next", late_before)],
+            _ => Vec::new(),
+        };
+        for (kind, is_so) in kinds {
+            *seen.entry(kind).or_default() += u32::from(is_so);
+        }
+    });
+    seen
+}
+
+#[test]
+fn traces_have_late_notes_of_every_kind() {
+    for (name, lines, least) in [("gen-calls", 5000, 100), ("gen-large", 2000, 20)] {
+        let seen = late_notes(name, lines);
+        assert!(seen.len() == 6 && seen.values().all(|&many| many >= least), "{name}: {seen:?}");
+    }
+}
+
 /// Links and path once more, by going over all standing keys.
 #[test]
 fn settled_shape_by_all_keys() {
@@ -143,18 +220,26 @@ fn settled_shape_by_all_keys() {
 /// Insert and finish once more, as changes of single words.
 #[test]
 fn insert_and_finish_by_words() {
-    let mut seen = [0, 0];
+    let mut seen = [0; 3];
     let mut see = |model: &Model, line: &Line, before: &[u32], after: &[u32]| {
         let mut words = before.to_vec();
         match *line {
-            Line::Call(Call::Insert { key, value }) if !model.standing.contains_key(&key) => {
+            Line::Call(Call::Insert { key, value }) => {
                 let new = list(after).expect("a list");
-                insert_by_words(model, &new, &mut words, key, value);
-                seen[0] += 1;
+                if let Some(dead) = model.standing.get(&key) {
+                    revive_by_words(&model.settings, &mut words, dead.cell, value);
+                    seen[1] += 1;
+                } else {
+                    put_new_by_words(model, &new, &mut words, key, value);
+                    seen[0] += 1;
+                }
+                if key <= model.position {
+                    redraw_path_by_words(&new, &mut words, key);
+                }
             }
             Line::Call(Call::Finish { key }) => {
                 finish_by_words(&model.settings, &mut words, model.standing[&key].cell);
-                seen[1] += 1;
+                seen[2] += 1;
             }
             _ => return,
         }
@@ -162,7 +247,7 @@ fn insert_and_finish_by_words() {
     };
     for_each_call("gen-calls", 20_000, &mut see);
     for_each_call("gen-damage", 20_000, &mut see);
-    assert!(seen[0] > 1000 && seen[1] > 1000, "too few calls: {seen:?}");
+    assert!(seen.iter().all(|&many| many > 1000), "too few calls: {seen:?}");
 }
 
 /// Debts 5.
@@ -180,7 +265,12 @@ fn write_fields(settings: &Settings, words: &mut [u32], cell: u32, fields: [(usi
     }
 }
 
-fn insert_by_words(before: &Model, new: &Model, words: &mut [u32], key: u32, value: u32) {
+fn revive_by_words(settings: &Settings, words: &mut [u32], cell: u32, value: u32) {
+    words[settings.word(cell, VALUE)] = value;
+    words[settings.word(cell, MARK)] = 1;
+}
+
+fn put_new_by_words(before: &Model, new: &Model, words: &mut [u32], key: u32, value: u32) {
     let settings = &before.settings;
     let (parent, p) = new.parent(key);
     let (parent_cell, n) = (new.standing[&parent].cell, words[FIRST_FREE]);
@@ -198,9 +288,16 @@ fn insert_by_words(before: &Model, new: &Model, words: &mut [u32], key: u32, val
     write_fields(settings, words, n, [(KEY, key), (VALUE, value), (MARK, 1)]);
     for d in 0..settings.dimensions {
         words[settings.coordinate_word(n, d)] = settings.coordinate(key, d);
-        if key <= before.position {
-            let mut sharing = new.standing.iter().filter(|(&y, _)| settings.shared(parent, y) > d);
-            words[settings.path_word(d)] = sharing.next().expect("the parent").1.cell;
-        }
+    }
+}
+
+/// The path to the greatest of the keys below, by going over all standing keys.
+fn redraw_path_by_words(new: &Model, words: &mut [u32], key: u32) {
+    let settings = &new.settings;
+    let below = new.standing.keys().copied().filter(|&x| x < key);
+    let position = below.max().expect("the head");
+    for d in 0..settings.dimensions {
+        let mut sharing = new.standing.iter().filter(|(&y, _)| settings.shared(position, y) > d);
+        words[settings.path_word(d)] = sharing.next().expect("the position").1.cell;
     }
 }

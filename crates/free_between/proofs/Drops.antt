@@ -7,11 +7,11 @@ use Prim.Native.Nat.{ℕ}
 use Rattle.settings.specs.declared.Settings.{Settings}
 use Rattle.lists.proofs.All.{All, all-at}
 use Rattle.meaning.specs.Keys.{coordinate, shared}
-use Rattle.meaning.specs.Row.{Node}
+use Rattle.meaning.specs.Row.{Node, lastOf}
 use Rattle.meaning.specs.State.{State}
 use Rattle.meaning.specs.Picture.{picture}
 use Rattle.meaning.specs.Reading.{read}
-use Rattle.meaning.specs.Operations.{paid, deadFront, fromLive, lastOf, freedBy, swept}
+use Rattle.meaning.specs.Operations.{paid, deadFront, fromLive, freedBy, swept}
 use Rattle.meaning.specs.Layer.Paths.{PathOf, dimensionIn}
 use Rattle.meaning.specs.Layer.SweepStores.{dropFront}
 use Rattle.meaning.proofs.State.{Sound, base-positive}

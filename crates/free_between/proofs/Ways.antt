@@ -8,9 +8,9 @@ use lib.ListN.{length, replicate, length-append, length-map}
 use Rattle.settings.specs.declared.Settings.{Settings}
 use Rattle.lists.specs.Lists.{firstNumber}
 use Rattle.lists.proofs.All.{all-at}
-use Rattle.meaning.specs.Row.{Node, headNode}
+use Rattle.meaning.specs.Row.{Node, headNode, lastOf}
 use Rattle.meaning.specs.Reading.{read}
-use Rattle.meaning.specs.Operations.{deadFront, fromLive, lastOf, freedBy}
+use Rattle.meaning.specs.Operations.{deadFront, fromLive, freedBy}
 use Rattle.meaning.specs.Layer.Listed.{Listed}
 use Rattle.meaning.specs.Layer.Paths.{PathOf, nextFrom}
 use Rattle.meaning.specs.Layer.Stores.{store}

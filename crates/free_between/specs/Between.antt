@@ -6,10 +6,10 @@ use Prim.Native.Nat.{ℕ, zero, suc, _^_, _<_}
 use lib.ListN.{length, getD}
 use Rattle.settings.specs.declared.Settings.{Settings}
 use Rattle.meaning.specs.Keys.{coordinate, shared}
-use Rattle.meaning.specs.Row.{Node}
+use Rattle.meaning.specs.Row.{Node, lastOf}
 use Rattle.meaning.specs.Reading.{read}
 use Rattle.meaning.specs.Words.{wordIndex, keyAt, coordinateAt}
-use Rattle.meaning.specs.Operations.{paid, deadFront, fromLive, lastOf, freedBy}
+use Rattle.meaning.specs.Operations.{paid, deadFront, fromLive, freedBy}
 use Rattle.meaning.specs.Layer.Listed.{Listed}
 use Rattle.meaning.specs.Layer.Paths.{PathOf, dimensionIn}
 use Rattle.meaning.specs.Layer.Stores.{store}

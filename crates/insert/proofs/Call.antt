@@ -9,7 +9,7 @@ use native.Mathlib.Omega.{arith}
 use lib.Dec.{eqb}
 use lib.ListN.{length, getD, set}
 use lib.Seq.{sets}
-use borrow.Author.Tests.{eq-eqb, ne-eqb, le-leb}
+use borrow.Author.Tests.{eq-eqb, ne-eqb}
 use Rattle.settings.specs.Numbers.{headerWords}
 use Rattle.settings.specs.declared.Settings.{Settings}
 use Rattle.lists.specs.Lists.{firstNumber}
@@ -28,7 +28,7 @@ use Rattle.meaning.proofs.State.{Sound, sound-valid}
 use Rattle.meaning.proofs.StateCells.{free-range}
 use Rattle.meaning.proofs.Slot.{first-free-all}
 use Rattle.meaning.proofs.Picture.{picture-free, path-length}
-use Rattle.meaning.proofs.ReadBack.{mark-live}
+use Rattle.meaning.proofs.ReadBack.{mark-live, read-of-picture}
 use Rattle.meaning.proofs.Placed.{place-mark}
 use Rattle.meaning.proofs.BookRow.{node-key}
 use Rattle.meaning.proofs.Stores.{Exact, picture-exact, exact-set, exact-sets, exact-finished, header-set-path, store-below, cell-sets-below}
@@ -38,18 +38,18 @@ use Rattle.meaning.proofs.KeepsFinish.{finished-sound}
 use Rattle.meaning.proofs.KeepsInsert.{revived-sound, added-sound}
 use Rattle.meaning.proofs.FinishWords.{finish-words}
 use Rattle.meaning.proofs.TakeWords.{revived-words, revived-words-above}
-use Rattle.meaning.proofs.InsertWords.{added-words, added-path, added-position-parent}
+use Rattle.meaning.proofs.InsertWords.{added-words, added-path}
 use Rattle.meaning.proofs.Outcomes.{insert-outcome-bad-key, insert-outcome-live, insert-outcome-dead, insert-outcome-full, insert-outcome-new}
 use Rattle.words.specs.Shaped.{Shaped}
 use Rattle.words.proofs.Shaped.{word-is}
-use Rattle.search.specs.Found.{foundOf}
+use Rattle.search.specs.Found.{foundOf, Sought}
 use Rattle.search.specs.declared.Found.{Found}
 use Rattle.words.proofs.Listed.{on-listed}
 use Rattle.search.proofs.Slots.{Present, SlotFound, node-placed, found-standing, found-missing, found-slot}
 use Rattle.new_cell.specs.NewCell.{slotOf, Fits}
 use Rattle.finish.specs.Payable.{Payable}
 use Rattle.finish.proofs.Debts.{payable, listed-payable}
-use Rattle.insert.specs.Inserting.{Sought, Ending, EndsInSome, PathWritten}
+use Rattle.insert.specs.Inserting.{Ending, EndsInSome, PathWritten}
 
 -- what holds of each state in order, its picture and its settings, where the search has answered so, holds of the list
 on-sought :
@@ -67,17 +67,18 @@ bad-key-meets h key value {r} bad a =
 -- The outcome of an accepted call is the picture of a state, at which the words us end when the path is written.
 pub record Leads (ws us : List ℕ) (s : Settings) (top key value : ℕ) (f : Found) : Type 0 where
   pub state : State
-  pub ending : Ending us s top key (f .parent) state
+  pub ending : Ending us s top key (positionAfter (read ws) key) state
   pub outcome : insertOut ws key value ≡ accepted key 0 (f .looked) (picture state)
 
 module _ {ws us : List ℕ} {s : Settings} {top key value : ℕ} {f : Found} (l : Leads ws us s top key value f) where
   -- what is asked before the path is written
-  pub leads-due : {left : List ℕ} {high : ℕ} → left ≡ us → high ≡ top → EndsInSome left s high key (f .parent)
-  leads-due e h = record { state = l .state; ending = rw (e, h) (l .ending) }
+  pub leads-due : {left : List ℕ} {high x : ℕ} → left ≡ us → high ≡ top → x ≡ positionAfter (read ws) key → EndsInSome left s high key x
+  leads-due e h p = record { state = l .state; ending = rw (e, h, p) (l .ending) }
 
   -- what is left after it
-  pub leads-words : {left out : List ℕ} {high : ℕ} → left ≡ us → high ≡ top → PathWritten left out s high key (f .parent) → out ≡ insertOut ws key value .left
-  leads-words e h w = w .is (l .state) (rw (e, h) (l .ending)) ∙ sym (ap (λ o. o .left) (l .outcome))
+  pub leads-words : {left out : List ℕ} {high x : ℕ} → left ≡ us → high ≡ top → x ≡ positionAfter (read ws) key → PathWritten left out s high key x →
+      out ≡ insertOut ws key value .left
+  leads-words e h p w = w .is (l .state) (rw (e, h, p) (l .ending)) ∙ sym (ap (λ o. o .left) (l .outcome))
 
   pub leads-meets : {out : List ℕ} {r : Answer} → out ≡ insertOut ws key value .left → r ≡ answer 0 key 0 (f .looked) → Meets (insertOut ws key value) r out
   leads-meets w a = record { answered = a ∙ sym (ap (λ o. o .answered) (l .outcome)); left = w }
@@ -96,11 +97,6 @@ module _ {t : State} (v : Sound t) {key : ℕ} {x : Node} {f : Found} (found : P
       let (p, here) = node-placed v key x (found .node) in
       ap (markAt (picture t)) (found .c) ∙ place-mark v (here .0) ∙ ap (λ y. mark (y .live)) (here .1)
 
-  -- the parent becomes the position, where the key is at or below it
-  revived-lowered : (value : ℕ) → x .key ≤ positionKey t → revived t x value .position ≡ f .parent
-  unfolding revived positionAfter
-  revived-lowered value h = rw (le-leb (x .key) (positionKey t) h) (sym (found .parent-revived value))
-
   revived-leads : 1 ≤ key → key ≤ t .settings .largest → (value : ℕ) → x .live ≡ false →
       Leads (picture t) (writeNode (t .settings .dimensions) (picture t) (f .c) value 1) (t .settings) (positionKey t) key value f
   revived-leads least most value dead =
@@ -113,7 +109,7 @@ module _ {t : State} (v : Sound t) {key : ℕ} {x : Node} {f : Found} (found : P
               order = sound-valid (revived t x value) (revived-sound t x value v node dead);
               settings = settings;
               words = revived-words t x value v node;
-              lowered = λ h. revived-lowered value (omega (arith, same));
+              position = position;
               kept = λ h. revived-words-above t x value v node (omega (arith, same));
             });
         outcome = insert-outcome-dead t v key value least most x (found .node) dead
@@ -122,6 +118,11 @@ module _ {t : State} (v : Sound t) {key : ℕ} {x : Node} {f : Found} (found : P
     where
       settings : revived t x value .settings ≡ t .settings
       settings = unfold revived in refl
+
+      position : revived t x value .position ≡ positionAfter (read (picture t)) key
+      position =
+          let made : revived t x value .position ≡ positionAfter t (x .key) = unfold revived in refl in
+          made ∙ ap (positionAfter t) (node-key key x (t .row) (found .node)) ∙ ap (λ u. positionAfter u key) (sym (read-of-picture t v))
 
 module _ {ws : List ℕ} {s : Settings} {key : ℕ} {f : Found} (k : Sought ws s key f) (stands : f .standing ≡ true) where
   pub standing-cell : f .c < s .cells
@@ -238,7 +239,7 @@ module _ {t : State} (v : Sound t) (key value : ℕ) (least : 1 ≤ key) (most :
               order = sound-valid after (added-sound t key value v least most none room);
               settings = settings;
               words = words;
-              lowered = λ h. added-position-parent t v key value least most none room h ∙ sym (slot .parent);
+              position = position;
               kept = λ h.
                   words
                   ∙ ap (writePath (insertWords b D (picture t) key value (slotFor t key))) (added-path t v key value least most none room h)
@@ -250,6 +251,11 @@ module _ {t : State} (v : Sound t) (key value : ℕ) (least : 1 ≤ key) (most :
     where
       settings : after .settings ≡ t .settings
       settings = unfold added in refl
+
+      position : after .position ≡ positionAfter (read (picture t)) key
+      position =
+          let made : after .position ≡ positionAfter t key = unfold added in refl in
+          made ∙ ap (λ u. positionAfter u key) (sym (read-of-picture t v))
 
 module _ {ws : List ℕ} {s : Settings} {key : ℕ} {f : Found} (k : Sought ws s key f) (missing : f .standing ≡ false) where
   -- the cells and links of the slot are the list's own

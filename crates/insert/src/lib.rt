@@ -6,13 +6,14 @@ ghost use lib.ListN.{getD};
 ghost use Rattle.meaning.specs.State.{positionKey};
 ghost use Rattle.meaning.specs.Reading.{read};
 ghost use Rattle.meaning.specs.Refusals.{Meets};
-ghost use Rattle.meaning.specs.Operations.{insertOut};
+ghost use Rattle.meaning.specs.Operations.{positionAfter, insertOut};
 ghost use Rattle.meaning.specs.Words.{markAt};
 ghost use Rattle.meaning.specs.Layer.Stores.{finishWords, paidWords};
 ghost use Rattle.meaning.specs.Layer.Listed.{Listed};
 ghost use Rattle.words.specs.Shaped.{Shaped};
 ghost use Rattle.finish.specs.Payable.{Payable};
-ghost use Rattle.insert.specs.Inserting.{Sought, EndsInSome, PathWritten};
+ghost use Rattle.search.specs.Found.{Sought};
+ghost use Rattle.insert.specs.Inserting.{EndsInSome, PathWritten};
 use meaning::Answer;
 use search::Found;
 use settings::Settings;
@@ -25,16 +26,27 @@ fn position_key(list: &[u32], s: Settings) -> u32
     words::word(list, s, words::position(list, s), words::KEY)
 }
 
-// The operations 2: if the key is at or below the position's, the position becomes the parent of its cell. The position's key before the
-// call is `top`.
-fn move_position(list: &mut [u32], s: Settings, top: u32, key: u32, parent: u32)
-    requires { ⌜ Shaped (now list) s × EndsInSome (now list) s top key parent ⌝ }
-    ensures { λ r. ⌜ PathWritten (now (list .entry)) (now (list .exit)) s top key parent ⌝ }
+// The operations 2: the cell that is the position after the insert of a key of which the search answered f: if the key is at or below the
+// position's, which is `top`, the standing cell of next smaller key.
+fn position_after(list: &[u32], s: Settings, top: u32, key: u32, f: Found) -> u32
+    requires { ⌜ Sought (now list) s key f × (top ≡ positionKey (read (now list))) ⌝ }
+    ensures { λ r. ⌜ r ≡ positionAfter (read (now (list .entry))) key ⌝ }
+{
+    if key <= top {
+        return search::lower(list, s, f);
+    }
+    words::position(list, s)
+}
+
+// The path of the position after the call, cell x, is written; a key above the position's key before the call, which is `top`, changes none.
+fn move_position(list: &mut [u32], s: Settings, top: u32, key: u32, x: u32)
+    requires { ⌜ Shaped (now list) s × EndsInSome (now list) s top key x ⌝ }
+    ensures { λ r. ⌜ PathWritten (now (list .entry)) (now (list .exit)) s top key x ⌝ }
 {
     if top < key {
         return;
     }
-    let path = paths::path_of(list, s, parent);
+    let path = paths::path_of(list, s, x);
     paths::write_path(list, s, path);
 }
 
@@ -44,9 +56,10 @@ fn revive(list: &mut [u32], s: Settings, f: Found, key: u32, value: u32)
     ensures { λ r. ⌜ now (list .exit) ≡ insertOut (now (list .entry)) key value .left ⌝ }
 {
     let top = position_key(list, s);
+    let position = position_after(list, s, top, key, f);
     words::store(list, s, f.c, words::VALUE, value);
     words::store(list, s, f.c, words::MARK, words::LIVE);
-    move_position(list, s, top, key, f.parent);
+    move_position(list, s, top, key, position);
 }
 
 // Finishes what the parent owes, then what c owes, and nothing else.
@@ -67,13 +80,13 @@ fn add(list: &mut [u32], s: Settings, n: u32, f: Found, key: u32, value: u32)
     ensures { λ r. ⌜ now (list .exit) ≡ insertOut (now (list .entry)) key value .left ⌝ }
 {
     let top = position_key(list, s);
+    let position = position_after(list, s, top, key, f);
     finish_neighbours(list, s, f);
     // as any free cell's, n's first word holds the next free cell
     list[words::FIRST_FREE] = words::word(list, s, n, words::KEY);
     new_cell::write_cell(list, s, n, f, key, value);
-    let parent = f.parent;
-    words::store_link(list, s, parent, f.p, n);
-    move_position(list, s, top, key, parent);
+    words::store_link(list, s, f.parent, f.p, n);
+    move_position(list, s, top, key, position);
 }
 
 // A key that stands: refused if it is live.

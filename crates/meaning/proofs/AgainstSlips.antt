@@ -9,13 +9,13 @@ use native.Mathlib.Decide.{ℕ-discrete}
 use native.Mathlib.Omega.{arith}
 use borrow.Author.Tests.{eq-eqb, ne-eqb, le-leb, lt-ltb}
 use Rattle.lists.specs.Lists.{every}
-use Rattle.meaning.specs.Row.{Node, nodeAt}
+use Rattle.meaning.specs.Row.{Node, nodeAt, smallerThan}
 use Rattle.meaning.specs.State.{State, positionKey}
 use Rattle.meaning.specs.Picture.{picture}
 use Rattle.meaning.specs.Refusals.{accepted, keyLive, refused}
 use Rattle.meaning.specs.Words.{owedAt, lowAt, highAt, linkAt}
 use Rattle.meaning.specs.Walk.{linkRead}
-use Rattle.meaning.specs.Operations.{looked, paid, parentIn, positionAfter, revived, insertAt, deadFront, fromLive, lastAlone, swept}
+use Rattle.meaning.specs.Operations.{looked, paid, positionAfter, Slot, added, revived, insertAt, deadFront, fromLive, lastAlone, swept}
 
 -- Not by some leading coordinates: the node found for a key has that same key.
 pub present-is-that-key : (key : ℕ) (x : Node) (row : List Node) → nodeAt key row ≡ some x → x .key ≡ key
@@ -32,10 +32,11 @@ pub owed-link-is-read-there : (ws : List ℕ) (x d : ℕ) → (owedAt ws x ≡ 0
 unfolding linkRead
 owed-link-is-read-there ws x d owes l h = rw (ne-eqb (owedAt ws x) 0 owes, le-leb (lowAt ws x) d l, lt-ltb d (highAt ws x) h) refl
 
--- Not to the new cell, which would never be taken: the position becomes the parent.
-pub position-becomes-the-parent : (s : State) (key c : ℕ) (row : List Node) → key ≤ positionKey s → positionAfter s key c row ≡ parentIn s c row
-unfolding positionAfter
-position-becomes-the-parent s key c row h = rw (le-leb key (positionKey s) h) refl
+-- Not to the new cell, which would never be taken, and no further back than the next smaller one: that becomes the position.
+pub position-becomes-the-next-smaller :
+    (s : State) (key value : ℕ) (t : Slot) → key ≤ positionKey s → added s key value t .position ≡ smallerThan key (s .row) .cell
+unfolding added positionAfter
+position-becomes-the-next-smaller s key value t h = rw (le-leb key (positionKey s) h) refl
 
 -- Not refused by 5: a dead key is revived.
 pub dead-key-is-revived : (ws : List ℕ) (s : State) (key value : ℕ) (x : Node) → x .live ≡ false →

@@ -5,13 +5,13 @@ use Rattle.settings.specs.Numbers.{inRange, firstAbove, baseOf}
 use Rattle.settings.specs.Checked.{checkedOf}
 use Rattle.lists.specs.Lists.{those, every, occurrences, numbersFrom, blocks, same}
 use Rattle.meaning.specs.Keys.{coordinates, shared}
-use Rattle.meaning.specs.Row.{firstSharing, placesAfter, places, link, placeOf, nodeAt, put}
+use Rattle.meaning.specs.Row.{firstSharing, placesAfter, places, link, placeOf, nodeAt, put, lastOf}
 use Rattle.meaning.specs.State.{keyOf, ascending, debtHolds, tests, valid}
 use Rattle.meaning.specs.Picture.{standingWords, nextFree, freeWords, wordsOf, firstWith, path, cellPictures, picture}
 use Rattle.meaning.specs.Reading.{standing, chain, read, sized, isList, readingOf}
 use Rattle.meaning.specs.Operations.{onList, onKey, looked, fresh, setUpOut, finished, linksMoved, finishAt, finishOut, findAt, onReading, setUpBy}
 use Rattle.meaning.specs.Operations.{findOut, leadsTo, dimensionAt, settledLinkAt, parentIn, positionAfter, revived, slotFor, added, insertNew}
-use Rattle.meaning.specs.Operations.{insertAt, insertOut, deadFront, fromLive, keysAbove, keysPassed, taken, takeFrom, takeOut, lastOf}
+use Rattle.meaning.specs.Operations.{insertAt, insertOut, deadFront, fromLive, keysAbove, keysPassed, taken, takeFrom, takeOut}
 use Rattle.meaning.specs.Operations.{lastAlone, freedBy, swept, sweepOut}
 use Rattle.meaning.specs.Rule.{counted, leastAbove, plusOne, rule}
 use Rattle.meaning.specs.Walk.{linkRead, stepAt, trailFrom, trail, goneTo, walk}

@@ -10,7 +10,7 @@ use native.Mathlib.Decide.{ℕ-discrete, decLt}
 use native.Mathlib.Omega.{arith}
 use lib.Dec.{eqb, ltb}
 use lib.ListN.{length, getD, drop}
-use borrow.Author.Tests.{eq-eqb, ne-eqb, lt-ltb, le-ltb, le-leb, lt-leb}
+use borrow.Author.Tests.{eq-eqb, ne-eqb, lt-ltb, le-ltb}
 use Rattle.settings.specs.Numbers.{fieldsBeforeCoordinates, cellWords}
 use Rattle.lists.specs.Lists.{occurrences}
 use Rattle.lists.proofs.All.{All, all-map, all-each, all-mapped}
@@ -22,13 +22,14 @@ use Rattle.meaning.specs.Picture.{path, picture}
 use Rattle.meaning.specs.Operations.{paid, finished, withRow, Slot, newNode, slotFor, slotOwes, added, settledLinkAt}
 use Rattle.meaning.specs.Writes.{Unmoved, OwesNothing, OwesSame, Inserted}
 use Rattle.meaning.specs.Words.{wordAt, keyAt, owedAt, lowAt, highAt, linkAt, linkField}
-use Rattle.meaning.specs.Sentences.{Standing, Settled, AList}
+use Rattle.meaning.specs.Sentences.{Standing, Settled, AList, NextSmaller}
 use Rattle.meaning.specs.Layer.Stores.{finishWords, writePath, newWords, insertWords}
 use Rattle.meaning.proofs.State.{Sound}
 use Rattle.meaning.proofs.Places.{cells-changed, keys-changed, onCell, onCell-cases, keyOf-other}
 use Rattle.meaning.proofs.KeepsFinish.{paid-keeping, finished-sound}
 use Rattle.meaning.proofs.Slot.{Gap, gap, SlotIs, slot-is, gap-changed}
-use Rattle.meaning.proofs.KeepsInsert.{added-row, added-position, added-sound-at, parentPaid, bothPaid, both-sound, both-gap, both-position}
+use Rattle.meaning.proofs.Smaller.{split-next-smaller}
+use Rattle.meaning.proofs.KeepsInsert.{added-row, added-position-lowered, added-position-kept, added-sound-at, parentPaid, bothPaid, both-sound, both-gap, both-position}
 use Rattle.meaning.proofs.Placed.{Placed, head-placed, placed-keyOf, placed-below, place-standing, place-word, place-key, place-value}
 use Rattle.meaning.proofs.Placed.{placed-node, placed-cell, cell-standing, place-mark, place-owed, place-coordinate, place-link}
 use Rattle.meaning.proofs.Stores.{finishWords-none}
@@ -159,18 +160,11 @@ module _ (s : State) (v : Sound s) (key value : ℕ) (positive : 0 < key) (g : G
       let position = added s key value t .position in
       ap {B = State} (λ r. record { settings = s .settings; row = r; free = drop 1 (s .free); position = position }) (added-row s v key value positive g f t i)
 
-  -- The operations 2: where the position goes
-  pub added-position-lowered : key ≤ positionKey s → added s key value t .position ≡ t .parent
-  added-position-lowered h = added-position s v key value positive g f t i ∙ ap (λ r. cond r (t .parent) (s .position)) (le-leb key (positionKey s) h)
-
-  pub added-position-kept : positionKey s < key → added s key value t .position ≡ s .position
-  added-position-kept h = added-position s v key value positive g f t i ∙ ap (λ r. cond r (t .parent) (s .position)) (lt-leb key (positionKey s) h)
-
   pub added-path-at : positionKey s < key → path (added s key value t) ≡ path s
   added-path-at h =
       let x = newNode (t .n) key value (slotOwes t) in
       ap path added-is
-      ∙ ap (λ p. path (withNew two (two-gap .pre) x (two-gap .post) p)) (added-position-kept h)
+      ∙ ap (λ p. path (withNew two (two-gap .pre) x (two-gap .post) p)) (added-position-kept s v key value positive g f t i h)
       ∙ put-path two two-sound x two-gap (slot-new two two-sound key positive two-gap f t two-slot) (subst (λ k. k < key) (sym (both-position s t)) h)
       ∙ path-unmoved two s refl refl two-cells two-keys
 
@@ -348,7 +342,7 @@ module _ (s : State) (v : Sound s) (key value : ℕ) (positive : 0 < key) (g : G
 
     now-inserted : Settled (picture s) (t .parent) (t .p) (t .c) → ((t .c ≡ 0 → ⊥) → t .q ≡ shared b D key (keyAt (picture s) (t .c))) →
         Inserted (picture s) (picture now) key value t
-    unfolding picture
+    unfolding picture finished both-gap gap-changed
     now-inserted held shares =
         record {
           free = i .n-is;
@@ -383,7 +377,10 @@ module _ (s : State) (v : Sound s) (key value : ℕ) (positive : 0 < key) (g : G
           path-kept = λ above d h.
               let kept = ap path (sym added-is) ∙ added-path-at (subst (λ n. n < key) (position-key-is v) above) in
               picture-path-word now d h ∙ ap (λ words. getD words d 0) kept ∙ sym (picture-path-word s d h);
-          position-lowered = λ low. position-is now-sound ∙ added-position-lowered (subst (λ n. key ≤ n) (position-key-is v) low);
+          position-lowered = λ low.
+              subst (NextSmaller (picture now) (t .n))
+              (sym (position-is now-sound ∙ added-position-lowered s v key value positive g f t i (subst (λ n. key ≤ n) (position-key-is v) low)))
+              (split-next-smaller now now-sound (two-gap .pre) (newNode (t .n) key value (slotOwes t)) (two-gap .post) refl);
         }
       where
         other-link : (d : ℕ) → d < D → (d ≡ t .q → t .c ≡ 0) → Dec (t .c ≡ 0) → getD (slotLinks D t) d 0 ≡ 0
@@ -442,9 +439,6 @@ module _ (s : State) (v : Sound s) (key value : ℕ) (positive : 1 ≤ key) (mos
   pub added-inserted : Inserted (picture s) (picture (added s key value (slotFor s key))) key value (slotFor s key)
   added-inserted = added-inserted-at s v key value positive around f (slotFor s key) slot most slot-held slot-shared
 
-  -- a key above the position's leaves the path, and any other makes the parent the position
+  -- a key above the position's leaves the path
   pub added-path : positionKey s < key → path (added s key value (slotFor s key)) ≡ path s
   added-path = added-path-at s v key value positive around f (slotFor s key) slot
-
-  pub added-position-parent : key ≤ positionKey s → added s key value (slotFor s key) .position ≡ slotFor s key .parent
-  added-position-parent = added-position-lowered s v key value positive around f (slotFor s key) slot

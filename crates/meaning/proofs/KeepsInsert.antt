@@ -1,4 +1,4 @@
--- Inserting keeps a state in order. The position stays or becomes the parent of the key's cell; either way its key is then below the
+-- Inserting keeps a state in order. The position stays or becomes the cell of next smaller key; either way its key is then below the
 -- inserted one and not above the old position's, and up to there all are dead. Of debts, a new node can touch that of the node
 -- before it, which then is its parent, and, by a new dimension, that of the next larger node, which then has the slot: the two that
 -- an insert finishes.
@@ -6,7 +6,7 @@ use mathlib.Core.Path.{_≡_, refl, _∙_, sym, ap, ap₂, subst, subst₂}
 use mathlib.Core.Bool.{Bool, true, false, cond, not}
 use mathlib.Core.List.{List, [], _∷_, _++_, map, map-append}
 use mathlib.Core.Option.{none, some}
-use Prim.Native.Nat.{ℕ, suc, _≤_, _<_}
+use Prim.Native.Nat.{ℕ, _≤_, _<_}
 use native.Mathlib.Omega.{arith}
 use native.Mathlib.Decide.{ℕ-discrete, decLe}
 use lib.Dec.{eqb, leb, ltb}
@@ -17,21 +17,22 @@ use Rattle.lists.proofs.Occurrences.{occurrences-here, occurrences-append, occu
 use Rattle.lists.proofs.All.{All, all-map, all-append, all-left, all-right, all-zip, all-mapped}
 use Rattle.lists.proofs.Tests.{both}
 use Rattle.meaning.specs.Keys.{shared}
-use Rattle.meaning.specs.Row.{Node, headNode, firstOf, placesAfter, places, nodeAt}
+use Rattle.meaning.specs.Row.{Node, headNode, firstOf, placesAfter, places, nodeAt, smallerThan}
 use Rattle.meaning.specs.State.{State, keyOf, positionKey}
-use Rattle.meaning.specs.Operations.{paid, finished, withRow, parentIn, positionAfter, revivedNode, revived, Slot, newNode, slotFor, slotOwes, added}
+use Rattle.meaning.specs.Operations.{paid, finished, withRow, positionAfter, revivedNode, revived, Slot, newNode, slotFor, slotOwes, added}
 use Rattle.meaning.proofs.AscendingRow.{Asc}
 use Rattle.meaning.proofs.Keys.{shared-less, ultra}
 use Rattle.meaning.proofs.State.{Sound, Debt, cellsIn, base-positive}
 use Rattle.meaning.proofs.Picture.{first-has}
 use Rattle.meaning.proofs.Places.{asc-left, lastFrom, dimensionFrom, Keeping, cells-changed, keyOf-head-changed, asc-changed, firstOf-changed}
-use Rattle.meaning.proofs.Places.{onCell, onCell-cases, onCell-keeping, keyOf-put}
+use Rattle.meaning.proofs.Places.{asc-smaller, asc-larger, onCell, onCell-cases, onCell-keeping, keyOf-same, keyOf-other, keyOf-put}
 use Rattle.meaning.proofs.KeepsState.{changed-sound}
 use Rattle.meaning.proofs.KeepsFinish.{paid-keeping, finished-sound}
-use Rattle.meaning.proofs.Parent.{dimensionAfter, parentAfter, placesFrom, Without, Apart, asc-last, apart-left, apart-at, first-among}
-use Rattle.meaning.proofs.Parent.{first-key, last-shares, last-first, parent-is}
+use Rattle.meaning.proofs.Parent.{dimensionAfter, parentAfter, placesFrom, Without, Apart, all-last, asc-last, apart-at}
+use Rattle.meaning.proofs.Parent.{last-first, parent-is}
+use Rattle.meaning.proofs.Smaller.{smaller-is}
 use Rattle.meaning.proofs.Slot.{Gap, gap, put-gap, asc-put, apart-put, sound-apart, first-free, dimensions-positive, cellAfter, SlotIs}
-use Rattle.meaning.proofs.Slot.{slot-is, without-changed, apart-changed, gap-changed, last-changed, parent-changed, gap-last, first-free-apart}
+use Rattle.meaning.proofs.Slot.{slot-is, without-changed, apart-changed, gap-changed, last-changed, gap-last, first-free-apart}
 
 -- The position
 
@@ -48,22 +49,23 @@ all-stand (x ∷ row) = (
   all-map (λ z h. let m = occurrences-more (z .cell) (x .cell) (map (λ y. y .cell) row) in omega arith) row (all-stand row),
 )
 
-module _ (s : State) (pos : 0 < s .settings .base) (deep : 0 < s .settings .dimensions) (pre : List Node) (x : Node) (post : List Node)
-    (a : Asc 0 (pre ++ x ∷ post)) (o : Apart (headNode ∷ (pre ++ x ∷ post))) where
-  parent-lowers : x .key ≤ positionKey s → Lowered s (x .key) (parentAfter (s .settings .base) (s .settings .dimensions) headNode pre (x .key))
-      (pre ++ x ∷ post)
-  parent-lowers h =
-      let b = s .settings .base in
-      let D = s .settings .dimensions in
-      let A = lastFrom headNode pre in
+-- the last of some nodes is the only one with its cell
+pub last-keyOf : (y : Node) (pre rest : List Node) → Apart (y ∷ (pre ++ rest)) → keyOf (lastFrom y pre .cell) (y ∷ (pre ++ rest)) ≡ lastFrom y pre .key
+unfolding lastFrom
+last-keyOf y [] rest o = keyOf-same (y .cell) y rest refl
+last-keyOf y (z ∷ pre) rest o =
+    let other = all-last (λ w. w .cell ≡ y .cell → ⊥) z pre (o .0 .0) (all-left (λ w. w .cell ≡ y .cell → ⊥) pre rest (o .0 .1)) in
+    keyOf-other (lastFrom z pre .cell) y (z ∷ (pre ++ rest)) (λ e. other (sym e)) ∙ last-keyOf z pre rest (o .1)
+
+module _ (s : State) (pre : List Node) (x : Node) (post : List Node) (a : Asc 0 (pre ++ x ∷ post)) (o : Apart (headNode ∷ (pre ++ x ∷ post))) where
+  smaller-lowers : x .key ≤ positionKey s → Lowered s (x .key) (lastFrom headNode pre .cell) (pre ++ x ∷ post)
+  smaller-lowers h =
       let row = pre ++ x ∷ post in
-      let n = suc (dimensionAfter b D headNode pre (x .key)) in
-      let l = last-shares b D deep headNode pre x post a in
-      let k = first-key b D (A .key) n headNode pre (x ∷ post) (asc-left 0 pre (x ∷ post) a) (apart-left (headNode ∷ pre) (x ∷ post) o) l in
-      let m = asc-last headNode pre (x ∷ post) a .0 in
+      let key = last-keyOf headNode pre (x ∷ post) o in
+      let less = asc-last headNode pre (x ∷ post) a .0 in
       let all = all-stand (headNode ∷ row) in
       record {
-        stands = first-among b D (λ c. 0 < occurrences c (map (λ y. y .cell) (headNode ∷ row))) (A .key) n headNode pre l (all .0)
+        stands = all-last (λ z. 0 < occurrences (z .cell) (map (λ y. y .cell) (headNode ∷ row))) headNode pre (all .0)
             (all-left (λ z. 0 < occurrences (z .cell) (map (λ y. y .cell) (headNode ∷ row))) pre (x ∷ post) (all .1));
         below = omega arith;
         least = omega arith;
@@ -71,14 +73,14 @@ module _ (s : State) (pos : 0 < s .settings .base) (deep : 0 < s .settings .dime
 
   -- the position after the call, where the old one stands, and with its old key
   position-lowers :
-      0 < occurrences (s .position) (0 ∷ map (λ y. y .cell) (pre ++ x ∷ post)) → keyOf (s .position) (headNode ∷ (pre ++ x ∷ post)) ≡ positionKey s →
-      Lowered s (x .key) (positionAfter s (x .key) (x .cell) (pre ++ x ∷ post)) (pre ++ x ∷ post)
+      smallerThan (x .key) (s .row) .cell ≡ lastFrom headNode pre .cell → 0 < occurrences (s .position) (0 ∷ map (λ y. y .cell) (pre ++ x ∷ post)) →
+      keyOf (s .position) (headNode ∷ (pre ++ x ∷ post)) ≡ positionKey s → Lowered s (x .key) (positionAfter s (x .key)) (pre ++ x ∷ post)
   unfolding positionAfter
-  position-lowers stands same = at (decLe (x .key) (positionKey s))
+  position-lowers is stands same = at (decLe (x .key) (positionKey s))
     where
-      at : Dec (x .key ≤ positionKey s) → Lowered s (x .key) (cond (leb (x .key) (positionKey s)) (parentIn s (x .cell) (pre ++ x ∷ post))
+      at : Dec (x .key ≤ positionKey s) → Lowered s (x .key) (cond (leb (x .key) (positionKey s)) (smallerThan (x .key) (s .row) .cell)
           (s .position)) (pre ++ x ∷ post)
-      at (yes h) = rw (le-leb (x .key) (positionKey s) h, parent-is s pre x post pos deep a o) (parent-lowers h)
+      at (yes h) = rw (le-leb (x .key) (positionKey s) h, is) (smaller-lowers h)
       at (no h) =
           let l : positionKey s < x .key = omega arith in
           rw (lt-leb (x .key) (positionKey s) l) (record { stands = stands; below = omega arith; least = omega arith })
@@ -131,12 +133,25 @@ module _ (s : State) (x : Node) (value : ℕ) (v : Sound s) (pre post : List Nod
             (s .row) (o .1),
       )
 
-  revived-lowered : Lowered s (x .key) (positionAfter s (x .key) (x .cell) (map revive (s .row))) (map revive (s .row))
+  -- the node of next smaller key, before the call and after it
+  revived-smaller : smallerThan (x .key) (s .row) .cell ≡ lastFrom headNode (map (onCell (x .cell) (revivedNode value)) pre) .cell
+  revived-smaller =
+      let asc = subst (Asc 0) split (v .ascends) in
+      ap (λ r. smallerThan (x .key) r .cell) split
+      ∙ ap (λ y. y .cell) (smaller-is (x .key) pre (x ∷ post) (asc-smaller 0 pre x post asc)
+      (omega arith, all-map (λ y h. omega arith) post (asc-larger 0 pre x post asc)))
+      ∙ sym (ap (λ y. y .cell) (last-changed revive revived-keeping pre) ∙ revived-keeping .cell (lastFrom headNode pre))
+
+  pub revived-position : x .key ≤ positionKey s → revived s x value .position ≡ lastFrom headNode (map (onCell (x .cell) (revivedNode value)) pre) .cell
+  unfolding revived positionAfter
+  revived-position h = rw (le-leb (x .key) (positionKey s) h) revived-smaller
+
+  revived-lowered : Lowered s (x .key) (positionAfter s (x .key)) (map revive (s .row))
   revived-lowered =
-      subst (λ r. Lowered s (x .key) (positionAfter s (x .key) (x .cell) r) r) (sym revived-row)
-      (subst₂ (λ i c. Lowered s i (positionAfter s i c (map revive pre ++ revive x ∷ map revive post)) (map revive pre ++ revive x ∷ map revive post))
-      (revived-keeping .key x) (revived-keeping .cell x)
-      (position-lowers s (base-positive s v) (dimensions-positive s v) (map revive pre) (revive x) (map revive post) revived-ascends revived-apart
+      subst (Lowered s (x .key) (positionAfter s (x .key))) (sym revived-row)
+      (subst (λ i. Lowered s i (positionAfter s i) (map revive pre ++ revive x ∷ map revive post)) (revived-keeping .key x)
+      (position-lowers s (map revive pre) (revive x) (map revive post) revived-ascends revived-apart
+      (ap (λ i. smallerThan i (s .row) .cell) (revived-keeping .key x) ∙ revived-smaller)
       (subst (λ r. 0 < occurrences (s .position) (0 ∷ map (λ y. y .cell) r)) revived-row
       (subst (λ cs. 0 < occurrences (s .position) (0 ∷ cs)) (sym (cells-changed revive revived-keeping (s .row))) (v .position)))
       (ap (λ r. keyOf (s .position) (headNode ∷ r)) (sym revived-row) ∙ keyOf-head-changed revive revived-keeping (s .position) (s .row))))
@@ -144,7 +159,7 @@ module _ (s : State) (x : Node) (value : ℕ) (v : Sound s) (pre post : List Nod
   revived-sound-at : Sound (revived s x value)
   unfolding revived
   revived-sound-at =
-      let p = positionAfter s (x .key) (x .cell) (map revive (s .row)) in
+      let p = positionAfter s (x .key) in
       let same = keyOf-head-changed revive revived-keeping p (s .row) in
       let below = revived-lowered .below in
       let least = revived-lowered .least in
@@ -155,17 +170,6 @@ module _ (s : State) (x : Node) (value : ℕ) (v : Sound s) (pre post : List Nod
       (subst (λ cs. 0 < occurrences p (0 ∷ cs)) (cells-changed revive revived-keeping (s .row)) (revived-lowered .stands))
       (all-zip (λ y only dead l. onCell-cases (λ z. z .live ≡ false) (x .cell) (revivedNode value) y
       (λ here. absurd (let q = only here in omega arith)) (λ other. dead (omega arith))) (s .row) same-cell (v .dead))
-
-  -- the parent is that of the settled shape before the call
-  pub revived-parent : parentIn s (x .cell) (map (onCell (x .cell) (revivedNode value)) (s .row))
-      ≡ parentAfter (s .settings .base) (s .settings .dimensions) headNode pre (x .key)
-  revived-parent =
-      let b = s .settings .base in
-      let D = s .settings .dimensions in
-      ap₂ (parentIn s) (sym (revived-keeping .cell x)) revived-row
-      ∙ parent-is s (map revive pre) (revive x) (map revive post) (base-positive s v) (dimensions-positive s v) revived-ascends revived-apart
-      ∙ ap (parentAfter b D headNode (map revive pre)) (revived-keeping .key x)
-      ∙ parent-changed revive revived-keeping b D pre (x .key)
 
 pub revived-sound : (s : State) (x : Node) (value : ℕ) → Sound s → nodeAt (x .key) (s .row) ≡ some x → x .live ≡ false → Sound (revived s x value)
 revived-sound s x value v e dead = let t = node-split (x .key) x (s .row) e in revived-sound-at s x value v (t .0) (t .1) (t .2)
@@ -444,6 +448,9 @@ module _ (s : State) (v : Sound s) (key value : ℕ) (positive : 0 < key) (g : G
   pay-key : (y : Node) → pay y .key ≡ y .key
   pay-key y = paid-keeping (t .c) .key (onCell (t .parent) paid y) ∙ paid-keeping (t .parent) .key y
 
+  pay-cell : (y : Node) → pay y .cell ≡ y .cell
+  pay-cell y = paid-keeping (t .c) .cell (onCell (t .parent) paid y) ∙ paid-keeping (t .parent) .cell y
+
   last-paid : lastFrom headNode front ≡ pay (lastFrom headNode (g .pre))
   unfolding finished
   last-paid = last-changed (onCell (t .c) paid) (paid-keeping (t .c)) (finished (t .parent) (g .pre))
@@ -530,17 +537,23 @@ module _ (s : State) (v : Sound s) (key value : ℕ) (positive : 0 < key) (g : G
   new-apart = apart-put headNode x front back (subst (λ r. Apart (headNode ∷ r)) settled-row (sound-apart settled settled-sound))
       (subst (λ r. Without (x .cell) (headNode ∷ r)) settled-row new-cell)
 
-  new-lowered : Lowered settled key (positionAfter s key (t .n) (front ++ x ∷ back)) (front ++ x ∷ back)
+  -- the node of next smaller key, before the call and after it
+  new-smaller : smallerThan key (s .row) .cell ≡ lastFrom headNode front .cell
+  new-smaller =
+      ap (λ r. smallerThan key r .cell) (g .splits)
+      ∙ ap (λ y. y .cell) (smaller-is key (g .pre) (g .post) (g .below) (all-map (λ y h. omega arith) (g .post) (g .above)))
+      ∙ sym (ap (λ y. y .cell) last-paid ∙ pay-cell (lastFrom headNode (g .pre)))
+
+  new-lowered : Lowered settled key (positionAfter s key) (front ++ x ∷ back)
   new-lowered =
       let more = occurrences-put (s .position) x (headNode ∷ front) back in
       let stands = subst (λ r. 0 < occurrences (s .position) (0 ∷ map (λ y. y .cell) r)) settled-row (settled-sound .position) in
-      let l = position-lowers s (base-positive s v) (dimensions-positive s v) front x back new-ascends new-apart (omega arith)
+      let l = position-lowers s front x back new-ascends new-apart new-smaller (omega arith)
       (keyOf-put (s .position) x (headNode ∷ front) back position-old ∙ ap (λ r. keyOf (s .position) (headNode ∷ r)) (sym settled-row) ∙ both-position s t) in
       record {
         stands = l .stands;
         below = l .below;
-        least = subst (λ k. keyOf (positionAfter s key (t .n) (front ++ x ∷ back))
-            (headNode ∷ (front ++ x ∷ back)) ≤ k) (sym (both-position s t)) (l .least);
+        least = subst (λ k. keyOf (positionAfter s key) (headNode ∷ (front ++ x ∷ back)) ≤ k) (sym (both-position s t)) (l .least);
       }
 
   pub added-row :
@@ -549,25 +562,21 @@ module _ (s : State) (v : Sound s) (key value : ℕ) (positive : 0 < key) (g : G
   unfolding added both-gap finished gap-changed
   added-row = put-gap x (settled .row) (both-gap s t key g)
 
-  -- the parent in the new settled shape is the slot's
-  pub added-parent : parentIn s (t .n) (added s key value t .row) ≡ t .parent
-  unfolding finished
-  added-parent =
-      ap (parentIn s (t .n)) added-row
-      ∙ parent-is s front x back (base-positive s v) (dimensions-positive s v) new-ascends new-apart
-      ∙ parent-changed (onCell (t .c) paid) (paid-keeping (t .c)) b D (finished (t .parent) (g .pre)) key
-      ∙ parent-changed (onCell (t .parent) paid) (paid-keeping (t .parent)) b D (g .pre) key
-      ∙ sym (i .parent-is)
-
-  pub added-position : added s key value t .position ≡ cond (leb key (positionKey s)) (t .parent) (s .position)
+  -- The operations 2: where the position goes
+  pub added-position-lowered : key ≤ positionKey s →
+      added s key value t .position ≡ lastFrom headNode (finished (t .c) (finished (t .parent) (g .pre))) .cell
   unfolding added positionAfter
-  added-position = ap (λ c. cond (leb key (positionKey s)) c (s .position)) added-parent
+  added-position-lowered h = rw (le-leb key (positionKey s) h) new-smaller
+
+  pub added-position-kept : positionKey s < key → added s key value t .position ≡ s .position
+  unfolding added positionAfter
+  added-position-kept h = rw (lt-leb key (positionKey s) h) refl
 
   pub added-sound-at : key ≤ s .settings .largest → Sound (added s key value t)
   unfolding added both-gap finished gap-changed
   added-sound-at most =
-      subst (λ r. Sound (record { settings = s .settings; row = r; free = drop 1 (s .free); position = positionAfter s key (t .n) r })) (sym added-row)
-      (put-sound settled x (drop 1 (s .free)) (positionAfter s key (t .n) (front ++ x ∷ back)) settled-sound positive most (both-gap s t key g)
+      subst (λ r. Sound (record { settings = s .settings; row = r; free = drop 1 (s .free); position = positionAfter s key })) (sym added-row)
+      (put-sound settled x (drop 1 (s .free)) (positionAfter s key) settled-sound positive most (both-gap s t key g)
       (first-free (s .free) f ∙ ap {B = List ℕ} (λ c. c ∷ drop 1 (s .free)) (sym (i .n-is)))
       (λ l. absurd (let z : _≡_ {A = ℕ} 0 1 = cc in omega arith)) last-unowing new-debt next-same new-lowered)
 

@@ -13,9 +13,9 @@ use Rattle.lists.specs.Lists.{occurrences}
 use Rattle.lists.proofs.Occurrences.{occurrences-past, occurrences-append, occurrences-between, occurrences-more}
 use Rattle.lists.proofs.All.{All, all-map, all-right, all-mapped, all-at}
 use Rattle.meaning.specs.Keys.{shared}
-use Rattle.meaning.specs.Row.{Node, headNode, firstOf, Place, headPlace, placesAfter, places}
+use Rattle.meaning.specs.Row.{Node, headNode, firstOf, Place, headPlace, placesAfter, places, lastOf}
 use Rattle.meaning.specs.State.{State, keyOf, positionKey}
-use Rattle.meaning.specs.Operations.{deadFront, fromLive, lastOf, lastAlone}
+use Rattle.meaning.specs.Operations.{deadFront, fromLive, lastAlone}
 use Rattle.meaning.proofs.State.{Sound, Debt, cellsIn}
 use Rattle.meaning.proofs.StateCells.{row-range}
 use Rattle.meaning.proofs.Places.{Located, occurs-found, keyOf-same, keyOf-other, keyOf-first, places-nodes, Keeping, changedPlace}

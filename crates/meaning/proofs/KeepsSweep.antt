@@ -9,9 +9,9 @@ use lib.ListN.{length, length-append, length-reverseAux}
 use Rattle.lists.specs.Lists.{occurrences}
 use Rattle.lists.proofs.Occurrences.{occurrences-here, occurrences-append, occurrences-reverseAux, occurrences-more}
 use Rattle.lists.proofs.All.{All, all-map, all-append, all-left, all-right, all-each, all-zip, all-mapped, all-reverseAux}
-use Rattle.meaning.specs.Row.{Node, headNode}
+use Rattle.meaning.specs.Row.{Node, headNode, lastOf}
 use Rattle.meaning.specs.State.{State, keyOf}
-use Rattle.meaning.specs.Operations.{paid, deadFront, fromLive, lastOf, lastAlone, freedBy, swept}
+use Rattle.meaning.specs.Operations.{paid, deadFront, fromLive, lastAlone, freedBy, swept}
 use Rattle.meaning.proofs.AscendingRow.{Asc, asc-above}
 use Rattle.meaning.proofs.State.{Sound, cellsIn}
 use Rattle.meaning.proofs.Places.{keyOf-same, keyOf-other, asc-right, Keeping, cells-changed, keyOf-head-changed, asc-changed}

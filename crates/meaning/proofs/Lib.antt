@@ -24,6 +24,8 @@ pub mod WalkRow
 pub mod WalkSteps
 pub mod Walk
 pub mod WalkStop
+pub mod Smaller
+pub mod Lower
 -- Paths: of a standing cell, the way through the keys in order, what a take passes, the path that the walk builds.
 pub mod Path
 pub mod PathNext
@@ -76,6 +78,7 @@ pub mod ShapeByKeys
 pub mod Writes
 pub mod Batch
 pub mod OwedCells
+pub mod FallsBack
 pub mod Promises
 pub mod AgainstSlips
 pub mod Examples

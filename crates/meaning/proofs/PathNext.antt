@@ -10,12 +10,12 @@ use lib.Seq.{append-snoc}
 use borrow.Author.Tests.{eq-eqb, ne-eqb}
 use Rattle.lists.proofs.All.{All, all-map, all-left, all-at}
 use Rattle.meaning.specs.Keys.{shared}
-use Rattle.meaning.specs.Row.{Node, headNode, places, placeOf, settledLink}
+use Rattle.meaning.specs.Row.{Node, headNode, places, placeOf, settledLink, lastOf}
 use Rattle.meaning.specs.State.{State}
 use Rattle.meaning.specs.Picture.{mark, picture}
 use Rattle.meaning.specs.Words.{keyAt, markAt}
 use Rattle.meaning.specs.Walk.{linkRead}
-use Rattle.meaning.specs.Operations.{dimensionAt, lastOf}
+use Rattle.meaning.specs.Operations.{dimensionAt}
 use Rattle.meaning.specs.Layer.Paths.{pathFor, PathOf, dimensionIn, onward, NextCell, nextFrom}
 use Rattle.meaning.proofs.AscendingRow.{Asc}
 use Rattle.meaning.proofs.Keys.{shared-less}

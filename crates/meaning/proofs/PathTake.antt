@@ -14,10 +14,10 @@ use Rattle.lists.specs.Lists.{those, numbersFrom}
 use Rattle.lists.proofs.Those.{those-all, those-none, those-same, those-append}
 use Rattle.lists.proofs.All.{All, all-map, all-left, all-zip}
 use Rattle.lists.proofs.Tests.{and-both}
-use Rattle.meaning.specs.Row.{Node, headNode}
+use Rattle.meaning.specs.Row.{Node, headNode, lastOf}
 use Rattle.meaning.specs.State.{State, positionKey}
 use Rattle.meaning.specs.Picture.{firstWith, path}
-use Rattle.meaning.specs.Operations.{deadFront, fromLive, deadNode, keysAbove, keysPassed, taken, lastOf}
+use Rattle.meaning.specs.Operations.{deadFront, fromLive, deadNode, keysAbove, keysPassed, taken}
 use Rattle.meaning.specs.Layer.Paths.{pathFor, PathOf}
 use Rattle.meaning.proofs.AscendingRow.{Asc, asc-above}
 use Rattle.meaning.proofs.State.{Sound}

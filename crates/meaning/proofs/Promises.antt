@@ -10,6 +10,7 @@ use borrow.Author.Tests.{eq-eqb}
 use Rattle.settings.specs.Numbers.{baseOf}
 use Rattle.lists.specs.Lists.{occurrences}
 use Rattle.lists.proofs.Occurrences.{distinct-once}
+use Rattle.meaning.specs.Row.{smallerThan}
 use Rattle.meaning.specs.State.{State}
 use Rattle.meaning.specs.Picture.{picture}
 use Rattle.meaning.specs.Reading.{read, isList}
@@ -19,26 +20,29 @@ use Rattle.meaning.specs.Records.{Lent, askedOut}
 use Rattle.meaning.specs.Rule.{rule}
 use Rattle.meaning.specs.Words.{keyAt, dimensionsAt, largestAt, baseAt}
 use Rattle.meaning.specs.Walk.{trailFrom, trail, ends, walk}
+use Rattle.meaning.specs.Lower.{lowerWayFor, lowerFor}
 use Rattle.meaning.specs.Book.{standingKeys}
 use Rattle.meaning.specs.Promises.{ListsStayLists, CallsKeepLists, CallsKeepSettings, RefusedAltersNothing, Looks, answersLooked, LookedIsWalk}
 use Rattle.meaning.specs.Promises.{PresentMeansThatKey, TakesInTurn, TakesEnd, CallsAreBooked, FindWritesNothing, TakeWrites, ReviveWrites}
 use Rattle.meaning.specs.Promises.{InsertWrites, FinishWrites, SweepWrites, EachCellOnce, SweptCellsFirst, InsertUsesFirst, SharedMeansLeading}
 use Rattle.meaning.specs.Promises.{ListMeansSentences, WalkIsRule, WalkOnce, WalkBounded, WalkEnds, WalkByKeysAlone, OrderIsLexicographic}
 use Rattle.meaning.specs.Promises.{ShapeByKeysAlone, AnswersAreBooked, OneOutcome, RecordIsInsert, LastIsValue, BatchIsCalls, RefusedBatchAltersNothing, BatchRefusals}
-use Rattle.meaning.specs.Promises.{OwedCellsStand, OwedCellsStandFromFresh, OwedCellsStandInSweep, NineIsRetired}
+use Rattle.meaning.specs.Promises.{OwedCellsStand, OwedCellsStandFromFresh, OwedCellsStandInSweep, NineIsRetired, WayToLower, LateInserts}
 use Rattle.meaning.proofs.Keys.{shared-agreed, lexicographic, coordinates-determine}
 use Rattle.meaning.proofs.AscendingKeys.{asc-rising, rising-equal}
 use Rattle.meaning.proofs.State.{Sound, base-positive, base-above}
 use Rattle.meaning.proofs.ReadBack.{list-sound, picture-is-list, read-of-picture}
 use Rattle.meaning.proofs.Outcomes as outcomes
 use Rattle.meaning.proofs.Outcomes.{on-lists, insert-outcome-bad-key, insert-outcome-live, insert-outcome-dead, insert-outcome-full}
-use Rattle.meaning.proofs.Outcomes.{insert-outcome-new, find-outcome-bad-key, find-outcome-absent, find-outcome-dead, find-outcome-live}
+use Rattle.meaning.proofs.Outcomes.{on-read-lists, insert-outcome-new, find-outcome-bad-key, find-outcome-absent, find-outcome-dead, find-outcome-live}
 use Rattle.meaning.proofs.Outcomes.{key-cases, live-cases, free-cases, record-asks, accepted-on-list}
 use Rattle.meaning.proofs.Book as book
 use Rattle.meaning.proofs.BookReplies as replies
 use Rattle.meaning.proofs.Writes as leaves
 use Rattle.meaning.proofs.Batch as batch
 use Rattle.meaning.proofs.OwedCells as owed
+use Rattle.meaning.proofs.Lower as lower
+use Rattle.meaning.proofs.FallsBack as back
 use Rattle.meaning.proofs.Serves as serves
 use Rattle.meaning.proofs.BookPresent as present
 use Rattle.meaning.proofs.Walk as walks
@@ -231,6 +235,17 @@ owed-cells-stand-in-sweep = owed.owed-cells-stand-in-sweep
 
 pub nine-is-retired : NineIsRetired
 nine-is-retired = (λ r. outcomes.table r .1, (outcomes.call-never-nine, batch.batch-never-nine))
+
+pub way-to-lower : WayToLower
+unfolding picture
+way-to-lower =
+    on-read-lists
+    (λ s ws. (k : ℕ) → 1 ≤ k → k ≤ largestAt ws →
+    (lowerFor ws k ≡ smallerThan k (s .row) .cell) × (length (lowerWayFor ws k) ≤ dimensionsAt ws * (baseAt ws - 1)))
+    lower.way-to-lower
+
+pub late-inserts : LateInserts
+late-inserts = back.late-inserts
 
 pub refused-alters-nothing : RefusedAltersNothing
 refused-alters-nothing = outcomes.refused-alters-nothing

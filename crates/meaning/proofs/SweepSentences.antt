@@ -12,11 +12,11 @@ use lib.ListN.{getD}
 use Rattle.lists.specs.Lists.{occurrences}
 use Rattle.lists.proofs.Occurrences.{occurrences-reverseAux, all-occur}
 use Rattle.lists.proofs.All.{All, all-map, all-append, all-left, all-zip, all-of-map, all-at}
-use Rattle.meaning.specs.Row.{Node, headNode, Place, headPlace, placeOf}
+use Rattle.meaning.specs.Row.{Node, headNode, Place, headPlace, placeOf, lastOf}
 use Rattle.meaning.specs.State.{State, placesOf}
 use Rattle.meaning.specs.Picture.{mark, picture}
 use Rattle.meaning.specs.Words.{keyAt, valueAt, markAt, linkAt, positionAt}
-use Rattle.meaning.specs.Operations.{paid, deadFront, fromLive, lastOf, lastAlone, freedBy, swept}
+use Rattle.meaning.specs.Operations.{paid, deadFront, fromLive, lastAlone, freedBy, swept}
 use Rattle.meaning.specs.Sentences.{Free, Standing, Settled, Owing}
 use Rattle.meaning.specs.Writes.{OwesNothing, Swept}
 use Rattle.meaning.proofs.AscendingRow.{Asc, asc-above}

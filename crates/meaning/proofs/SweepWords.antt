@@ -9,10 +9,10 @@ use native.Mathlib.Nat.{lt-of-not-le}
 use native.Mathlib.Omega.{arith}
 use Rattle.lists.proofs.All.{All, all-map, all-at}
 use Rattle.meaning.specs.Keys.{shared}
-use Rattle.meaning.specs.Row.{Node}
+use Rattle.meaning.specs.Row.{Node, lastOf}
 use Rattle.meaning.specs.State.{State, positionKey}
 use Rattle.meaning.specs.Picture.{picture}
-use Rattle.meaning.specs.Operations.{paid, withRow, deadFront, fromLive, lastOf, lastAlone, freedBy, swept}
+use Rattle.meaning.specs.Operations.{paid, withRow, deadFront, fromLive, lastAlone, freedBy, swept}
 use Rattle.meaning.specs.Layer.Paths.{pathFor, dimensionIn}
 use Rattle.meaning.specs.Layer.SweepStores.{dropFront}
 use Rattle.meaning.proofs.AscendingRow.{Asc, asc-above}

@@ -39,16 +39,16 @@ use Rattle.meaning.proofs.WalkSteps.{trail-first, trail-enough}
 
 -- The steps that are left: D * b, less d * b + (the cell's coordinate d).
 
-abbrev Room : ℕ → ℕ → ℕ → ℕ → ℕ → Type 0
+abbrev pub Room : ℕ → ℕ → ℕ → ℕ → ℕ → Type 0
 Room b D fuel key d = D * b ≤ fuel + (d * b + coordinate b D key d)
 
-room-none : (b D key d : ℕ) → 0 < b → d < D → Room b D 0 key d → ⊥
+pub room-none : (b D key d : ℕ) → 0 < b → d < D → Room b D 0 key d → ⊥
 room-none b D key d pos h room =
     let more = mul-le-mul-right b h in
     let digit = coordinate-below b D key d pos in
     omega arith
 
-room-up : (b D fuel key d : ℕ) → 0 < b → Room b D (suc fuel) key d → Room b D fuel key (suc d)
+pub room-up : (b D fuel key d : ℕ) → 0 < b → Room b D (suc fuel) key d → Room b D fuel key (suc d)
 room-up b D fuel key d pos room = let digit = coordinate-below b D key d pos in omega arith
 
 -- a move to y at coordinate d leaves fewer steps, and y shares at least d coordinates with k
@@ -63,10 +63,10 @@ along-go : (y : ℕ) → 0 < y → stepAlong y ≡ Go y
 along-go y h = rw (ne-eqb y 0 (λ e. omega arith)) refl
 
 -- the place of a standing cell, as the words have it
-record StandingPlace (ws : List ℕ) (b D : ℕ) (p : Place) : Type 0 where
-  read : Read ws b D p
-  other : 0 < p .node .key → 0 < p .node .cell
-  fits : p .node .key < b ^ D
+pub record StandingPlace (ws : List ℕ) (b D : ℕ) (p : Place) : Type 0 where
+  pub read : Read ws b D p
+  pub other : 0 < p .node .key → 0 < p .node .cell
+  pub fits : p .node .key < b ^ D
 
 module _ (ws : List ℕ) (b D k : ℕ) (is-D : dimensionsAt ws ≡ D) (is-b : baseAt ws ≡ b) (pos : 0 < b) (some : 0 < D) (kfits : k < b ^ D)
     (R : Place → Type 0) (stands : (p : Place) → R p → StandingPlace ws b D p) where
@@ -160,7 +160,7 @@ module _ (ws : List ℕ) (b D k : ℕ) (is-D : dimensionsAt ws ≡ D) (is-b : ba
 
 -- On a list.
 
-placed-stands : {s : State} (v : Sound s) {p : Place} → Own s p → StandingPlace (picture s) (s .settings .base) (s .settings .dimensions) p
+pub placed-stands : {s : State} (v : Sound s) {p : Place} → Own s p → StandingPlace (picture s) (s .settings .base) (s .settings .dimensions) p
 placed-stands {s} v here =
     record {
       read = placed-has here (Read (picture s) (s .settings .base) (s .settings .dimensions)) (places-read s v);

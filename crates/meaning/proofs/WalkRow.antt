@@ -180,7 +180,7 @@ pub data RowTrail (b D k : ℕ) (R : Place → Type 0) : Place → ℕ → List 
       RowTrail b D k R p d (End ∷ [])
   reaches : {p : Place} {d : ℕ} → k ≤ p .node .key → d ≡ min (shared b D (p .node .key) k) (D - 1) → RowTrail b D k R p d (End ∷ [])
 
-last-bounded : (b D key d : ℕ) → 0 < b → d < D → d * (b - 1) + coordinate b D key d ≤ D * (b - 1)
+pub last-bounded : (b D key d : ℕ) → 0 < b → d < D → d * (b - 1) + coordinate b D key d ≤ D * (b - 1)
 last-bounded b D key d pos h = let digit = coordinate-below b D key d pos in let more = mul-le-mul-right (b - 1) h in omega arith
 
 module _ {b D k : ℕ} {R : Place → Type 0} where

@@ -1,46 +1,42 @@
 -- What a call leaves alone, carried from states to lists.
-use mathlib.Core.Path.{_≡_, refl, _∙_, sym, ap, ap₂, subst, subst₂}
-use mathlib.Core.Bool.{true, false, cond, true≢false}
+use mathlib.Core.Path.{_≡_, refl, _∙_, sym, ap, subst, subst₂}
+use mathlib.Core.Bool.{true, false, true≢false}
 use mathlib.Core.List.{List, [], _∷_, map, map-append}
 use mathlib.Core.Option.{none, some}
 use Prim.Native.Nat.{ℕ, zero, suc, _≤_, _<_}
 use native.Mathlib.Decide.{ℕ-discrete, decLt}
 use native.Mathlib.Omega.{arith}
 use lib.ListN.{length, getD}
-use borrow.Author.Tests.{le-leb}
 use Rattle.settings.specs.Numbers.{headerWords, cellWords}
 use Rattle.lists.specs.Lists.{occurrences}
 use Rattle.lists.proofs.All.{All, all-map, all-append, all-at}
-use Rattle.meaning.specs.Row.{Node, headNode, nodeAt, placeOf}
-use Rattle.meaning.specs.State.{State, positionKey, placesOf}
+use Rattle.meaning.specs.Row.{Node, nodeAt, placeOf}
+use Rattle.meaning.specs.State.{State, placesOf}
 use Rattle.meaning.specs.Picture.{mark, picture, path}
 use Rattle.meaning.specs.Refusals.{Outcome, refused, badKey, keyLive, nothingLive, keyNotStanding}
 use Rattle.meaning.specs.Words.{keyAt, markAt, positionAt, wordAt, dimensionsAt}
 use Rattle.meaning.specs.Operations.{looked, insertOut, finishOut, takeOut, sweepOut, deadFront, fromLive, taken, revived, revivedNode}
-use Rattle.meaning.specs.Operations.{parentIn, positionAfter, slotFor, finished, withRow, linksMoved, keysAbove}
-use Rattle.meaning.specs.Writes.{Parent, Inserted, Taken, Revived, Swept, Marked}
-use Rattle.meaning.specs.Sentences.{Standing, Settled}
+use Rattle.meaning.specs.Operations.{slotFor, finished, withRow, linksMoved, keysAbove}
+use Rattle.meaning.specs.Writes.{Inserted, Taken, Revived, Swept, Marked}
+use Rattle.meaning.specs.Sentences.{Standing, NextSmaller}
 use Rattle.meaning.specs.Promises.{FindWritesNothing, TakeWrites, ReviveWrites, InsertWrites, Finishes, FinishWrites, SweepWrites}
 use Rattle.meaning.specs.Layer.Stores.{writePath, writeNode}
 use Rattle.meaning.proofs.Stores.{Exact, picture-exact, wordIn, wordAt-in, cell-sets-inside, cell-sets-before, cell-sets-after}
 use Rattle.meaning.proofs.Stores.{cell-sets-other, cell-sets-below, path-sets-header, path-sets-word}
 use Rattle.meaning.proofs.AscendingRow.{Asc, asc-above}
-use Rattle.meaning.proofs.State.{Sound, base-positive}
+use Rattle.meaning.proofs.State.{Sound}
 use Rattle.meaning.proofs.Picture.{path-length, picture-dimensions, picture-cells}
-use Rattle.meaning.proofs.ReadBack.{read-of-picture}
 use Rattle.meaning.proofs.Changed.{picture-path-word}
-use Rattle.meaning.proofs.Places.{asc-right, Located, onCell}
-use Rattle.meaning.proofs.Parent.{dimensionAfter, parentAfter, Apart, parent-is}
-use Rattle.meaning.proofs.Slot.{sound-apart, dimensions-positive}
-use Rattle.meaning.proofs.InsertSlot.{parent-leads}
+use Rattle.meaning.proofs.Places.{asc-right, onCell}
 use Rattle.meaning.proofs.KeepsState.{live-split, deadFront-dead, fromLive-live, cell-stands}
 use Rattle.meaning.proofs.KeepsTake.{taken-sound}
 use Rattle.meaning.proofs.Placed.{placed-node, cell-standing, place-key, place-mark, place-standing}
 use Rattle.meaning.proofs.SentencesShape.{HasPlace, row-placed}
-use Rattle.meaning.proofs.Sentences.{position-is, position-key-is, position-standing}
+use Rattle.meaning.proofs.Sentences.{position-is, position-key-is}
 use Rattle.meaning.proofs.WalkRead.{row-key-read}
 use Rattle.meaning.proofs.BookRow.{node-has, node-key}
-use Rattle.meaning.proofs.KeepsInsert.{node-split, revived-keeping, revived-sound}
+use Rattle.meaning.proofs.KeepsInsert.{node-split, revived-keeping, revived-position, revived-sound}
+use Rattle.meaning.proofs.Smaller.{split-next-smaller}
 use Rattle.meaning.proofs.FinishWords.{finish-moved, finish-own, finish-others, finish-nothing, finish-finished}
 use Rattle.meaning.proofs.TakeWords.{taken-words, revived-words, revived-path}
 use Rattle.meaning.proofs.InsertWords.{added-inserted}
@@ -159,35 +155,16 @@ pub take-writes : TakeWrites
 take-writes =
     on-read-lists (λ s ws. takeOut ws .answered .refusal ≡ 0 → Taken ws (takeOut ws .left) (takeOut ws .answered .key)) take-taken
 
--- a standing cell's parent, where it is the position, on the words
-parent-found : (s : State) → Sound s → (c : ℕ) → Located c (s .row) → positionAt (picture s) ≡ parentIn s c (s .row) →
-    Parent (picture s) c (positionAt (picture s))
-parent-found s v c t e =
-    let b = s .settings .base in
-    let D = s .settings .dimensions in
-    let x = t .node in
-    let d = dimensionAfter b D headNode (t .front) (x .key) in
-    let parent : positionAt (picture s) ≡ parentAfter b D headNode (t .front) (x .key) =
-    e ∙ ap₂ (parentIn s) (sym (t .cell)) (t .split)
-    ∙ parent-is s (t .front) x (t .later) (base-positive s v) (dimensions-positive s v) (subst (Asc 0) (t .split) (v .ascends))
-    (subst (λ (r : List Node). Apart (headNode ∷ r)) (t .split) (sound-apart s v)) in
-    record {
-      standing = position-standing v;
-      number = d;
-      leads = subst₂ (λ (y n : ℕ). Settled (picture s) y d n) (sym parent) (t .cell) (parent-leads s v (t .front) x (t .later) (t .split));
-    }
-
 -- the words of a revival
 revived-leaves : (s : State) (x : Node) (value : ℕ) → Sound s → nodeAt (x .key) (s .row) ≡ some x → x .live ≡ false →
     Revived (picture s) (picture (revived s x value)) (x .key) value
-unfolding picture revived positionAfter parentIn
+unfolding picture revived
 revived-leaves s x value v a dead =
     let after = revived s x value in
     let sound = revived-sound s x value v a dead in
     let here = node-has (HasPlace s) (x .key) x (s .row) a (row-placed v) in
-    let lowered : x .key ≤ keyAt (picture s) (positionAt (picture s)) → positionAt (picture after) ≡ parentIn after (x .cell) (after .row) =
-    λ low. position-is sound ∙ ap (λ t. cond t (parentIn s (x .cell) (after .row)) (s .position))
-    (le-leb (x .key) (positionKey s) (subst (λ (n : ℕ). x .key ≤ n) (position-key-is v) low)) in
+    let (pre, post, split) = node-split (x .key) x (s .row) a in
+    let revive = onCell (x .cell) (revivedNode value) in
     record {
       cell = x .cell;
       marked =
@@ -197,19 +174,10 @@ revived-leaves s x value v a dead =
       path-kept = λ above d h.
           let kept = revived-path s x value v a (subst (λ (n : ℕ). n < x .key) (position-key-is v) above) in
           picture-path-word after d h ∙ ap (λ (words : List ℕ). getD words d 0) kept ∙ sym (picture-path-word s d h);
-      position-lowered = λ low. lowered low ∙ ap (λ (t : State). parentIn t (x .cell) (t .row)) (sym (read-of-picture after sound));
-      position-parent = λ low.
-          let (pre, post, split) = node-split (x .key) x (s .row) a in
-          let revive = onCell (x .cell) (revivedNode value) in
-          let found : Located (x .cell) (after .row) =
-          record {
-            front = map revive pre;
-            node = revive x;
-            later = map revive post;
-            split = ap (map revive) split ∙ map-append revive pre (x ∷ post);
-            cell = revived-keeping s x value v pre post split .cell x;
-          } in
-          parent-found after sound (x .cell) found (lowered low);
+      position-lowered = λ low.
+          subst₂ (NextSmaller (picture after)) (revived-keeping s x value v pre post split .cell x)
+          (sym (position-is sound ∙ revived-position s x value v pre post split (subst (λ (n : ℕ). x .key ≤ n) (position-key-is v) low)))
+          (split-next-smaller after sound (map revive pre) (revive x) (map revive post) (ap (map revive) split ∙ map-append revive pre (x ∷ post)));
     }
 
 revive-revived : (s : State) → Sound s → (key value : ℕ) → (nodeAt key (s .row) ≡ none → ⊥) → insertOut (picture s) key value .answered .refusal ≡ 0 →

@@ -10,6 +10,7 @@ pub mod Operations
 pub mod Words
 pub mod Rule
 pub mod Walk
+pub mod Lower
 pub mod Records
 pub mod Calls
 pub mod Batch

@@ -12,7 +12,7 @@ use Rattle.settings.specs.declared.Checked.{Checked}
 use Rattle.settings.specs.declared.Checked.the-variants.{Accepted, OutOfRange}
 use Rattle.lists.specs.Lists.{those, numbersFrom, firstNumber}
 use Rattle.meaning.specs.Keys.{shared}
-use Rattle.meaning.specs.Row.{Node, headNode, Place, settledLink, low, high, placeOf, nodeAt, put}
+use Rattle.meaning.specs.Row.{Node, lastOf, Place, settledLink, low, high, placeOf, nodeAt, put, smallerThan}
 use Rattle.meaning.specs.State.{State, keyOf, positionKey, placesOf}
 use Rattle.meaning.specs.Picture.{picture}
 use Rattle.meaning.specs.Reading.{read, readingOf}
@@ -117,10 +117,9 @@ parentIn s c row =
     let standing = placesOf s row in
     leadsTo (s .settings .base) (s .settings .dimensions) (dimensionAt (placeOf c standing)) c standing
 
--- The operations 2: if the key is at or below the position's, the position becomes the parent of its cell in the settled shape. Cell c has
--- this key, in the row after the call.
-unfoldable pub positionAfter : State → ℕ → ℕ → List Node → ℕ
-positionAfter s key c row = cond (leb key (positionKey s)) (parentIn s c row) (s .position)
+-- The operations 2: if the key is at or below the position's, the position becomes the standing cell of next smaller key.
+unfoldable pub positionAfter : State → ℕ → ℕ
+positionAfter s key = cond (leb key (positionKey s)) (smallerThan key (s .row) .cell) (s .position)
 
 -- a node with a new value and mark 1
 abbrev pub revivedNode : ℕ → Node → Node
@@ -130,7 +129,7 @@ revivedNode value x = record { cell = x .cell; key = x .key; value = value; live
 unfoldable pub revived : State → Node → ℕ → State
 revived s x value =
     let row = map (λ y. cond (eqb (y .cell) (x .cell)) (revivedNode value y) y) (s .row) in
-    record { settings = s .settings; row = row; free = s .free; position = positionAfter s (x .key) (x .cell) row }
+    record { settings = s .settings; row = row; free = s .free; position = positionAfter s (x .key) }
 
 -- The operations 2: a key that does not stand gets the first free cell n, as link p of its parent in the new settled shape. If a cell c had
 -- that slot in the settled shape before, c becomes link q of n, where n and c share q coordinates. Where there is no c, q says nothing.
@@ -163,7 +162,7 @@ slotOwes t = not (eqb (t .c) 0) && ltb (t .p) (t .q)
 unfoldable pub added : State → ℕ → ℕ → Slot → State
 added s key value t =
     let row = put (newNode (t .n) key value (slotOwes t)) (finished (t .c) (finished (t .parent) (s .row))) in
-    record { settings = s .settings; row = row; free = drop 1 (s .free); position = positionAfter s key (t .n) row }
+    record { settings = s .settings; row = row; free = drop 1 (s .free); position = positionAfter s key }
 
 unfoldable pub insertNew : List ℕ → State → ℕ → ℕ → Outcome (List ℕ)
 insertNew ws s key value =
@@ -216,12 +215,6 @@ unfoldable pub takeOut : List ℕ → Outcome (List ℕ)
 takeOut ws = onList ws (λ s. takeFrom ws s (fromLive (s .row)))
 
 -- Sweep.
-
--- the last of some nodes; the head if there is none
-unfoldable pub lastOf : List Node → Node
-lastOf [] = headNode
-lastOf (x ∷ []) = x
-lastOf (x ∷ y ∷ row) = lastOf (y ∷ row)
 
 -- the nodes from the last one on, as a list: none if there is none
 unfoldable pub lastAlone : List Node → List Node

@@ -13,13 +13,15 @@ use Rattle.lists.specs.Compared.{agreed, precedes}
 use Rattle.records.specs.Notes.{noteBy}
 use Rattle.meaning.specs.declared.Answer.{Answer}
 use Rattle.meaning.specs.Keys.{coordinates, shared}
-use Rattle.meaning.specs.Row.{Node, nodeAt}
+use Rattle.meaning.specs.Row.{Node, headNode, nodeAt, smallerThan}
+use Rattle.meaning.specs.State.{keyOf, positionKey}
 use Rattle.meaning.specs.Reading.{read, settingsAt, isList}
-use Rattle.meaning.specs.Refusals.{Outcome, Meets, Refusal, notAList, badBatch, answerOf, refused}
+use Rattle.meaning.specs.Refusals.{answer, Outcome, Meets, Refusal, notAList, badBatch, answerOf, refused}
 use Rattle.meaning.specs.Rule.{rule}
-use Rattle.meaning.specs.Words.{keyAt, markAt, owedAt, lowAt, highAt, linkAt, dimensionsAt, largestAt, cellsAt, baseAt, liveMark}
+use Rattle.meaning.specs.Words.{keyAt, markAt, owedAt, lowAt, highAt, linkAt, dimensionsAt, largestAt, cellsAt, baseAt, positionAt, liveMark}
 use Rattle.meaning.specs.Walk.{walk, trailFrom, trail, ends}
-use Rattle.meaning.specs.Operations.{setUpOut, insertOut, findOut, finishOut, takeOut, sweepOut, freedBy, slotFor}
+use Rattle.meaning.specs.Lower.{lowerWayFor, lowerFor}
+use Rattle.meaning.specs.Operations.{setUpOut, insertOut, findOut, finishOut, takeOut, sweepOut, freedBy, parentIn, slotFor, keysPassed}
 use Rattle.meaning.specs.Records.{Lent, insertion, noteAsks, recordOut}
 use Rattle.meaning.specs.Writes.{OwesNothing, OwesSame, Finished, Inserted, Taken, Revived, Swept}
 use Rattle.meaning.specs.Calls.{outcome, Made, alone, madeOn, afterCalls}
@@ -310,6 +312,31 @@ abbrev pub NineIsRetired : Type 0
 NineIsRetired =
     ((r : Refusal) → answerOf r .refusal ≡ 9 → ⊥) × (((call : Call) (lent : Lent) → outcome call lent .answered .refusal ≡ 9 → ⊥) ×
     ((calls : List ℕ) (lent : BatchLent) → batchOut calls lent .answered .refusal ≡ 9 → ⊥))
+
+-- 14. From where the walk for k rests, the way along the links as they stand comes to the standing cell of next smaller key, and it goes to at most
+-- D(b-1) cells.
+abbrev pub WayToLower : Type 0
+WayToLower =
+    (ws : List ℕ) → isList ws ≡ true → (k : ℕ) → 1 ≤ k → k ≤ largestAt ws →
+    (lowerFor ws k ≡ smallerThan k (read ws .row) .cell) × (length (lowerWayFor ws k) ≤ dimensionsAt ws * (baseAt ws - 1))
+
+-- 15. What an insert of a key at or below the position leaves.
+pub record FellBack (ws : List ℕ) (key value : ℕ) : Type 0 where
+  -- the position is below the key, so it is not the key's own cell, and no standing key lies between the two
+  pub below : keyAt ws (positionAt ws) < key
+  pub nothing-between : (x : ℕ) → Standing ws x → keyAt ws (positionAt ws) < keyAt ws x → key ≤ keyAt ws x
+  -- a take right after it hands out that very key, and passes exactly 1
+  pub taken : takeOut ws .answered ≡ answer 0 key value 1
+  -- the parent of the key's cell is not above the position: a position there would have a take pass as much or more
+  pub parent :
+      (x : Node) → nodeAt key (read ws .row) ≡ some x → (k : ℕ) →
+      let parent = keyOf (parentIn (read ws) (x .cell) (read ws .row)) (headNode ∷ read ws .row) in
+      (parent ≤ positionKey (read ws)) × (keysPassed (positionKey (read ws)) k (read ws .row) ≤ keysPassed parent k (read ws .row))
+
+abbrev pub LateInserts : Type 0
+LateInserts =
+    (ws : List ℕ) → isList ws ≡ true → (key value : ℕ) → insertOut ws key value .answered .refusal ≡ 0 → key ≤ keyAt ws (positionAt ws)
+    → FellBack (insertOut ws key value .left) key value
 
 -- Any two outcomes that a contract allows are equal: the seven exported functions all ensure `Meets o r lent`, of the outcome o of their call
 -- and whatever was lent to it.

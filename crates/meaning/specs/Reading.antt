@@ -1,8 +1,7 @@
 -- The state that a buffer's words hold, and when a buffer is a list: A list 1.
-use mathlib.Core.Path.{_≡_}
 use mathlib.Core.Bool.{Bool, true, false, cond, _&&_, not}
 use mathlib.Core.List.{List, [], _∷_}
-use Prim.Native.Nat.{ℕ, zero, suc, _+_, _-_}
+use Prim.Native.Nat.{ℕ, zero, suc, _+_}
 use lib.Dec.{eqb}
 use lib.ListN.{length, getD, drop}
 use Rattle.settings.specs.Numbers.{inRange, lengthOf, headerWords, cellWords}

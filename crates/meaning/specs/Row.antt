@@ -4,6 +4,7 @@ use mathlib.Core.List.{List, [], _∷_}
 use mathlib.Core.Option.{Option, none, some}
 use Prim.Native.Nat.{ℕ}
 use lib.Dec.{eqb, leb, ltb}
+use Rattle.lists.specs.Lists.{those}
 use Rattle.meaning.specs.Keys.{shared}
 
 -- A node is a standing cell as the row has it: its number, key and value, whether it is live (or dead), whether it owes.
@@ -22,6 +23,12 @@ headNode = record { cell = 0; key = 0; value = 0; live = false; owes = false }
 abbrev pub firstOf : List Node → Node
 firstOf [] = headNode
 firstOf (x ∷ later) = x
+
+-- .. and the last
+unfoldable pub lastOf : List Node → Node
+lastOf [] = headNode
+lastOf (x ∷ []) = x
+lastOf (x ∷ y ∷ row) = lastOf (y ∷ row)
 
 -- Of the nodes later than x in the order of keys, the first that shares exactly d coordinates with x; 0 if there is none. Being
 -- later it is larger at d, being first it has the least key.
@@ -88,6 +95,10 @@ placeOf c (p ∷ ps) = cond (eqb (p .node .cell) c) (some p) (placeOf c ps)
 unfoldable pub nodeAt : ℕ → List Node → Option Node
 nodeAt key [] = none
 nodeAt key (x ∷ row) = cond (eqb (x .key) key) (some x) (nodeAt key row)
+
+-- the standing cell of next smaller key than a key; the head if there is no other
+abbrev pub smallerThan : ℕ → List Node → Node
+smallerThan key row = lastOf (those (λ x. ltb (x .key) key) row)
 
 -- a node put in its place in the order of keys
 unfoldable pub put : Node → List Node → List Node

@@ -1,10 +1,9 @@
 -- The rules of docs/REFERENCE.md from Numbers to A list, each as a condition on the words of a buffer. The theorems tie the other
 -- definitions to them: a buffer is a list, by specs/Reading.antt, if and only if every one of these holds.
 use mathlib.Core.Path.{_≡_}
-use mathlib.Core.Bool.{_&&_, _||_}
 use mathlib.Core.List.{List, [], _∷_}
 use mathlib.Core.Logic.{_⊎_}
-use Prim.Native.Nat.{ℕ, suc, _+_, _-_, _≤_, _<_}
+use Prim.Native.Nat.{ℕ, suc, _≤_, _<_}
 use lib.ListN.{length}
 use Rattle.settings.specs.Numbers.{leastDimensions, mostDimensions, leastLargest, mostLargest, leastCells, mostCells, cellWords, lengthOf}
 use Rattle.settings.specs.Base.{IsBase}

@@ -8,9 +8,8 @@ use Rattle.settings.specs.Numbers.{headerWords, fieldsBeforeCoordinates, cellWo
 use Rattle.meaning.specs.Keys.{coordinate, shared}
 use Rattle.meaning.specs.Words.{wordAt, keyAt, valueAt, markAt, owedAt, lowAt, highAt, coordinateAt, linkAt, cellsAt, positionAt, dimensionsAt}
 use Rattle.meaning.specs.Words.{baseAt, firstFreeAt, linkField, freeMark, liveMark, deadMark, pathAt, valueField, markField}
-use Rattle.meaning.specs.Operations.{Slot, parentIn}
-use Rattle.meaning.specs.Reading.{read}
-use Rattle.meaning.specs.Sentences.{Free, Standing, Settled}
+use Rattle.meaning.specs.Operations.{Slot}
+use Rattle.meaning.specs.Sentences.{Free, Standing, NextSmaller, Settled}
 
 -- Debts 4: a cell that owes nothing has owed, low and high 0.
 abbrev pub OwesNothing : List ℕ → ℕ → Type 0
@@ -41,12 +40,6 @@ abbrev pub Unmoved : List ℕ → ℕ → ℕ → ℕ → Type 0
 Unmoved ws n x j =
     0 < owedAt ws n → (x ≡ n → 3 ≤ j → j < fieldsBeforeCoordinates → ⊥) ×
     ((d : ℕ) → lowAt ws n ≤ d → d < highAt ws n → j ≡ linkField (dimensionsAt ws) d → (x ≡ n → ⊥) × (x ≡ owedAt ws n → ⊥))
-
--- y is the parent of cell x in the settled shape: one of its links leads to x there
-pub record Parent (ws : List ℕ) (x y : ℕ) : Type 0 where
-  pub standing : Standing ws y
-  pub number : ℕ
-  pub leads : Settled ws y number x
 
 -- The operations 2: a key k above the position changes no word of path
 abbrev pub PathKept : List ℕ → List ℕ → ℕ → Type 0
@@ -89,9 +82,9 @@ pub record Inserted (ws us : List ℕ) (k v : ℕ) (t : Slot) : Type 0 where
   pub header : (i : ℕ) → i < 4 → getD us i 0 ≡ getD ws i 0
   pub other : (x j : ℕ) → x < cellsAt ws → j < cellWords (dimensionsAt ws) → (x ≡ t .n → ⊥) → (x ≡ t .parent → j ≡ linkField (dimensionsAt ws) (t .p) → ⊥) →
       Unmoved ws (t .parent) x j → Unmoved ws (t .c) x j → wordAt us x j ≡ wordAt ws x j
-  -- if the key is at or below the position's, the position becomes the parent, and only so
+  -- if the key is at or below the position's, the position becomes the standing cell of next smaller key, and only so
   pub path-kept : PathKept ws us k
-  pub position-lowered : k ≤ keyAt ws (positionAt ws) → positionAt us ≡ t .parent
+  pub position-lowered : k ≤ keyAt ws (positionAt ws) → NextSmaller us (t .n) (positionAt us)
 
 -- A take, or a revival, of key k: value and mark of its cell are written, and the path. No link changes and nothing is
 -- finished.
@@ -120,10 +113,9 @@ pub record Revived (ws us : List ℕ) (k v : ℕ) : Type 0 where
   pub cell : ℕ
   pub marked : Marked ws us cell k v liveMark
   pub dead : markAt ws cell ≡ deadMark
-  -- if the key is at or below the position's, the position becomes the parent of that cell in the settled shape, and only so
+  -- if the key is at or below the position's, the position becomes the standing cell of next smaller key, and only so
   pub path-kept : PathKept ws us k
-  pub position-lowered : k ≤ keyAt ws (positionAt ws) → positionAt us ≡ parentIn (read us) cell (read us .row)
-  pub position-parent : k ≤ keyAt ws (positionAt ws) → Parent us cell (positionAt us)
+  pub position-lowered : k ≤ keyAt ws (positionAt ws) → NextSmaller us cell (positionAt us)
 
 -- The operations 6: us are the words ws afterwards.
 pub record Swept (ws us : List ℕ) : Type 0 where

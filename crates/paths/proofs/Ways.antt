@@ -5,12 +5,11 @@ use Prim.Native.Nat.{ℕ, _<_}
 use native.Mathlib.Omega.{arith}
 use lib.ListN.{replicate}
 use Rattle.settings.specs.declared.Settings.{Settings}
-use Rattle.meaning.specs.Row.{Node}
+use Rattle.meaning.specs.Row.{Node, lastOf}
 use Rattle.meaning.specs.State.{State}
 use Rattle.meaning.specs.Picture.{mark, picture}
 use Rattle.meaning.specs.Reading.{read}
 use Rattle.meaning.specs.Words.{markAt}
-use Rattle.meaning.specs.Operations.{lastOf}
 use Rattle.meaning.specs.Layer.Paths.{PathOf, dimensionIn, onward}
 use Rattle.meaning.specs.Layer.Listed.{Listed}
 use Rattle.meaning.proofs.State.{Sound}

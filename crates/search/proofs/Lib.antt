@@ -3,3 +3,4 @@ pub mod Searching
 pub mod Sides
 pub mod Resting
 pub mod Slots
+pub mod Lowering

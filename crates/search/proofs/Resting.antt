@@ -84,7 +84,7 @@ next-is b D k d pre (x ∷ post) {c} {to} o nz e found =
 module _ {s : State} (v : Sound s) {k : ℕ} (least : 1 ≤ k) {x : ℕ} {p : Place} (here : Placed s x p)
     (h : Hangs (s .settings .base) (s .settings .dimensions) k p) where
   -- parent and number of a slot, where k would hang from place p
-  hangs-parent : {pre middle post : List Node} → Sides k (s .row) pre middle post →
+  pub hangs-parent : {pre middle post : List Node} → Sides k (s .row) pre middle post →
       (x ≡ slotParent s k) × (shared (s .settings .base) (s .settings .dimensions) (p .node .key) k ≡ slotNumber s k)
   hangs-parent sides =
       let t = slot-at s v k least sides in

@@ -3,7 +3,7 @@
 -- it than the key does, what comes before it shares no more than its dimension.
 use mathlib.Core.Path.{_≡_, refl, sym, ap, ap₂, _∙_, subst}
 use mathlib.Core.Bool.{Bool, true, false, cond}
-use mathlib.Core.List.{List, [], _∷_, _++_, append-nil}
+use mathlib.Core.List.{List, [], _∷_, _++_}
 use Prim.Native.Nat.{ℕ, suc, _≤_, _<_}
 use native.Mathlib.Omega.{arith}
 use lib.Dec.{leb, ltb}
@@ -12,20 +12,20 @@ use Rattle.lists.specs.Lists.{those}
 use Rattle.lists.proofs.Those.{those-all, those-none, those-append}
 use Rattle.lists.proofs.All.{All, all-map, all-append, all-left, all-zip}
 use Rattle.meaning.specs.Keys.{shared}
-use Rattle.meaning.specs.Row.{Node, headNode, firstOf, Place, placesAfter, places}
+use Rattle.meaning.specs.Row.{Node, headNode, firstOf, Place, placesAfter, places, smallerThan}
 use Rattle.meaning.specs.State.{State}
 use Rattle.meaning.specs.Picture.{firstWith}
-use Rattle.meaning.specs.Operations.{lastOf}
 use Rattle.meaning.proofs.AscendingRow.{Asc, asc-above}
 use Rattle.meaning.proofs.Keys.{shared-same, shared-less, ultra}
 use Rattle.meaning.proofs.State.{Sound, base-positive}
 use Rattle.meaning.proofs.Places.{asc-left, asc-smaller, asc-larger, places-nodes, lastFrom}
 use Rattle.meaning.proofs.Parent.{dimension-least, dimensionAfter, parentAfter, placesFrom, all-last, last-least, last-greatest, first-skips}
 use Rattle.meaning.proofs.Parent.{first-hits, first-front}
+use Rattle.meaning.proofs.Smaller as smaller
 use Rattle.meaning.proofs.Slot as slot
 use Rattle.meaning.proofs.Placed.{Placed, placed-has}
 use Rattle.meaning.proofs.WalkStop.{Hangs}
-use Rattle.search.specs.Found.{smallerThan, largerThan, slotNumber, slotParent, slotShared, slotCell}
+use Rattle.search.specs.Found.{largerThan, slotNumber, slotParent, slotShared, slotCell}
 
 -- The nodes below k, at k and above it
 
@@ -52,28 +52,12 @@ sides-present pre x post a e split =
 
 -- The next smaller and the next larger node
 
-last-of : (row : List Node) → lastOf row ≡ lastFrom headNode row
-unfolding lastOf lastFrom
-last-of [] = refl
-last-of (x ∷ row) = from x row
-  where
-    from : (x : Node) (row : List Node) → lastOf (x ∷ row) ≡ lastFrom x row
-    from x [] = refl
-    from x (y ∷ row) = from y row
-
 module _ {k : ℕ} {row pre middle post : List Node} (g : Sides k row pre middle post) where
   pub smaller-is : smallerThan k row ≡ lastFrom headNode pre
   smaller-is =
-      let test : Node → Bool = λ x. ltb (x .key) k in
-      ap (λ r. lastOf (those test r)) (g .splits)
-      ∙ ap lastOf
-      (those-append test pre (middle ++ post)
-      ∙ ap₂ _++_ (those-all test pre (all-map (λ y h. lt-ltb (y .key) k h) pre (g .below)))
-      (those-none test (middle ++ post)
-      (all-append (λ y. test y ≡ false) middle post (all-map (λ y h. le-ltb (y .key) k (omega arith)) middle (g .here))
-      (all-map (λ y h. le-ltb (y .key) k (omega arith)) post (g .above))))
-      ∙ append-nil pre)
-      ∙ last-of pre
+      ap (smallerThan k) (g .splits)
+      ∙ smaller.smaller-is k pre (middle ++ post) (g .below)
+      (all-append (λ y. k ≤ y .key) middle post (all-map (λ y h. omega arith) middle (g .here)) (all-map (λ y h. omega arith) post (g .above)))
 
   pub larger-is : largerThan k row ≡ firstOf post
   larger-is =

@@ -1,5 +1,5 @@
--- What the search answers of a key, for insert and finish. Of one that stands: its node's cell and that cell's parent in the settled
--- shape. Of one that does not: the slot in which an insert puts it. Either way the cells named are standing ones.
+-- What the search answers of a key, for insert and finish. Of one that stands: its node's cell. Of one that does not: the slot in which an
+-- insert puts it. Either way the cells named are standing ones.
 use mathlib.Core.Path.{_≡_, refl, sym, ap, _∙_, subst}
 use mathlib.Core.Bool.{true, false, cond, false≢true}
 use mathlib.Core.List.{List, [], _∷_, _++_, map}
@@ -15,14 +15,13 @@ use Rattle.lists.proofs.Occurrences.{occurrences-between}
 use Rattle.lists.proofs.All.{All, all-left, all-right, all-of-map, all-splits}
 use Rattle.meaning.specs.Row.{Node, headNode, Place, places, placeOf, nodeAt}
 use Rattle.meaning.specs.State.{State}
-use Rattle.meaning.specs.Operations.{looked, parentIn, revivedNode, Slot, slotFor}
-use Rattle.meaning.proofs.AscendingRow.{Asc}
+use Rattle.meaning.specs.Operations.{looked, Slot, slotFor}
 use Rattle.meaning.proofs.Keys.{shared-less}
-use Rattle.meaning.proofs.State.{Sound, base-positive}
-use Rattle.meaning.proofs.Places.{lastFrom, onCell}
-use Rattle.meaning.proofs.Parent.{dimensionAfter, parentAfter, Apart, all-last, apart-before, place-at, first-among, parent-is}
+use Rattle.meaning.proofs.State.{Sound}
+use Rattle.meaning.proofs.Places.{lastFrom}
+use Rattle.meaning.proofs.Parent.{dimensionAfter, Apart, all-last, apart-before, place-at, first-among, parent-is}
 use Rattle.meaning.proofs.Slot as slot
-use Rattle.meaning.proofs.KeepsInsert.{node-split, slot-first, revived-parent}
+use Rattle.meaning.proofs.KeepsInsert.{node-split, slot-first}
 use Rattle.meaning.proofs.Placed.{Placed, occurs-placed, placed-below}
 use Rattle.meaning.proofs.BookRow.{node-key, node-has}
 use Rattle.search.specs.Found.{slotNumber, slotParent, slotShared, slotCell, foundAt, foundOf}
@@ -65,8 +64,6 @@ pub record Present (s : State) (k : ℕ) (x : Node) (f : Found) : Type 0 where
   pub node : nodeAt k (s .row) ≡ some x
   pub standing : f .standing ≡ true
   pub c : f .c ≡ x .cell
-  pub parent : f .parent ≡ parentIn s (x .cell) (s .row)
-  pub parent-revived : (value : ℕ) → f .parent ≡ parentIn s (x .cell) (map (onCell (x .cell) (revivedNode value)) (s .row))
   pub looked : f .looked ≡ looked s k
   pub parent-stands : Stands s (f .parent)
   pub c-stands : Stands s (f .c)
@@ -136,20 +133,12 @@ module _ (s : State) (v : Sound s) (k : ℕ) (least : 1 ≤ k) where
       let post = split .1 in
       let key = node-key k x (s .row) e in
       let g = sides-present pre x post (v .ascends) key (split .2) in
-      let parent = slot-at s v k least g .parent ∙ ap (parentAfter (s .settings .base) (s .settings .dimensions) headNode pre) (sym key) in
       let stands = parent-stands g in
       let c-stands = node-has (λ y. Stands s (y .cell)) k x (s .row) e (all-stand s .1) in
       record {
         node = e;
         standing = refl;
         c = refl;
-        parent =
-            parent
-            ∙ sym
-            (ap (parentIn s (x .cell)) (split .2)
-            ∙ parent-is s pre x post (base-positive s v) (slot.dimensions-positive s v) (subst (Asc 0) (split .2) (v .ascends))
-            (subst (λ r. Apart (headNode ∷ r)) (split .2) (slot.sound-apart s v)));
-        parent-revived = λ value. parent ∙ sym (revived-parent s x value v pre post (split .2));
         looked = refl;
         parent-stands = stands;
         c-stands = c-stands;

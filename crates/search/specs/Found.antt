@@ -4,23 +4,22 @@ use mathlib.Core.Path.{_≡_}
 use mathlib.Core.Bool.{true, false, cond}
 use mathlib.Core.List.{List, _∷_}
 use mathlib.Core.Option.{Option, none, some}
-use Prim.Native.Nat.{ℕ, suc}
+use Prim.Native.Nat.{ℕ, suc, _≤_}
 use lib.Dec.{eqb, leb, ltb}
 use lib.ListN.{length}
+use Rattle.settings.specs.declared.Settings.{Settings}
 use Rattle.lists.specs.Lists.{those}
 use Rattle.meaning.specs.Keys.{shared}
-use Rattle.meaning.specs.Row.{Node, headNode, firstOf, nodeAt}
+use Rattle.meaning.specs.Row.{Node, headNode, firstOf, nodeAt, smallerThan}
 use Rattle.meaning.specs.State.{State}
 use Rattle.meaning.specs.Picture.{firstWith}
 use Rattle.meaning.specs.Reading.{read}
 use Rattle.meaning.specs.Walk.{walk}
-use Rattle.meaning.specs.Operations.{looked, lastOf}
+use Rattle.meaning.specs.Operations.{looked}
+use Rattle.meaning.specs.Layer.Listed.{Listed}
 use Rattle.search.specs.declared.Found.{Found}
 
--- the standing cell of next smaller key than k (the head if there is no other), and the one of next larger key (the head if none)
-abbrev pub smallerThan : ℕ → List Node → Node
-smallerThan k row = lastOf (those (λ x. ltb (x .key) k) row)
-
+-- the standing cell of next larger key than k; the head if there is none
 abbrev pub largerThan : ℕ → List Node → Node
 largerThan k row = firstOf (those (λ x. ltb k (x .key)) row)
 
@@ -63,3 +62,15 @@ foundOf s k = foundAt s k (nodeAt k (s .row))
 pub record Searched (ws : List ℕ) (k : ℕ) (f : Found) : Type 0 where
   pub found : f ≡ foundOf (read ws) k
   pub walked : f .looked ≡ length (walk ws k)
+
+-- The search on a list has answered f of a key that the list may hold.
+pub record Sought (ws : List ℕ) (s : Settings) (key : ℕ) (f : Found) : Type 0 where
+  pub list : Listed ws s
+  pub least : 1 ≤ key
+  pub most : key ≤ s .largest
+  pub is : f ≡ foundOf (read ws) key
+
+-- .. of some key
+pub record SoughtSome (ws : List ℕ) (s : Settings) (f : Found) : Type 0 where
+  pub key : ℕ
+  pub sought : Sought ws s key f

@@ -1,11 +1,13 @@
 // The search that insert, find and finish share. It goes by the one step function of crate words, so that looked is the number of
-// steps that go to a cell; no cell is read that the walk does not meet, but for an owed cell whose link is read.
+// steps that go to a cell; no cell is read that the walk does not meet, but for an owed cell whose link is read. From where it rests,
+// insert asks for the standing cell of next smaller key; that way is no part of the walk.
 ghost use mathlib.Core.Path.{_≡_};
-ghost use Prim.Native.Nat.{_≤_, _<_};
+ghost use Prim.Native.Nat.{suc, _≤_, _<_};
 ghost use Rattle.meaning.specs.Keys.{coordinates};
+ghost use Rattle.meaning.specs.Lower.{lowerFrom};
 ghost use Rattle.meaning.specs.Layer.Resting.{rest};
 ghost use Rattle.meaning.specs.Layer.Listed.{Listed};
-ghost use Rattle.search.specs.Found.{Searched};
+ghost use Rattle.search.specs.Found.{Searched, SoughtSome};
 use meaning::Rest;
 use meaning::Step;
 use settings::Settings;
@@ -96,4 +98,23 @@ pub fn search(list: &[u32], s: Settings, k: u32) -> Found
         return moved(r, false, r.coordinate);
     }
     moved(r, true, s.dimensions)
+}
+
+// The standing cell of next smaller key than the one sought, the head if there is no other: the last cell of the parent's branch from the
+// link after p on. It is reached along each cell's lowest link from the number at hand on.
+pub fn lower(list: &[u32], s: Settings, f: Found) -> u32
+    requires { ⌜ SoughtSome (now list) s f ⌝ }
+    ensures { λ r. ⌜ r ≡ lowerFrom (now (list .entry)) (f .parent) (suc (f .p)) ⌝ }
+{
+    let mut at = f.parent;
+    let mut d = f.p + 1;
+    while d < s.dimensions {
+        let y = words::link_read(list, s, at, d);
+        if y == 0 {
+            d += 1;
+        } else {
+            at = y;
+        }
+    }
+    at
 }

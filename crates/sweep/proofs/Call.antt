@@ -10,7 +10,8 @@ use Rattle.meaning.specs.State.{State}
 use Rattle.meaning.specs.Picture.{picture}
 use Rattle.meaning.specs.Reading.{read}
 use Rattle.meaning.specs.Refusals.{answer, accepted, Meets}
-use Rattle.meaning.specs.Operations.{paid, withRow, deadFront, lastOf, freedBy, swept, sweepOut}
+use Rattle.meaning.specs.Row.{lastOf}
+use Rattle.meaning.specs.Operations.{paid, withRow, deadFront, freedBy, swept, sweepOut}
 use Rattle.meaning.specs.Layer.SweepStores.{finishAll}
 use Rattle.meaning.specs.declared.Answer.{Answer}
 use Rattle.meaning.specs.Layer.Listed.{Listed}

@@ -7,10 +7,10 @@ use native.Mathlib.Omega.{arith}
 use lib.ListN.{length, replicate}
 use Rattle.settings.specs.declared.Settings.{Settings}
 use Rattle.lists.proofs.All.{All, all-append}
-use Rattle.meaning.specs.Row.{Node}
+use Rattle.meaning.specs.Row.{Node, lastOf}
 use Rattle.meaning.specs.Reading.{read}
 use Rattle.meaning.specs.Words.{keyAt, markAt}
-use Rattle.meaning.specs.Operations.{dimensionAt, keysAbove, lastOf}
+use Rattle.meaning.specs.Operations.{dimensionAt, keysAbove}
 use Rattle.meaning.specs.Layer.Listed.{Listed}
 use Rattle.meaning.specs.Layer.Paths.{PathOf, dimensionIn}
 use Rattle.meaning.proofs.Placed.{mark-one, mark-other, head-placed}

@@ -9,7 +9,7 @@ use lib.Seq.{take-at}
 use Rattle.settings.specs.Numbers.{headerWords}
 use Rattle.settings.specs.declared.Settings.{Settings}
 use Rattle.lists.proofs.All.{All, all-append, all-at}
-use Rattle.meaning.specs.Row.{Node}
+use Rattle.meaning.specs.Row.{Node, lastOf}
 use Rattle.meaning.specs.State.{State, positionKey}
 use Rattle.meaning.specs.Picture.{path, cellPictures, picture}
 use Rattle.meaning.specs.Reading.{read}
@@ -17,7 +17,7 @@ use Rattle.meaning.specs.Words.{wordIndex, keyAt, valueAt, markAt}
 use Rattle.meaning.specs.Layer.Paths.{pathFor, PathOf}
 use Rattle.meaning.specs.Layer.Stores.{store, writePath, writeNode}
 use Rattle.meaning.specs.Refusals.{answer, Meets}
-use Rattle.meaning.specs.Operations.{deadFront, fromLive, keysAbove, keysPassed, lastOf, taken, takeOut}
+use Rattle.meaning.specs.Operations.{deadFront, fromLive, keysAbove, keysPassed, taken, takeOut}
 use Rattle.meaning.specs.declared.Answer.{Answer}
 use Rattle.meaning.specs.Layer.Listed.{Listed}
 use Rattle.meaning.proofs.AscendingRow.{Asc}

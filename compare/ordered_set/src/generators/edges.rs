@@ -9,6 +9,17 @@ use crate::settings::{exact_length, Settings};
 /// The fourteen steps.
 pub const FOURTEEN_STEPS: &str = "N 6 60|N 5 50|N 9 90|F 6|T|T|N 2 20|T|T|N 6 61|T|T|S|N 5 51";
 
+/// A note that comes late, when all before it are dead.
+pub const LATE_NOTE: &str = "U 2 15 8 87|N 4 40|N 5 50|N 6 60|N 9 90|T|T|T|T|N 8 80";
+
+/// A late one with no key below it, so that the position is the head.
+pub const LATE_BEFORE_ALL: &str = "U 2 15 8 87|N 4 40|N 5 50|N 9 90|T|T|T|N 2 20";
+
+/// What may come after a late note: a take, dead keys that come late in their turn, the
+/// position's own among them, and one that comes when it is not the least live key.
+const AFTER_LATE_NOTE: &str = "T|N 8 81|T|N 9 91|T|N 9 92|T|N 4 41|T|N 6 61|N 5 51|N 8 82|T|T|T|T|\
+    N 1 10|T|N 1 11|T|T|N 9 93|N 4 42|S|T|N 4 43|T|T|S";
+
 /// A full buffer with a dead key inserted again: three cells beside the head.
 const FULL_BUFFER: &str = "U 2 15 4 47|N 6 60|N 5 50|N 9 90|N 7 70|N 5 51|T|N 7 70|N 4 40|N 5 52|\
     N 5 53|N 7 70|T|T|T|T|N 9 91|N 1 10|S|N 1 10|N 9 92|T|T|S|N 15 1|N 1 2";
@@ -31,6 +42,10 @@ pub fn edges(trace: &mut Trace) {
     set_ups(trace);
     keys_at_the_ends(trace);
     say_all(trace, FULL_BUFFER);
+    for late in [LATE_NOTE, LATE_BEFORE_ALL] {
+        say_all(trace, late);
+        say_all(trace, AFTER_LATE_NOTE);
+    }
     trace.say("U 2 15 8 87");
     say_all(trace, FOURTEEN_STEPS);
     unreadable_lines(trace);

@@ -1,7 +1,8 @@
-//! Calls on large lists: filled, taken from, swept and filled again. A list is filled whole
-//! where the lines left allow it.
+//! Calls on large lists: filled, taken from, inserted into at or below the position, swept and
+//! filled again. A list is filled whole where the lines left allow it.
 
 use super::keys::{clustered_keys, neighbour};
+use super::late::late_note;
 use super::Trace;
 use crate::settings::Settings;
 
@@ -23,10 +24,12 @@ fn season(trace: &mut Trace, cells: u32) {
     let part = (trace.left / 4).clamp(20, 5000);
     insert_all(trace, &keys[..part.min(keys.len())]);
     take_and_ask(trace, &settings, &keys, part / 3);
+    late_notes(trace, part / 6);
     trace.say("S");
     let from = trace.dice.below(keys.len());
     insert_all(trace, &keys[from..keys.len().min(from + part / 2)]);
     take_and_ask(trace, &settings, &keys, part / 4);
+    late_notes(trace, part / 6);
     trace.say("S");
     trace.say("S");
 }
@@ -71,4 +74,10 @@ fn take_and_ask(trace: &mut Trace, settings: &Settings, keys: &[u32], many: usiz
         };
         trace.say(line);
     }
+}
+
+/// Takes in a row, so that many dead keys are left behind, and then notes that come late.
+fn late_notes(trace: &mut Trace, many: usize) {
+    (0..many).for_each(|_| trace.say("T"));
+    (0..many).for_each(|_| late_note(trace));
 }

@@ -8,6 +8,7 @@ pub mod edges;
 mod exports;
 mod keys;
 mod large;
+mod late;
 mod logger_edges;
 mod order_lines;
 pub mod record_forms;
@@ -28,6 +29,7 @@ pub fn named(name: &str) -> Option<Generator> {
         "gen-calls" => calls::calls,
         "gen-damage" => damage::damage,
         "gen-large" => large::large,
+        "gen-late" => late::schedule,
         "gen-order" => order_lines::order_lines,
         "gen-records" => records::records,
         "gen-export" => exports::export,

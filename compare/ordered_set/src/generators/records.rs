@@ -54,7 +54,7 @@ fn begin(trace: &mut Trace) -> Vec<String> {
     (0..many).map(|_| some_entry(trace)).collect()
 }
 
-fn key_of(entry: &str) -> u32 {
+pub fn key_of(entry: &str) -> u32 {
     let fields: Vec<&str> = entry.split(' ').collect();
     key(fields[0], fields[1], fields[2]).expect("an entry")
 }

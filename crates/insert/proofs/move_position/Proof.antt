@@ -1,6 +1,4 @@
--- `insert::move_position` meets its contract: a key above the position's leaves the path; else the parent's path is written, which is
--- the path of a state whose position is the parent.
-use native.Mathlib.Omega.{arith}
+-- `insert::move_position` meets its contract: a key above the position's leaves the path; else the new position's path is written.
 use borrow.Author.Needs.{needs}
 use Rattle.insert.proofs.Position.{path-kept, due-standing, path-moved}
 use Rattle.insert.proofs.move_position.Statement.{statement}
@@ -10,10 +8,10 @@ returns : tie.Need-returns
 returns c = path-kept (c .if1 .taken)
 
 path-of-requires : tie.Need-path-of-requires
-path-of-requires c κs = due-standing (omega arith) (c .before .before .before .pre .1)
+path-of-requires c κs = due-standing (c .before .before .before .pre .1)
 
 returns-2 : tie.Need-returns-2
-returns-2 c = path-moved (omega arith) (c .before .before .before .before .path-of .ensures) (c .before .before .write-path .ensures .0)
+returns-2 c = path-moved (c .before .before .before .before .path-of .ensures) (c .before .before .write-path .ensures .0)
 
 pub move-position-spec : {M : Type 1} → statement M
 move-position-spec =

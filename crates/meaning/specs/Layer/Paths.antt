@@ -7,11 +7,11 @@ use Prim.Native.Nat.{ℕ, zero, suc, _-_}
 use lib.Dec.{eqb}
 use lib.ListN.{getD, take, replicate}
 use Rattle.lists.specs.Lists.{numbersFrom}
-use Rattle.meaning.specs.Row.{Node, headNode, placeOf}
+use Rattle.meaning.specs.Row.{Node, headNode, placeOf, lastOf}
 use Rattle.meaning.specs.State.{State, placesOf}
 use Rattle.meaning.specs.Picture.{firstWith}
 use Rattle.meaning.specs.Walk.{linkRead}
-use Rattle.meaning.specs.Operations.{dimensionAt, lastOf}
+use Rattle.meaning.specs.Operations.{dimensionAt}
 use Rattle.meaning.specs.declared.Step.{Step}
 use Rattle.meaning.specs.declared.Step.the-variants.{Go, Up, End}
 
