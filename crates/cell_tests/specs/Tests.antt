@@ -1,14 +1,10 @@
 -- Parts of a cell's tests in the account on the words that have a function of their own.
-use mathlib.Core.Bool.{Bool, cond, _&&_, _||_}
-use mathlib.Core.List.{List, [], _∷_}
+use mathlib.Core.Bool.{Bool, cond}
+use mathlib.Core.List.{List}
 use Prim.Native.Nat.{ℕ}
 use lib.Dec.{eqb}
 use Rattle.meaning.specs.Words.{linkAt, dimensionsAt}
-use Rattle.tree.specs.Tree.{allFrom, dueTo}
-
--- link d of y is 0, or one that x, read before y, owes
-abbrev pub linkBelow : List ℕ → ℕ → ℕ → ℕ → Bool
-linkBelow ws x y d = eqb (linkAt ws y d) 0 || dueTo ws x d
+use Rattle.tree.specs.Tree.{allFrom}
 
 -- link d of y is c where d is `high`, and else 0
 abbrev pub linkIs : List ℕ → ℕ → ℕ → ℕ → ℕ → Bool

@@ -1,18 +1,20 @@
-// Whether one standing cell is right, met by a link after the cell that was read before it.
+// Whether one standing cell is right: when it is met by a link, after the cell that was read before it, and when its links are put.
 ghost use mathlib.Core.Path.{_≡_};
 ghost use mathlib.Core.Bool.{_&&_};
-ghost use Prim.Native.Nat.{_<_};
+ghost use Prim.Native.Nat.{_^_, _≤_, _<_};
 ghost use lib.Dec.{eqb};
+ghost use lib.ListN.{length};
 ghost use Rattle.words.specs.Shaped.{Shaped};
-ghost use Rattle.tree.specs.Tree.{allBelow, written, writesKey, follows, nodeRight, linksBelow, debtRight, cellAloneRight};
-ghost use Rattle.cell_tests.specs.Tests.{linkBelow, onlyLink};
+ghost use Rattle.tree.specs.Tree.{allBelow, written, writesKey, follows, nodeRight};
+ghost use Rattle.tree.specs.Loop.{aloneRight, linksNone, owesNothing, owesRight};
+ghost use Rattle.cell_tests.specs.Tests.{onlyLink};
 use settings::Settings;
 use tree::Seen;
 
-// Whether a cell's coordinate words, lent as a part, are each below b and write the key. The number read so far stops as soon as it is
-// above the key, so it fits.
+// Whether a cell's coordinate words, lent as a part, are each below b and write the key. After i words the number is below b to the power i,
+// so it fits, and nothing but the words is tested on the way.
 fn writes_key(part: &[u32], b: u32, key: u32) -> bool
-    requires { ⌜ 0 < b ⌝ }
+    requires { ⌜ b ^ length (now part) < 2 ^ 64 ⌝ }
     ensures { λ r. ⌜ r ≡ (allBelow b (now (part .entry)) && eqb (written b 0 (now (part .entry))) key) ⌝ }
 {
     let top = key as u64;
@@ -25,9 +27,6 @@ fn writes_key(part: &[u32], b: u32, key: u32) -> bool
             return false;
         }
         n = n * base + digit as u64;
-        if top < n {
-            return false;
-        }
         i += 1;
     }
     n == top
@@ -35,7 +34,7 @@ fn writes_key(part: &[u32], b: u32, key: u32) -> bool
 
 // Whether the coordinate words of cell y are its key's coordinates.
 fn cell_writes_key(list: &[u32], s: Settings, y: u32) -> bool
-    requires { ⌜ Shaped (now list) s × ((y < s .cells) × (0 < s .base)) ⌝ }
+    requires { ⌜ Shaped (now list) s × ((y < s .cells) × (s .base ^ s .dimensions < 2 ^ 64)) ⌝ }
     ensures { λ r. ⌜ r ≡ writesKey (now (list .entry)) y ⌝ }
 {
     let start = words::word_index(s, y, words::COORDINATES);
@@ -77,36 +76,33 @@ fn node_right(list: &[u32], s: Settings, y: u32, reached: bool) -> bool
     false
 }
 
-// Whether link d of cell y is 0 or one that cell x owes.
-fn link_below(list: &[u32], s: Settings, x: u32, y: u32, d: u32) -> bool
-    requires { ⌜ Shaped (now list) s × ((x < s .cells) × ((y < s .cells) × (d < s .dimensions))) ⌝ }
-    ensures { λ r. ⌜ r ≡ linkBelow (now (list .entry)) x y d ⌝ }
-{
-    if words::link(list, s, y, d) == 0 {
-        return true;
-    }
-    if words::word(list, s, x, words::OWED) == 0 {
-        return false;
-    }
-    if d < words::word(list, s, x, words::LOW) {
-        return false;
-    }
-    d < words::word(list, s, x, words::HIGH)
-}
-
-// Whether the links of cell y below e are 0, but for those that cell x, read before it, owes.
-fn links_below(list: &[u32], s: Settings, x: u32, y: u32, e: u32) -> bool
-    requires { ⌜ Shaped (now list) s × ((x < s .cells) × ((y < s .cells) × (e < s .dimensions))) ⌝ }
-    ensures { λ r. ⌜ r ≡ linksBelow (now (list .entry)) x y e ⌝ }
+// Whether the links of cell y below number n are 0.
+pub fn links_none(list: &[u32], s: Settings, y: u32, n: u32) -> bool
+    requires { ⌜ Shaped (now list) s × ((y < s .cells) × (n ≤ s .dimensions)) ⌝ }
+    ensures { λ r. ⌜ r ≡ linksNone (now (list .entry)) y n ⌝ }
 {
     let mut d: u32 = 0;
-    while d < e {
-        if !link_below(list, s, x, y, d) {
+    while d < n {
+        if words::link(list, s, y, d) != 0 {
             return false;
         }
         d += 1;
     }
     true
+}
+
+// Whether cell y owes nothing, and its low and high are 0.
+pub fn owes_nothing(list: &[u32], s: Settings, y: u32) -> bool
+    requires { ⌜ Shaped (now list) s × (y < s .cells) ⌝ }
+    ensures { λ r. ⌜ r ≡ owesNothing (now (list .entry)) y ⌝ }
+{
+    if words::word(list, s, y, words::OWED) != 0 {
+        return false;
+    }
+    if words::word(list, s, y, words::LOW) != 0 {
+        return false;
+    }
+    words::word(list, s, y, words::HIGH) == 0
 }
 
 // Whether link number `high` of cell y is c and every other link of y is 0.
@@ -125,24 +121,17 @@ fn only_link(list: &[u32], s: Settings, y: u32, high: u32, c: u32) -> bool
     true
 }
 
-// Whether the debt of cell y, met by link e after cell x, is one that a list may have.
-fn debt_right(list: &[u32], s: Settings, x: u32, y: u32, e: u32) -> bool
-    requires { ⌜ Shaped (now list) s × ((x < s .cells) × ((y < s .cells) × (e < s .dimensions))) ⌝ }
-    ensures { λ r. ⌜ r ≡ debtRight (now (list .entry)) x y e ⌝ }
+// Whether cell y, met by link e, owes as a cell of a list may.
+pub fn owes_right(list: &[u32], s: Settings, y: u32, e: u32) -> bool
+    requires { ⌜ Shaped (now list) s × ((y < s .cells) × (e < s .dimensions)) ⌝ }
+    ensures { λ r. ⌜ r ≡ owesRight (now (list .entry)) y e ⌝ }
 {
     let owed = words::word(list, s, y, words::OWED);
-    let low = words::word(list, s, y, words::LOW);
     let high = words::word(list, s, y, words::HIGH);
     if owed == 0 {
-        if low != 0 {
-            return false;
-        }
-        return high == 0;
-    }
-    if words::word(list, s, x, words::OWED) != 0 {
         return false;
     }
-    if low != e {
+    if words::word(list, s, y, words::LOW) != e {
         return false;
     }
     if high <= e {
@@ -157,10 +146,10 @@ fn debt_right(list: &[u32], s: Settings, x: u32, y: u32, e: u32) -> bool
     only_link(list, s, y, high, owed)
 }
 
-// Whether cell y, met by link e, is right after what has been seen, but for the path.
-pub fn cell_alone_right(list: &[u32], s: Settings, y: u32, e: u32, seen: Seen) -> bool
-    requires { ⌜ Shaped (now list) s × ((0 < s .base) × ((e < s .dimensions) × (seen .last < s .cells))) ⌝ }
-    ensures { λ r. ⌜ r ≡ cellAloneRight (now (list .entry)) y e seen ⌝ }
+// Whether cell y, met by link e, is right after what has been seen, but for the path, its links and its debt.
+pub fn alone_right(list: &[u32], s: Settings, y: u32, e: u32, seen: Seen) -> bool
+    requires { ⌜ Shaped (now list) s × ((s .base ^ s .dimensions < 2 ^ 64) × ((e < s .dimensions) × (seen .last < s .cells))) ⌝ }
+    ensures { λ r. ⌜ r ≡ aloneRight (now (list .entry)) y e seen ⌝ }
 {
     if seen.left == 0 {
         return false;
@@ -174,11 +163,5 @@ pub fn cell_alone_right(list: &[u32], s: Settings, y: u32, e: u32, seen: Seen) -
     if !cell_writes_key(list, s, y) {
         return false;
     }
-    if !node_right(list, s, y, seen.reached) {
-        return false;
-    }
-    if !links_below(list, s, seen.last, y, e) {
-        return false;
-    }
-    debt_right(list, s, seen.last, y, e)
+    node_right(list, s, y, seen.reached)
 }

@@ -1,8 +1,9 @@
 -- Where the check starts and ends, as the code has it: the header, the head, the chain of free cells, and the answer.
 use mathlib.Core.Path.{_≡_, refl, sym, ap, _∙_}
 use mathlib.Core.Bool.{Bool, true, false, cond, _&&_, not, and-false, false≢true}
-use mathlib.Core.List.{List}
-use Prim.Native.Nat.{ℕ, zero, suc, _-_, _≤_, _<_}
+use mathlib.Core.List.{List, []}
+use Prim.Native.Nat.{ℕ, zero, suc, _-_, _^_, _≤_, _<_}
+use Rattle.settings.proofs.Numbers.{base-power-fits}
 use native.Mathlib.Nat.{sub-zero}
 use native.Mathlib.Omega.{arith}
 use lib.Dec.{eqb}
@@ -12,17 +13,20 @@ use Rattle.settings.specs.Numbers.{lengthOf, inRange}
 use Rattle.settings.specs.Base.{isBase}
 use Rattle.settings.specs.declared.Settings.{Settings}
 use Rattle.lists.proofs.Tests.{both, and-both}
-use Rattle.meaning.specs.Words.{wordAt, dimensionsAt, largestAt, cellsAt, baseAt, positionAt, firstFreeAt}
+use Rattle.meaning.specs.Words.{wordAt, owedAt, lowAt, highAt, dimensionsAt, largestAt, cellsAt, baseAt, positionAt, firstFreeAt}
 use Rattle.meaning.specs.Reading.{settingsAt}
 use Rattle.words.specs.Shaped.{Shaped}
 use Rattle.words.proofs.Shaped.{shaped-dimensions, shaped-cells}
 use Rattle.tree.specs.declared.Seen.{Seen}
-use Rattle.tree.specs.Tree.{pathRun, headRight, atHead, freeRight, chainRight, headerRight, seenAll, accepts}
-use Rattle.tree.proofs.AcceptedTests.{header-right}
+use Rattle.tree.specs.Tree.{pathRun, allFrom, linksBelow, debtRight, headRight, atHead, freeRight, chainRight, headerRight, seenAll, accepts}
+use Rattle.tree.specs.Pending.{putFrom}
+use Rattle.tree.specs.Loop.{leftOver}
+use Rattle.tree.proofs.AcceptedTests.{header-right, head-right}
+use Rattle.tree.proofs.Following.{head-followed}
 use Rattle.tree.proofs.Tree.{accepts-is-list}
 use Rattle.meaning.specs.declared.Reading.{Reading}
 use Rattle.meaning.specs.declared.Reading.the-variants as variants
-use Rattle.is_list.specs.Children.{headerOf, Children}
+use Rattle.is_list.specs.Standing.{headerOf}
 use Rattle.meaning.specs.Reading.{readingOf}
 use Rattle.cell_tests.proofs.Tests.{refuted}
 
@@ -95,7 +99,7 @@ module _ (ws : List ℕ) where
 pub record Headed (ws : List ℕ) (s : Settings) : Type 0 where
   pub right : headerRight ws ≡ true
   pub shaped : Shaped ws s
-  pub base : 0 < s .base
+  pub power : s .base ^ s .dimensions < 2 ^ 64
   pub cells : 0 < s .cells
 
 pub headed : {ws : List ℕ} {s : Settings} {r : Reading} → r ≡ headerOf ws → r ≡ variants.IsList s → Headed ws s
@@ -116,7 +120,7 @@ headed {ws} {s} p q = at (headerRight ws) refl (sym p ∙ q)
                 dimensions-most = h .in-range .dimensions-most;
                 cells-most = h .in-range .cells-most;
               };
-          base = h .positive;
+          power = base-power-fits (h .in-range .dimensions-most) (h .in-range .largest-most) (h .in-range .largest-least) (h .base);
           cells = omega (arith, h .in-range .cells-least);
         })
     at false e f = absurd (let z : _≡_ {A = ℕ} 0 1 = cc in omega arith)
@@ -172,11 +176,18 @@ pub accept : {ws : List ℕ} {s : Settings} → Shaped ws s → Accepts ws → v
 unfolding readingOf
 accept {ws} h a = rw (← accepts-is-list ws, accepts-all ws a, h .header) refl
 
+pub head-last : (ws : List ℕ) {start : Seen} → start ≡ atHead ws → start .last ≡ 0
+unfolding atHead
+head-last ws p = ap (λ (t : Seen). t .last) p
+
 starts : (ws : List ℕ) {start : Seen} → start ≡ atHead ws → start .left ≡ cellsAt ws - 1
 unfolding atHead
 starts ws p = ap (λ (t : Seen). t .left) p
 
-pub all-seen : {ws : List ℕ} {s : Settings} {start r : Seen} → Headed ws s → start ≡ atHead ws → Children ws s 0 0 start r → r ≡ seenAll ws
-all-seen {ws} {s} h p c =
-    c .is (cellsAt ws) (omega (arith, shaped-cells (h .shaped), h .cells, starts ws p))
-    ∙ rw (p, sub-zero (s .dimensions), ← shaped-dimensions (h .shaped)) refl
+pub all-seen : {ws : List ℕ} {s : Settings} {start : Seen} → Headed ws s → headRight ws ≡ true → start ≡ atHead ws → start .right ≡ true →
+    leftOver ws 0 0 0 0 [] start ≡ seenAll ws
+unfolding linksBelow allFrom debtRight putFrom
+all-seen {ws} {s} h head p right =
+    let k = head-right ws head in
+    rw (p, eq-eqb (owedAt ws 0) 0 (k .owed), eq-eqb (lowAt ws 0) 0 (k .low), eq-eqb (highAt ws 0) 0 (k .high))
+    (head-followed ws (rw p at right) (omega (arith, shaped-cells (h .shaped), h .cells, starts ws refl)))

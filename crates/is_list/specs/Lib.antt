@@ -1,2 +1,2 @@
 -- What the check answers, and the parts of its account on the words (crate tree) that have a function of their own.
-pub mod Children
+pub mod Standing

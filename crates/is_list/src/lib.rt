@@ -2,7 +2,7 @@
 // children in turn, as crate tree has it on the words; that account accepts exactly the lists.
 ghost use mathlib.Core.Path.{_≡_};
 ghost use Rattle.meaning.specs.Reading.{readingOf};
-ghost use Rattle.is_list.specs.Children.{headerOf};
+ghost use Rattle.is_list.specs.Standing.{headerOf};
 use meaning::Reading;
 use settings::Settings;
 
@@ -50,7 +50,7 @@ pub fn is_list(list: &[u32]) -> Reading
     if !start.right {
         return Reading::NotAList;
     }
-    let seen = standing::along(list, s, 0, 0, start);
+    let seen = standing::read(list, s, start);
     if !seen.right {
         return Reading::NotAList;
     }

@@ -3,9 +3,10 @@
 use mathlib.Core.Path.{_≡_, refl, sym, _∙_}
 use mathlib.Core.Bool.{Bool, true, false, _&&_}
 use Prim.Native.Nat.{ℕ, zero, suc, _+_, _*_, _-_, _^_, _≤_, _<_}
-use native.Mathlib.Nat.{add-zero, add-suc, suc-add, mul-zero, mul-le-mul, le-antisymm, lt-of-not-le, not-le-of-lt, lt-of-le-of-lt, pow-zero, pow-suc}
+use native.Mathlib.Nat.{add-zero, add-suc, suc-add, mul-zero, mul-le-mul, le-antisymm, lt-of-not-le, mul-mul-mul-comm, not-le-of-lt, lt-of-le-of-lt, pow-zero, pow-suc}
 use native.Mathlib.Nat.{pow-le-pow-left, pow-le-pow-right}
 use native.Mathlib.Numerals.{add-one}
+use native.Mathlib.Decide.{decLt}
 use native.Mathlib.Omega.{arith}
 use lib.Dec.{leb, ltb}
 use borrow.Author.Tests.{ltb-true, ltb-false, leb-true, le-leb}
@@ -28,6 +29,10 @@ zero-power (suc n) h = pow-suc 0 n ∙ mul-zero (0 ^ n)
 pub one-power : (D : ℕ) → 1 ^ D ≡ 1
 one-power zero = pow-zero 1
 one-power (suc n) = rw (pow-suc, one-power n) refl
+
+double-power : (m D : ℕ) → (2 * m) ^ D ≡ 2 ^ D * m ^ D
+double-power m zero = rw (pow-zero (2 * m), pow-zero 2, pow-zero m) refl
+double-power m (suc n) = rw (pow-suc (2 * m) n, pow-suc 2 n, pow-suc m n, double-power m n) (mul-mul-mul-comm (2 ^ n) (m ^ n) 2 m)
 
 pub at-most-power : (m D : ℕ) → 1 ≤ D → m ≤ m ^ D
 at-most-power zero D one = omega arith
@@ -68,6 +73,21 @@ pub base-at-most : {D K b : ℕ} → 2 ≤ D → K ≤ mostLargest → IsBase D 
 base-at-most {D} {K} hd hk p =
     let square : K < 65536 ^ 2 = omega arith in
     p .least 65536 (stays-above 65536 2 D (omega arith) hd square)
+
+-- b to the power D fits 64 bits: b is at most twice the number before it, whose power D is at most K.
+pub base-power-fits : {D K b : ℕ} → D ≤ mostDimensions → K ≤ mostLargest → 1 ≤ K → IsBase D K b → b ^ D < 2 ^ 64
+base-power-fits {D} {K} {b} hd hk some p =
+    let two = base-at-least-two some p in
+    let double : b ≤ 2 * (b - 1) = omega arith in
+    let twice : 0 < 2 = omega arith in
+    let few : 2 ^ D ≤ 65536 = omega (arith, pow-le-pow-right twice hd) in
+    let low : (b - 1) ^ D ≤ mostLargest = omega (arith, at (decLt K ((b - 1) ^ D))) in
+    let product : 2 ^ D * (b - 1) ^ D ≤ 65536 * mostLargest = mul-le-mul few low in
+    omega (arith, pow-le-pow-left double D, double-power (b - 1) D, product)
+  where
+    at : Dec (K < (b - 1) ^ D) → (b - 1) ^ D ≤ K
+    at (yes h) = absurd (omega (arith, base-at-least-two some p, p .least (b - 1) h))
+    at (no h) = omega (arith, h)
 
 -- The search of the definition, from a b that is at most every number whose power is above K.
 pub first-is-base :

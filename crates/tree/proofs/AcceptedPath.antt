@@ -1,7 +1,7 @@
 -- The position and the path. The way down to a cell has, for each number d, the first cell that shares more than d coordinates with
--- it; from the number on that the cell was met by, that is the cell itself, and below it is as for the cell read before. The check
--- counts the leading path words that are those of the way down, and at the position all D are. What is read up to the position is dead.
-use mathlib.Core.Path.{_≡_, refl, sym, _∙_, ap}
+-- it; from the number on that the cell was met by, that is the cell itself, and below it is as for the cell read before. Up to the position
+-- the check counts the leading path words that are those of the way down, and at the position all D are. What is read up to it is dead.
+use mathlib.Core.Path.{_≡_, refl, sym, _∙_, ap, ap₂}
 use mathlib.Core.Bool.{Bool, true, false, cond, _||_, false≢true}
 use mathlib.Core.Logic.{_⊎_, inl, inr}
 use mathlib.Core.List.{List, [], _∷_, map}
@@ -69,6 +69,10 @@ occurs-above ws x c met r o =
     (all-mapped (λ y. keyAt ws x < keyAt ws (y .cell)) (λ m. nodeIn ws (m .cell)) met
     (all-of-map (λ y. keyAt ws x < y .key) (λ m. nodeIn ws (m .cell)) met (asc-above (keyAt ws x) row (row-asc ws x met r)))))
 
+-- and so the head is not one of those met
+head-apart : (ws : List ℕ) {c : ℕ} (met : List Met) → Rising ws 0 met → Occurs ws c met → 0 ≡ c → ⊥
+head-apart ws {c} met rises o q = omega (arith, occurs-above ws 0 c met rises o, ap (keyAt ws) q)
+
 -- Path words
 
 -- the first `agreed` path words are those of a way down
@@ -102,18 +106,18 @@ agreed-onward ws way y e agreed a d l = at (ltb agreed e) refl l
         go (yes h) = rw (lt-ltb d e h) (a d (let i = ltb-false agreed e q in omega arith))
         go (no h) = rw (le-ltb d e (omega arith)) (path-run ws y e (dimensionsAt ws - e) d (omega arith) k)
 
--- Path word d: where the position shares d coordinates or fewer with the cell read before, it is of those met then, else of that one's
--- way down.
+-- Path word d, the position being one of those met then: where it shares d coordinates or fewer with the cell read before, the word is of
+-- those met then, else of that one's way down.
 path-met : (ws : List ℕ) → 0 < baseAt ws → (s : Seen) (met : List Met) (way : ℕ → ℕ) → Trace ws s met → Rising ws (s .last) met →
-    Occurs ws (positionAt ws) met →
+    s .reached ≡ false → Occurs ws (positionAt ws) met →
     Agreed ws way (s .agreed) → (d : ℕ) → d < dimensionsAt ws →
     getD ws (headerWords + d) 0 ≡ cond (ltb d (shared (baseAt ws) (dimensionsAt ws) (keyAt ws (s .last)) (keyAt ws (positionAt ws)))) (way d)
     (firstWith (baseAt ws) (dimensionsAt ws) (keyAt ws (positionAt ws)) (suc d) (rowIn ws met))
 unfolding firstWith occurrences
-path-met ws pos s [] way t r o a d l = absurd (omega arith)
-path-met ws pos s (m ∷ met) way t r o a d l =
-    at (occurs-cases ws (positionAt ws) m met o) (λ later. path-met ws pos (seen ws m s) met (wayOn way (m .cell) (m .linkNumber)) (t .1) (r .1) later
-    (agreed-onward ws way (m .cell) (m .linkNumber) (s .agreed) a) d l)
+path-met ws pos s [] way t r u o a d l = absurd (omega arith)
+path-met ws pos s (m ∷ met) way t r u o a d l =
+    at (occurs-cases ws (positionAt ws) m met o) (λ n. path-met ws pos (seen ws m s) met (wayOn way (m .cell) (m .linkNumber)) (t .1) (r .1)
+    (ap₂ _||_ u (ne-eqb (m .cell) (positionAt ws) (n .0))) (n .1) (rw u (agreed-onward ws way (m .cell) (m .linkNumber) (s .agreed) a)) d l)
   where
     b : ℕ
     b = baseAt ws
@@ -153,17 +157,18 @@ path-met ws pos s (m ∷ met) way t r o a d l =
             rw (le-ltb d (shared b D x k) (omega arith), lt-ltb (shared b D y k) (suc d) (omega arith)) (rw (le-ltb d (shared b D y k) (omega arith)) at more)
 
     at : (m .cell ≡ positionAt ws) ⊎ ((m .cell ≡ positionAt ws → ⊥) × Occurs ws (positionAt ws) met) →
-        (Occurs ws (positionAt ws) met → word ≡ cond (ltb d (shared b D y k)) (wayOn way (m .cell) (m .linkNumber) d) later-first) →
+        ((m .cell ≡ positionAt ws → ⊥) × Occurs ws (positionAt ws) met →
+        word ≡ cond (ltb d (shared b D y k)) (wayOn way (m .cell) (m .linkNumber) d) later-first) →
         word ≡ cond (ltb d (shared b D x k)) (way d) (cond (ltb (shared b D y k) (suc d)) later-first (m .cell))
     at (inl e) more =
         let q : k ≡ y = ap (keyAt ws) (sym e) in
         let all : shared b D y k ≡ D = ap (shared b D y) q ∙ shared-same b D y in
         let linkNumber : shared b D x k ≡ m .linkNumber = ap (shared b D x) q ∙ r .0 .1 in
         rw (le-ltb (shared b D y k) (suc d) (omega arith), linkNumber)
-        (agreed-onward ws way (m .cell) (m .linkNumber) (s .agreed) a d (let n = t .0 .path e in omega arith))
+        (agreed-onward ws way (m .cell) (m .linkNumber) (s .agreed) a d (let n = t .0 .path u e in omega arith))
     at (inr n) more =
         past (r .0 .1) (ultra b D x y k pos (let h = r .0 .0 in omega arith)
-        (let h = occurs-above ws (m .cell) (positionAt ws) met (r .1) (n .1) in omega arith)) (more (n .1))
+        (let h = occurs-above ws (m .cell) (positionAt ws) met (r .1) (n .1) in omega arith)) (more n)
 
 -- the position is the head, or one of the cells met
 pub position-met : (ws : List ℕ) (met : List Met) → seenAfter ws (atHead ws) met .reached ≡ true → (positionAt ws ≡ 0) ⊎ Occurs ws (positionAt ws) met
@@ -186,7 +191,8 @@ path-right ws pos head met trace rises right (inl q) d l =
     let agreed : pathRun ws 0 0 D ≡ D = eqb-true (pathRun ws 0 0 D) D (rw (eq-eqb (positionAt ws) 0 q) at right) in
     rw (le-ltb (shared b D 0 (keyAt ws (positionAt ws))) (suc d) (omega arith)) (path-run ws 0 0 D d (omega arith) (omega arith))
 path-right ws pos head met trace rises right (inr o) d l =
-    path-met ws pos (atHead ws) met (λ i. 0) trace rises o (λ i k. path-run ws 0 0 (dimensionsAt ws) i (omega arith) k) d l ∙ at (decLt d (shared b D 0 k))
+    path-met ws pos (atHead ws) met (λ i. 0) trace rises (ne-eqb (positionAt ws) 0 (λ q. head-apart ws met rises o (sym q))) o
+    (λ i k. path-run ws 0 0 (dimensionsAt ws) i (omega arith) k) d l ∙ at (decLt d (shared b D 0 k))
   where
     b : ℕ
     b = baseAt ws
@@ -215,7 +221,7 @@ pub position-key : (ws : List ℕ) → Head ws → (met : List Met) → Rising w
 unfolding keyOf
 position-key ws head met rises (inl q) = rw (eq-eqb 0 (positionAt ws) (sym q)) (sym (ap (keyAt ws) q ∙ head .key))
 position-key ws head met rises (inr o) =
-    rw (ne-eqb 0 (positionAt ws) (λ q. omega (arith, occurs-above ws 0 (positionAt ws) met rises o, ap (keyAt ws) q))) (key-met ws (positionAt ws) met o)
+    rw (ne-eqb 0 (positionAt ws) (head-apart ws met rises o)) (key-met ws (positionAt ws) met o)
 
 -- Marks
 

@@ -14,7 +14,7 @@ use Rattle.lists.proofs.All.{All, all-map, all-append}
 use Rattle.meaning.specs.Walk.{linkRead}
 use Rattle.meaning.specs.Words.{dimensionsAt, cellsAt, positionAt}
 use Rattle.tree.specs.declared.Seen.{Seen}
-use Rattle.tree.specs.Tree.{agreedAt, cellRight, wrong, entered, along, children, atHead, seenAll}
+use Rattle.tree.specs.Tree.{agreedAfter, cellRight, wrong, entered, along, children, atHead, seenAll}
 use Rattle.tree.proofs.AcceptedTests.{Right, cell-right}
 
 -- A cell that has been read, and the number of the link that led to it.
@@ -81,7 +81,7 @@ seen ws m s = record {
   right = true;
   left = s .left - 1;
   last = m .cell;
-  agreed = agreedAt ws (m .cell) (m .linkNumber) (s .agreed);
+  agreed = agreedAfter ws (m .cell) (m .linkNumber) s;
   reached = s .reached || eqb (m .cell) (positionAt ws);
 }
 

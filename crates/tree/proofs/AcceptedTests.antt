@@ -18,7 +18,7 @@ use Rattle.meaning.specs.Words.{wordAt, keyAt, valueAt, markAt, owedAt, lowAt, 
 use Rattle.meaning.specs.Words.{positionAt}
 use Rattle.tree.specs.declared.Seen.{Seen}
 use Rattle.tree.specs.Tree.{allFrom, writesKey, follows, nodeRight, dueTo, linksBelow, debtRight, agreedAt, cellAloneRight, cellRight}
-use Rattle.tree.specs.Tree.{headRight, freeRight, headerRight}
+use Rattle.tree.specs.Tree.{pathRight, headRight, freeRight, headerRight}
 
 -- Tests of several parts
 
@@ -38,7 +38,7 @@ either true u e = inl refl
 either false u e = inr e
 
 -- a test that holds at each of n numbers from i on
-all-from : (test : ℕ → Bool) (i n d : ℕ) → allFrom test i n ≡ true → i ≤ d → d < i + n → test d ≡ true
+pub all-from : (test : ℕ → Bool) (i n d : ℕ) → allFrom test i n ≡ true → i ≤ d → d < i + n → test d ≡ true
 unfolding allFrom
 all-from test i zero d e h l = absurd (omega arith)
 all-from test i (suc n) d e h l = at (ℕ-discrete i d) (both (test i) (allFrom test (suc i) n) e) (all-from test (suc i) n d)
@@ -71,7 +71,7 @@ pub record Right (ws : List ℕ) (s : Seen) (y e : ℕ) : Type 0 where
   pub below : (d : ℕ) → d < e → (linkAt ws y d ≡ 0) ⊎ (dueTo ws (s .last) d ≡ true)
   pub unowing : owedAt ws y ≡ 0 → (lowAt ws y ≡ 0) × (highAt ws y ≡ 0)
   pub owing : (owedAt ws y ≡ 0 → ⊥) → DebtTested ws (s .last) y e
-  pub path : y ≡ positionAt ws → agreedAt ws y e (s .agreed) ≡ dimensionsAt ws
+  pub path : s .reached ≡ false → y ≡ positionAt ws → agreedAt ws y e (s .agreed) ≡ dimensionsAt ws
 
 pub owing-right : (ws : List ℕ) (x y e : ℕ) → debtRight ws x y e ≡ true → (owedAt ws y ≡ 0 → ⊥) → DebtTested ws x y e
 unfolding debtRight
@@ -123,9 +123,8 @@ pub cell-right : (ws : List ℕ) (y e : ℕ) (s : Seen) → cellRight ws y e s �
 unfolding cellRight follows
 cell-right ws y e s h =
     let x = s .last in
-    let agreed = agreedAt ws y e (s .agreed) in
     let alike : ℕ → Bool = λ d. eqb (coordinateAt ws y d) (coordinateAt ws x d) in
-    let p = both (cellAloneRight ws y e s) (not (eqb y (positionAt ws)) || eqb agreed (dimensionsAt ws)) h in
+    let p = both (cellAloneRight ws y e s) (pathRight ws y e s) h in
     let t = joined-all (ltb 0 (s .left) ∷ ltb y (cellsAt ws) ∷ follows ws x y e ∷ writesKey ws y ∷ nodeRight ws y (s .reached) ∷
     linksBelow ws x y e ∷ debtRight ws x y e ∷ []) (p .0) in
     let f = both (allFrom alike 0 e) (ltb (coordinateAt ws x e) (coordinateAt ws y e)) (t .1 .1 .0) in
@@ -141,7 +140,7 @@ cell-right ws y e s h =
       below = below-right ws x y e (t .1 .1 .1 .1 .1 .0);
       unowing = unowing-right ws x y e (t .1 .1 .1 .1 .1 .1 .0);
       owing = owing-right ws x y e (t .1 .1 .1 .1 .1 .1 .0);
-      path = λ q. eqb-true agreed (dimensionsAt ws) (rw (eq-eqb y (positionAt ws) q) at (p .1));
+      path = λ u q. eqb-true (agreedAt ws y e (s .agreed)) (dimensionsAt ws) (rw (u, eq-eqb y (positionAt ws) q) at (p .1));
     }
 
 -- The header and the head

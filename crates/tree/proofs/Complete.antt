@@ -30,7 +30,8 @@ use Rattle.meaning.proofs.ReadBack.{Follow, distinct-follow, list-is-picture, l
 use Rattle.meaning.proofs.WalkRead.{places-read}
 use Rattle.meaning.proofs.Placed.{free-cell-first, free-cell-rest}
 use Rattle.tree.specs.Tree.{pathRun, children, headRight, atHead, freeRight, chainRight, headerRight, seenAll, accepts}
-use Rattle.tree.proofs.CompleteOrder.{lastBelow, seenAt, LinksRead, Entered, Ready, below-keeps, last-any, children-read}
+use Rattle.tree.proofs.CompleteOrder.{lastBelow, agreedWith, agreed-up-to, seenAt, LinksRead, Entered, Ready, below-keeps, last-any}
+use Rattle.tree.proofs.CompleteOrder.{children-read}
 use Rattle.tree.proofs.CompletePath.{Stands, PlaceOnPath, run-agreed, position-here, position-apart}
 use Rattle.tree.proofs.CompleteCell.{and-then, or-left, or-right, all-from, Shown, enters-after}
 use Rattle.tree.proofs.CompleteShown.{position-stands, places-shown}
@@ -115,13 +116,16 @@ module _ (ws : List ℕ) (key free : ℕ) (row : List Node) (some : 0 < dimensio
   -- what has been seen at the head
   head-seen : cellsAt ws - 1 ≡ length row + free → atHead ws ≡ seenAt (baseAt ws) (dimensionsAt ws) key free (headPlace row)
   unfolding atHead
-  head-seen left = λ i. record { right = right i; left = left i; last = 0; agreed = head-agreed i; reached = reached i }
+  head-seen left = λ i. record { right = right i; left = left i; last = 0; agreed = agreed i; reached = reached i }
     where
       b : ℕ
       b = baseAt ws
 
       D : ℕ
       D = dimensionsAt ws
+
+      agreed : pathRun ws 0 0 D ≡ agreedWith b D key 0
+      agreed = head-agreed ∙ agreed-up-to b D key 0 (omega arith)
 
       apart : (0 ≡ key → ⊥) → positionAt ws ≡ 0 → ⊥
       apart ne e = position-apart ws b key (headPlace row) on some ne (sym e)

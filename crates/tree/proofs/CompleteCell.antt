@@ -22,9 +22,9 @@ use Rattle.meaning.proofs.State.{Debt}
 use Rattle.meaning.proofs.WalkRead.{Held, between-is, between-not, linkOwing, link-tested}
 use Rattle.meaning.proofs.Parent.{sharing-hits, sharing-above}
 use Rattle.tree.specs.Tree.{allFrom, written, coordinateWords, allBelow, writesKey, follows, nodeRight, dueTo, linksBelow, debtRight, agreedAt}
-use Rattle.tree.specs.Tree.{cellRight, entered}
+use Rattle.tree.specs.Tree.{agreedAfter, pathRight, cellRight, entered}
 use Rattle.tree.proofs.Written.{all-allBelow, coordinates-below, coordinates-write}
-use Rattle.tree.proofs.CompleteOrder.{placeAfter, seenAt, seenBefore}
+use Rattle.tree.proofs.CompleteOrder.{placeAfter, agreedWith, agreed-up-to, seenAt, seenBefore}
 use Rattle.tree.proofs.CompletePath.{PlaceOnPath, agreed-is, position-here, position-apart}
 
 -- Tests that hold
@@ -277,10 +277,9 @@ module _ (ws : List ℕ) (key : ℕ) (x : Node) (e : ℕ) (a : Node) (f : ℕ) (
       at true o = debt-some pos some s t o
 
   -- where y is the position, all path words agree
-  position-agreed : 0 < baseAt ws → 0 < dimensionsAt ws → Shown ws key second →
-      (not (eqb (y .cell) (positionAt ws))
-      || eqb (agreedAt ws (y .cell) (second .dimension) (shared (baseAt ws) (dimensionsAt ws) (x .key) key)) (dimensionsAt ws)) ≡ true
-  position-agreed pos some t = at (ℕ-discrete (y .key) key)
+  path-right : (free : ℕ) → 0 < baseAt ws → 0 < dimensionsAt ws → Shown ws key second →
+      pathRight ws (y .cell) (second .dimension) (seenBefore (baseAt ws) (dimensionsAt ws) key free second) ≡ true
+  path-right free pos some t = before (leb key (x .key))
     where
       b : ℕ
       b = baseAt ws
@@ -299,6 +298,25 @@ module _ (ws : List ℕ) (key : ℕ) (x : Node) (e : ℕ) (a : Node) (f : ℕ) (
       at (no ne) =
           or-left (not (eqb (y .cell) (positionAt ws))) (eqb agreed D)
           (ap not (ne-eqb (y .cell) (positionAt ws) (position-apart ws b key second (t .path) some ne)))
+
+      -- whether or not it has been read before y
+      before : (u : Bool) →
+          (u || (not (eqb (y .cell) (positionAt ws))
+          || eqb (agreedAt ws (y .cell) (second .dimension) (cond u D (shared b D (x .key) key))) D)) ≡ true
+      before true = refl
+      before false = at (ℕ-discrete (y .key) key)
+
+  -- how many path words agree, up to y
+  agreed-next : (free : ℕ) → 0 < baseAt ws → Shown ws key first → Shown ws key second → (key ≤ x .key) ⊎ (y .key ≤ key) →
+      agreedAfter ws (y .cell) (second .dimension) (seenBefore (baseAt ws) (dimensionsAt ws) key free second)
+      ≡ agreedWith (baseAt ws) (dimensionsAt ws) key (y .key)
+  agreed-next free pos s t (inl h) =
+      let rise = s .ascends .0 in
+      rw (le-leb key (x .key) h, le-leb key (y .key) (omega arith)) refl
+  agreed-next free pos s t (inr h) =
+      let rise = s .ascends .0 in
+      rw (lt-leb key (x .key) (omega arith))
+      (agreed-is ws (baseAt ws) key second (t .path) pos (x .key) refl ∙ agreed-up-to (baseAt ws) (dimensionsAt ws) key (y .key) h)
 
   -- the position has been read, up to y
   passed-next : 0 < dimensionsAt ws → Shown ws key first → Shown ws key second → (key ≤ x .key) ⊎ (y .key ≤ key) →
@@ -342,7 +360,7 @@ module _ (ws : List ℕ) (key : ℕ) (x : Node) (e : ℕ) (a : Node) (f : ℕ) (
       (and-then (writes-key ws key second pos t)
       (and-then (node-right ws key second t gap)
       (and-then (links-below s t) (debt-right pos some s t)))))))
-      (position-agreed pos some t)
+      (path-right free pos some t)
 
   pub enters-after : (free : ℕ) → 0 < baseAt ws → 0 < dimensionsAt ws → Shown ws key first → Shown ws key second →
       (key ≤ x .key) ⊎ (y .key ≤ key) →
@@ -350,10 +368,8 @@ module _ (ws : List ℕ) (key : ℕ) (x : Node) (e : ℕ) (a : Node) (f : ℕ) (
       ≡ seenAt (baseAt ws) (dimensionsAt ws) key free second
   unfolding entered
   enters-after free pos some s t gap =
-      let b = baseAt ws in
-      let D = dimensionsAt ws in
       let fewer : suc (length later) + free - 1 ≡ length later + free = omega arith in
-      let agreed = agreed-is ws b key second (t .path) pos (x .key) refl in
+      let agreed = agreed-next free pos s t gap in
       let reached = passed-next some s t gap in
       rw (cell-right free pos some s t gap)
       (λ i. record { right = true; left = fewer i; last = y .cell; agreed = agreed i; reached = reached i })

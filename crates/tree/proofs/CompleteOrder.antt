@@ -4,11 +4,11 @@ use mathlib.Core.Path.{_≡_, refl, sym, _∙_, ap, ap₂, subst}
 use mathlib.Core.Bool.{Bool, true, false, cond}
 use mathlib.Core.List.{List, [], _∷_}
 use Prim.Native.Nat.{ℕ, zero, suc, _+_, _-_, _≤_, _<_, min}
-use native.Mathlib.Decide.{decLt}
+use native.Mathlib.Decide.{decLt, ℕ-discrete}
 use native.Mathlib.Omega.{arith}
 use lib.Dec.{eqb, leb, ltb}
 use lib.ListN.{length}
-use borrow.Author.Tests.{lt-ltb, le-ltb, ne-eqb}
+use borrow.Author.Tests.{lt-ltb, le-ltb, le-leb, lt-leb, ne-eqb}
 use Rattle.lists.proofs.All.{All, all-map}
 use Rattle.meaning.specs.Keys.{shared}
 use Rattle.meaning.specs.Row.{Node, Place, placesAfter, firstSharing, settledLink}
@@ -163,9 +163,22 @@ module _ (b D : ℕ) (pos : 0 < b) where
 
 -- Reading along the siblings
 
--- what has been seen when the row has been read up to x and `left` cells are left, with the position's key
+-- how many path words agree when the row has been read up to a key k, with the position's key: the coordinates that the two share, and
+-- from the position on all
+abbrev pub agreedWith : ℕ → ℕ → ℕ → ℕ → ℕ
+agreedWith b D key k = cond (leb key k) D (shared b D k key)
+
+-- up to the position it is what they share, for the position shares all its coordinates with itself
+pub agreed-up-to : (b D key k : ℕ) → k ≤ key → shared b D k key ≡ agreedWith b D key k
+agreed-up-to b D key k h = at (ℕ-discrete k key)
+  where
+    at : Dec (k ≡ key) → shared b D k key ≡ agreedWith b D key k
+    at (yes e) = rw (le-leb key k (omega arith)) (ap (shared b D k) (sym e) ∙ shared-same b D k)
+    at (no ne) = rw (lt-leb key k (omega arith)) refl
+
+-- what has been seen when the row has been read up to x and `left` cells are left
 abbrev pub seenWith : ℕ → ℕ → ℕ → Node → ℕ → Seen
-seenWith b D key x left = record { right = true; left = left; last = x .cell; agreed = shared b D (x .key) key; reached = leb key (x .key) }
+seenWith b D key x left = record { right = true; left = left; last = x .cell; agreed = agreedWith b D key (x .key); reached = leb key (x .key) }
 
 -- the same at a place, and before it; `free` cells are free
 abbrev pub seenAt : ℕ → ℕ → ℕ → ℕ → Place → Seen

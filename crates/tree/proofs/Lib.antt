@@ -13,4 +13,6 @@ pub mod CompletePath
 pub mod CompleteCell
 pub mod CompleteShown
 pub mod Complete
+pub mod Following
+pub mod Loop
 pub mod Tree

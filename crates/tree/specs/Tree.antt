@@ -74,6 +74,14 @@ pathRun ws y d (suc n) = cond (eqb (pathAt ws d) y) (pathRun ws y (suc d) n) d
 unfoldable pub agreedAt : List ℕ → ℕ → ℕ → ℕ → ℕ
 agreedAt ws y e agreed = cond (ltb agreed e) agreed (pathRun ws y e (dimensionsAt ws - e))
 
+-- .. no longer counted once the position has been read
+abbrev pub agreedAfter : List ℕ → ℕ → ℕ → Seen → ℕ
+agreedAfter ws y e s = cond (s .reached) (s .agreed) (agreedAt ws y e (s .agreed))
+
+-- where cell y, met by link e, is the position, all path words agree
+abbrev pub pathRight : List ℕ → ℕ → ℕ → Seen → Bool
+pathRight ws y e s = s .reached || (not (eqb y (positionAt ws)) || eqb (agreedAt ws y e (s .agreed)) (dimensionsAt ws))
+
 -- cell y, met by link e, is right after what has been seen, but for the path
 abbrev pub cellAloneRight : List ℕ → ℕ → ℕ → Seen → Bool
 cellAloneRight ws y e s =
@@ -85,10 +93,8 @@ cellAloneRight ws y e s =
     && (linksBelow ws (s .last) y e
     && debtRight ws (s .last) y e)))))
 
--- .. and where it is the position, all path words agree
 unfoldable pub cellRight : List ℕ → ℕ → ℕ → Seen → Bool
-cellRight ws y e s =
-    cellAloneRight ws y e s && (not (eqb y (positionAt ws)) || eqb (agreedAt ws y e (s .agreed)) (dimensionsAt ws))
+cellRight ws y e s = cellAloneRight ws y e s && pathRight ws y e s
 
 abbrev pub wrong : Seen → Seen
 wrong s = record { right = false; left = s .left; last = s .last; agreed = s .agreed; reached = s .reached }
@@ -97,7 +103,7 @@ wrong s = record { right = false; left = s .left; last = s .last; agreed = s .ag
 unfoldable pub entered : List ℕ → ℕ → ℕ → Seen → Seen
 entered ws y e s =
     cond (cellRight ws y e s)
-    (record { right = true; left = s .left - 1; last = y; agreed = agreedAt ws y e (s .agreed); reached = s .reached || eqb y (positionAt ws) })
+    (record { right = true; left = s .left - 1; last = y; agreed = agreedAfter ws y e s; reached = s .reached || eqb y (positionAt ws) })
     (wrong s)
 
 -- The cells that hang from x by links of number e, one from the other, each after the children by higher links (`higher`) of the one

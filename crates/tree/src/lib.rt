@@ -9,7 +9,7 @@ pub struct Seen {
     pub left: u32,
     // the cell read last
     pub last: u32,
-    // how many leading path words are the cells of the way down to the cell read last
+    // how many leading path words are the cells of the way down to the cell read last; no longer counted past the position
     pub agreed: u32,
     // the position has been read
     pub reached: bool,

@@ -5,60 +5,59 @@ use mathlib.Core.Path.{_≡_}
 use native.Mathlib.Omega.{arith}
 use borrow.Author.Needs.{needs}
 use Rattle.words.proofs.Shaped.{shaped-dimensions}
-use Rattle.tree.specs.Tree.{cellAloneRight}
+use Rattle.tree.specs.Loop.{aloneRight}
 use Rattle.cell_tests.proofs.Tests.{holds, lacks}
 use Rattle.cell_tests.proofs.OneCell.{alone}
-use Rattle.is_list.proofs.InOrder.{enter-not, enter-lost, enter-position, enter-other, entered-wrong, entered-right}
+use Rattle.is_list.proofs.InOrder.{enter-not, enter-past, enter-lost, enter-position, enter-other}
 use Rattle.is_list.proofs.standing.enter.Statement.{statement}
 use Rattle.is_list.proofs.standing.enter.Tie as tie
 
 -- the cell was found right
-right : (c : tie.Else1) → let a = c .before .before .before .args in cellAloneRight (a .list .now) (a .y) (a .e) (a .seen) ≡ true
-right c = holds (c .before .cell-alone-right .ensures) (c .if1 .left)
+right : (c : tie.Else1) → let a = c .before .before .before .args in aloneRight (a .list .now) (a .y) (a .e) (a .seen) ≡ true
+right c = holds (c .before .alone-right .ensures) (c .if1 .left)
 
 returns : tie.Need-returns
 returns c =
-    let t = c .before .before .cell-alone-right in
+    let t = c .before .before .alone-right in
     let s = c .before .before .before .before in
     let a = s .args in
-    entered-wrong (s .pre .0) (a .y) (a .e) (a .seen) (s .pre .1 .1 .1) (c .wrong .ensures)
-    (enter-not (a .list .now) (a .y) (a .e) (a .seen) (lacks (t .ensures) (c .before .if1 .taken)))
+    enter-not (s .pre .0) (a .y) (a .e) (a .seen) (lacks (t .ensures) (c .before .if1 .taken)) (c .wrong .ensures)
 
 sub-left : tie.Need-sub-left
 sub-left c =
-    let a = c .before .before .before .before .before .args in
-    omega (arith, alone (a .list .now) (a .y) (a .e) (a .seen) (right (c .before .before)) .left)
+    let a = c .before .before .before .before .args in
+    omega (arith, alone (a .list .now) (a .y) (a .e) (a .seen) (right (c .before)) .left)
 
 returns-2 : tie.Need-returns-2
 returns-2 c =
-    let s = c .before .before .before .before .before .before .before .before .before .before in
+    let s = c .before .before .before .before .before in
     let a = s .args in
-    let r = right (c .before .before .before .before .before .before .before) in
-    let d = shaped-dimensions (s .pre .0) in
-    entered-wrong (s .pre .0) (a .y) (a .e) (a .seen) (s .pre .1 .1 .1) (c .wrong2 .ensures)
-    (enter-lost (a .list .now) (a .y) (a .e) (a .seen) r (omega arith) (λ e. omega arith))
+    enter-past (s .pre .0) (a .y) (a .e) (a .seen) (right (c .before .before)) (c .if2 .taken) (s .pre .1 .1 .1 .agreed)
 
 returns-3 : tie.Need-returns-3
 returns-3 c =
-    let s = c .before .before .before .before .before .before .before .before .before in
+    let s = c .before .before .before .before .before .before .before .before .before .before .before in
     let a = s .args in
-    let r = right (c .before .before .before .before .before .before) in
     let d = shaped-dimensions (s .pre .0) in
-    let g = c .before .before .before .before .before .agreed-at .ensures in
-    entered-right (s .pre .0) (a .y) (a .e) (a .seen) (s .pre .1 .1 .1) r (g .1)
-    (enter-position (a .list .now) (a .y) (a .e) (a .seen) r (omega arith) (g .0) (omega arith))
+    enter-lost (s .pre .0) (a .y) (a .e) (a .seen) (right (c .before .before .before .before .before .before .before .before)) (c .before .before .before .before .before .before .if2 .left) (omega arith) (λ e. omega arith) (c .wrong2 .ensures)
 
 returns-4 : tie.Need-returns-4
 returns-4 c =
-    let s = c .before .before .before .before .before .before .before in
+    let s = c .before .before .before .before .before .before .before .before .before .before in
     let a = s .args in
-    let r = right (c .before .before .before .before) in
-    let g = c .before .before .before .agreed-at .ensures in
-    entered-right (s .pre .0) (a .y) (a .e) (a .seen) (s .pre .1 .1 .1) r (g .1)
-    (enter-other (a .list .now) (a .y) (a .e) (a .seen) r (λ e. omega arith) (g .0))
+    let d = shaped-dimensions (s .pre .0) in
+    let g = c .before .before .before .before .agreed-at .ensures in
+    enter-position (s .pre .0) (a .y) (a .e) (a .seen) (right (c .before .before .before .before .before .before .before)) (c .before .before .before .before .before .if2 .left) (omega arith) (g .0) (g .1) (omega arith)
+
+returns-5 : tie.Need-returns-5
+returns-5 c =
+    let s = c .before .before .before .before .before .before .before .before in
+    let a = s .args in
+    let g = c .before .before .agreed-at .ensures in
+    enter-other (s .pre .0) (a .y) (a .e) (a .seen) (right (c .before .before .before .before .before)) (c .before .before .before .if2 .left) (λ e. omega arith) (g .0) (g .1)
 
 pub enter-spec : {M : Type 1} → statement M
 enter-spec =
     tie.close
-    (tie.spec (λ c κs. search needs) (λ c κs. search needs) returns (λ c κs. search needs) sub-left (λ c κs. search needs) (λ c κs. search needs)
-    returns-2 returns-3 returns-4)
+    (tie.spec (λ c κs. search needs) (λ c κs. search needs) returns sub-left returns-2 (λ c κs. search needs) (λ c κs. search needs)
+    (λ c κs. search needs) returns-3 returns-4 returns-5)

@@ -1,0 +1,350 @@
+//! The stack of every exported call: each is made on 8 KiB of its own, painted before and read afterwards, and may need 2 KiB at most. The
+//! table of the bytes is shown by `host/test --test stack -- --nocapture`.
+#![cfg(target_arch = "x86_64")]
+
+mod common;
+
+use common::{entry_key, fresh, Dice};
+use mdlist_host::*;
+use std::arch::asm;
+use std::collections::BTreeSet;
+use std::ffi::{c_int, c_void};
+use std::hint::black_box;
+use std::mem::{size_of, size_of_val};
+use std::ops::Range;
+use std::{iter, ptr, slice};
+
+/// The most bytes that a call may need.
+const MOST: usize = 2_048;
+
+/// The bytes that the customer's host has for a call, and those of the guard page below them.
+const USABLE: usize = 8_192;
+const GUARD: usize = 4_096;
+
+const DIMENSIONS: [u32; 3] = [2, 8, 16];
+const K: u32 = u32::MAX;
+const C: u32 = 4_096;
+
+/// The functions of the archive. Their addresses alone are used: `Stack::call` puts the arguments into the registers itself, so that no
+/// frame but theirs is measured.
+mod sys {
+    extern "C" {
+        pub fn mdlist_set_up();
+        pub fn mdlist_insert();
+        pub fn mdlist_find();
+        pub fn mdlist_finish();
+        pub fn mdlist_take();
+        pub fn mdlist_sweep();
+        pub fn mdlist_record();
+        pub fn mdlist_batch();
+    }
+}
+
+/// Functions and numbers of the C library, as Linux has them on x86-64.
+mod c {
+    use super::{c_int, c_void};
+
+    pub const PROT_NONE: c_int = 0;
+    pub const PROT_READ_AND_WRITE: c_int = 3;
+    pub const MAP_PRIVATE_AND_ANONYMOUS: c_int = 0x22;
+
+    extern "C" {
+        pub fn mmap(at: *mut c_void, length: usize, protection: c_int, flags: c_int, file: c_int, offset: i64) -> *mut c_void;
+        pub fn mprotect(at: *mut c_void, length: usize, protection: c_int) -> c_int;
+    }
+}
+
+/// What an untouched word of a stack holds: not 0 and no address, which calls write often.
+const PAINT: u64 = 0xA5C3_965A_3C69_F00F;
+
+/// Words for a stack. The page below them can't be touched, so that a call that needs more ends the test and writes over nothing.
+struct Stack(&'static mut [u64]);
+
+impl Stack {
+    fn new() -> Stack {
+        // SAFETY: new pages at a place that the system chooses, so no memory in use is altered
+        let lowest = unsafe { c::mmap(ptr::null_mut(), GUARD + USABLE, c::PROT_READ_AND_WRITE, c::MAP_PRIVATE_AND_ANONYMOUS, -1, 0) };
+        // failure is answered by -1
+        assert_ne!(lowest as isize, -1, "no memory for a stack");
+        // SAFETY: the first of those pages, which nothing refers to
+        assert_eq!(unsafe { c::mprotect(lowest, GUARD, c::PROT_NONE) }, 0, "no guard page");
+        // SAFETY: the other pages are readable, writable and filled with 0; this slice alone refers to them, and they are never unmapped
+        Stack(unsafe { slice::from_raw_parts_mut(lowest.byte_add(GUARD).cast(), USABLE / size_of::<u64>()) })
+    }
+
+    /// Paints the stack and calls a C function on it; answers the first word of its result, and the bytes that it needed. They count from
+    /// the lowest word that was written up to the top, with the return address; what was set aside below and not written is not seen.
+    ///
+    /// # Safety
+    ///
+    /// The function does not unwind, answers two words at most, and may be called with the first of the arguments, as many as it has.
+    unsafe fn call(&mut self, function: unsafe extern "C" fn(), arguments: [usize; 6]) -> (u64, usize) {
+        self.0.fill(PAINT);
+        let [a, b, c, d, e, f] = arguments;
+        let result;
+        // SAFETY: the caller vouches for the call. The top is the end of a page, so it is aligned as a call has to find it. The old stack
+        // pointer waits in r12, which a C function leaves as it was; a second word of the result is in rdx, clobbered with the others
+        unsafe {
+            asm!(
+                "xchg rsp, r12",
+                "call r13",
+                "mov rsp, r12",
+                inout("r12") self.0.as_mut_ptr_range().end => _,
+                in("r13") function,
+                in("rdi") a,
+                in("rsi") b,
+                in("rdx") c,
+                in("rcx") d,
+                in("r8") e,
+                in("r9") f,
+                lateout("rax") result,
+                clobber_abi("C"),
+            );
+        }
+        let untouched = self.0.iter().take_while(|word| **word == PAINT).count();
+        (result, size_of_val(&self.0[untouched..]))
+    }
+}
+
+/// A call that is measured, with what is lent to it besides the list.
+enum Asked<'a> {
+    SetUp(u32),
+    Insert(u32),
+    Find(u32),
+    Finish(u32),
+    Take,
+    Sweep,
+    Record(&'a [u8], &'a mut u64),
+    Batch(&'a [Call], &'a mut [Answered]),
+}
+
+/// Makes a call; answers its refusal and the bytes of stack that it needed.
+fn measured(stack: &mut Stack, list: &mut [u32], asked: Asked<'_>) -> (u32, usize) {
+    let (words, len, value) = (list.as_mut_ptr() as usize, list.len(), 1);
+    let (function, arguments): (unsafe extern "C" fn(), _) = match asked {
+        Asked::SetUp(d) => (sys::mdlist_set_up, [d as usize, K as usize, C as usize, words, len, 0]),
+        Asked::Insert(key) => (sys::mdlist_insert, [words, len, key as usize, value, 0, 0]),
+        Asked::Find(key) => (sys::mdlist_find, [words, len, key as usize, 0, 0, 0]),
+        Asked::Finish(key) => (sys::mdlist_finish, [words, len, key as usize, 0, 0, 0]),
+        Asked::Take => (sys::mdlist_take, [words, len, 0, 0, 0, 0]),
+        Asked::Sweep => (sys::mdlist_sweep, [words, len, 0, 0, 0, 0]),
+        Asked::Record(bytes, last) => {
+            (sys::mdlist_record, [words, len, bytes.as_ptr() as usize, bytes.len(), ptr::from_mut(last) as usize, 0])
+        }
+        Asked::Batch(calls, answers) => {
+            let (calls_len, answers_len) = (size_of_val(calls) / size_of::<u32>(), size_of_val(answers) / size_of::<u32>());
+            (sys::mdlist_batch, [words, len, calls.as_ptr() as usize, calls_len, answers.as_mut_ptr() as usize, answers_len])
+        }
+    };
+    // SAFETY: each function gets its own arguments in order, each pointer with the length of what is borrowed in `list` or `asked`. None
+    // unwinds, and an answer of four 32-bit words comes back in two, the refusal lowest
+    let (result, bytes) = unsafe { stack.call(function, arguments) };
+    (result as u32, bytes)
+}
+
+/// The calls that were made, each with the D of its list and the bytes of stack that it needed.
+struct Measure {
+    stack: Stack,
+    made: Vec<(&'static str, u32, usize)>,
+}
+
+impl Measure {
+    /// Makes a call on a copy of the list, and looks that the refusal is the expected one, so that the call goes the way that is meant.
+    fn make(&mut self, name: &'static str, list: &[u32], asked: Asked<'_>, expected: u32) {
+        let d = list[0];
+        let (refusal, bytes) = measured(&mut self.stack, &mut list.to_vec(), asked);
+        assert_eq!(refusal, expected, "{name}, D = {d}");
+        self.made.push((name, d, bytes));
+    }
+
+    /// Makes a batch in the same way, with the expected refusal of each of its calls.
+    fn make_batch(&mut self, name: &'static str, list: &[u32], calls: &[(Call, u32)]) {
+        let (calls, expected): (Vec<Call>, Vec<u32>) = calls.iter().copied().unzip();
+        let mut answers = vec![Answered::NONE; calls.len()];
+        self.make(name, list, Asked::Batch(&calls, &mut answers), 0);
+        // the refusal is read alike whatever the call
+        let refusals: Vec<u32> = answers.iter().map(|answer| answer.found().map_or_else(Refusal::number, |_| 0)).collect();
+        assert_eq!(refusals, expected, "{name}, D = {}", list[0]);
+    }
+
+    /// The most bytes that a call of that name needed on a list of that D.
+    fn most(&self, name: &str, d: u32) -> usize {
+        self.made.iter().filter(|made| (made.0, made.1) == (name, d)).map(|made| made.2).max().unwrap_or(0)
+    }
+
+    /// The bytes by call and D, as the documents have tables.
+    fn table(&self) -> String {
+        let mut seen = BTreeSet::new();
+        let names = self.made.iter().map(|made| made.0).filter(|name| seen.insert(*name));
+        let rows = names.map(|name| format!("| {name} |{}\n", DIMENSIONS.map(|d| format!(" {} |", self.most(name, d))).concat()));
+        let head = DIMENSIONS.map(|d| format!(" D = {d} |")).concat();
+        format!("| call |{head}\n|---|{}\n{}", "---|".repeat(DIMENSIONS.len()), rows.collect::<String>())
+    }
+}
+
+/// Random keys; and before them one for each coordinate, with the digits 100.., 110.., 111.. and so on, so that the tree is D deep.
+fn random_keys(d: u32, many: u32) -> Vec<u32> {
+    let base = fresh(d, K, 3)[3];
+    let stairs = (0..d).rev().scan(0, |key, power| {
+        *key += base.pow(power);
+        Some(*key)
+    });
+    let mut dice = Dice(u64::from(d));
+    let draws = iter::repeat_with(|| ((dice.below(1 << 16) << 16) | dice.below(1 << 16)) as u32);
+    let mut seen = BTreeSet::from([0, new_key()]);
+    stairs.chain(draws).filter(|key| seen.insert(*key)).take(many as usize).collect()
+}
+
+/// A key that no list has before it is inserted. It is an entry's, so that a record can say it.
+fn new_key() -> u32 {
+    entry_key(0, 1, 0)
+}
+
+/// A record of that key, with text in quotes.
+const NEW_RECORD: &[u8] = b"0,1,0,\"pump, \"\"B\"\" side\",17\r\n";
+
+/// Lists to make calls on, and keys of theirs.
+struct Lists {
+    inserts: Vec<Call>,
+    empty: Vec<u32>,
+    /// After the inserts.
+    all: Vec<u32>,
+    /// After all but the last insert, so that a cell is free.
+    less: Vec<u32>,
+    /// Those two after half of the keys were taken.
+    all_taken: Vec<u32>,
+    less_taken: Vec<u32>,
+    /// The greatest key.
+    live: u32,
+    /// The key that was taken last.
+    dead: u32,
+    /// A key whose cell owes something, if there is one.
+    owes: u32,
+}
+
+/// The list after a batch on the ordinary stack, which refuses nothing.
+fn after(list: &[u32], calls: &[Call]) -> Vec<u32> {
+    let (mut list, mut answers) = (list.to_vec(), vec![Answered::NONE; calls.len()]);
+    assert_eq!(batch(&mut list, calls, &mut answers), Ok(calls.len()));
+    assert!(answers.iter().all(|answer| answer.found().is_ok()));
+    list
+}
+
+/// Where the words of a cell are: docs/REFERENCE.md, *The words*.
+fn cell(list: &[u32], x: u32) -> Range<usize> {
+    let d = list[0] as usize;
+    let length = 6 + 2 * d;
+    let first = 5 + d + x as usize * length;
+    first..first + length
+}
+
+/// The keys whose cells owe.
+fn owing(list: &[u32]) -> Vec<u32> {
+    (1..C).map(|x| &list[cell(list, x)]).filter(|words| words[3] != 0).map(|words| words[0]).collect()
+}
+
+/// The list with all links of a cell, its last words, leading to that cell, which is no list.
+fn damaged(list: &[u32], x: u32) -> Vec<u32> {
+    let mut list = list.to_vec();
+    let (d, end) = (list[0] as usize, cell(&list, x).end);
+    list[end - d..end].fill(x);
+    list
+}
+
+impl Lists {
+    fn of(d: u32, mut keys: Vec<u32>) -> Lists {
+        let inserts: Vec<Call> = keys.iter().map(|key| Call::insert(*key, key / 2)).collect();
+        let half = keys.len() / 2;
+        let takes = vec![Call::take(); half];
+        let empty = fresh(d, K, C);
+        let (all, less) = (after(&empty, &inserts), after(&empty, &inserts[..inserts.len() - 1]));
+        let (all_taken, less_taken) = (after(&all, &takes), after(&less, &takes));
+        keys.sort_unstable();
+        let (live, dead) = (keys[keys.len() - 1], keys[half - 1]);
+        let owes = owing(&all_taken).last().copied().unwrap_or(live);
+        Lists { inserts, empty, all, less, all_taken, less_taken, live, dead, owes }
+    }
+
+    /// Calls of every kind for the list of which half was taken, with their refusals.
+    fn mixed(&self) -> [(Call, u32); 12] {
+        [
+            (Call::insert(self.live, 1), 5),
+            (Call::insert(self.dead, 1), 0),
+            (Call::take(), 0),
+            (Call::finish(self.owes), 0),
+            (Call::find(self.live), 0),
+            (Call::find(self.dead), 8),
+            // frees cells, also for the new key
+            (Call::sweep(), 0),
+            (Call::insert(new_key(), 1), 0),
+            (Call::insert(self.dead, 1), 0),
+            (Call::take(), 0),
+            (Call::take(), 0),
+            (Call::sweep(), 0),
+        ]
+    }
+
+    /// Makes every call, some on several lists, for a call may need more on one than on another.
+    fn make_all(&self, measure: &mut Measure) {
+        let Lists { all, all_taken, live, .. } = self;
+        measure.make("set_up", all, Asked::SetUp(all[0]), 0);
+        // word 4 is the first free cell, if there is one
+        let if_full = if all[4] == 0 { 6 } else { 0 };
+        let for_new_key = [(&self.less, 0), (&self.less_taken, 0), (all, if_full)];
+        for (list, refusal) in for_new_key {
+            measure.make("insert, new key", list, Asked::Insert(new_key()), refusal);
+        }
+        measure.make("insert, live key", all, Asked::Insert(*live), 5);
+        measure.make("insert, dead key", all_taken, Asked::Insert(self.dead), 0);
+        for list in [all, all_taken] {
+            measure.make("find", list, Asked::Find(*live), 0);
+            measure.make("find", list, Asked::Find(new_key()), 8);
+            measure.make("finish", list, Asked::Finish(self.owes), 0);
+            measure.make("take", list, Asked::Take, 0);
+            measure.make("sweep", list, Asked::Sweep, 0);
+        }
+        for (list, refusal) in for_new_key {
+            measure.make("record", list, Asked::Record(NEW_RECORD, &mut { NONE_YET }), refusal);
+        }
+        measure.make_batch("batch of inserts", &self.empty, &self.inserts.iter().map(|call| (*call, 0)).collect::<Vec<_>>());
+        measure.make_batch("batch of every kind", all_taken, &self.mixed());
+        for x in (1..C).step_by(256) {
+            measure.make("find, words that are no list", &damaged(all, x), Asked::Find(*live), 3);
+        }
+    }
+}
+
+#[test]
+fn every_call_needs_at_most_2_kib() {
+    let mut measure = Measure { stack: Stack::new(), made: Vec::new() };
+    for d in DIMENSIONS {
+        for many in [C - 1, C / 2] {
+            let lists = Lists::of(d, random_keys(d, many));
+            assert!(owing(&lists.all_taken).len() > 5, "too few cells owe");
+            lists.make_all(&mut measure);
+        }
+    }
+    // siblings, each hanging from the one before, for they differ in the last coordinate alone
+    Lists::of(2, (1..C).collect()).make_all(&mut measure);
+    let table = measure.table();
+    println!("{table}");
+    assert!(measure.made.iter().all(|made| made.2 <= MOST), "a call needs more than {MOST} bytes:\n{table}");
+}
+
+/// A return address, and no more.
+extern "C" fn does_nothing() {}
+
+extern "C" fn fills_1_kib() {
+    black_box([1u64; 128]);
+}
+
+/// Without this a measure that sees nothing would pass.
+#[test]
+fn what_is_written_is_counted() {
+    let mut stack = Stack::new();
+    for (function, least, most) in [(does_nothing as extern "C" fn(), 8, 128), (fills_1_kib, 8 + 1_024, USABLE)] {
+        // SAFETY: a function without arguments or answer that does not unwind
+        let (_, bytes) = unsafe { stack.call(function, [0; 6]) };
+        assert!((least..=most).contains(&bytes), "{bytes}");
+    }
+}
