@@ -247,10 +247,10 @@ pub const NONE_YET: u64 = 4_294_967_296;
 /// How many words a list with D dimensions and C cells has: 5 + D + C(6+2D).
 ///
 /// ```
-/// assert_eq!(mdlist_host::words_needed(8, 512), 11_277);
+/// assert_eq!(mdlist_host::words_needed(8, 512), 7_181);
 /// ```
 pub const fn words_needed(d: u32, c: u32) -> usize {
-    5 + d as usize + c as usize * (6 + 2 * d as usize)
+    5 + d as usize + c as usize * (6 + d as usize)
 }
 
 fn checked(a: sys::Answer) -> Result<sys::Answer, Refusal> {

@@ -75,7 +75,7 @@ fn leading_zeros(list: &[u32], s: Settings, x: u32) -> u32
 {
     let mut d: u32 = 0;
     while d < s.dimensions {
-        if words::coordinate(list, s, x, d) != 0 {
+        if words::cell_coordinate(list, s, x, d) != 0 {
             return d;
         }
         d += 1;
@@ -121,7 +121,7 @@ fn relink_head(list: &mut [u32], s: Settings, position: u32, z: u32)
     requires { ⌜ Shaped (now list) s × ((0 < s .cells) × (z < s .dimensions)) ⌝ }
     ensures { λ r. ⌜ (now (list .exit) ≡ relinkHead (s .dimensions) (now (list .entry)) position z) × Shaped (now (list .exit)) s ⌝ }
 {
-    store_before_zeros(list, s, 0, words::link_field(s, z), position);
+    store_before_zeros(list, s, 0, words::LINKS + z, position);
 }
 
 // Cell x becomes the first free one.

@@ -101,8 +101,6 @@ module _ (ws : List ℕ) (a : AList ws) where
         owed = sym (owed-shown ws a p q);
         low = sym (low-shown ws a p q);
         high = sym (high-shown ws a p q);
-        coordinate = λ d h.
-            a .coordinate-words (p .node .cell) d (shown .standing) h ∙ ap (λ key. coordinate (baseAt ws) (dimensionsAt ws) key d) (sym (shown .key));
         link = λ d h. sym (link-shown ws a p d q h);
       }
 

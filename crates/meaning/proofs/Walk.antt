@@ -76,7 +76,7 @@ module _ (ws : List ℕ) (b D k : ℕ) (is-D : dimensionsAt ws ≡ D) (is-b : ba
       ≡ cond (ltb (coordinate b D (p .node .key) d) (coordinate b D k d)) (stepAlong (linkRead ws (p .node .cell) d))
       (cond (eqb (coordinate b D (p .node .key) d) (coordinate b D k d)) (cond (eqb (suc d) D) End Up) End)
   unfolding stepAt
-  place-step p r d l = rw (stands p r .read .coordinate d l, is-D, is-b) refl
+  place-step p r d l = rw (stands p r .read .key, is-D, is-b) refl
 
   -- up, as long as they share the coordinate at hand; ..
   place-up : (p : Place) → R p → (d : ℕ) → d < shared b D (p .node .key) k → suc d < D → stepAt ws k (p .node .cell) d ≡ Up

@@ -83,7 +83,7 @@ pub fn write_path(list: &mut [u32], s: Settings, path: Path)
 
 // The path of the standing cell with key k, along the walk for k; `sought` holds k's coordinates.
 fn path_along(list: &[u32], s: Settings, sought: &[u32], k: u32) -> Path
-    requires { ⌜ Walkable (now list) s × ((now sought ≡ coordinates (s .base) (s .dimensions) k) × (ends (trail (now list) k) ≡ true)) ⌝ }
+    requires { ⌜ Walkable (now list) s × ((0 < s .base) × ((now sought ≡ coordinates (s .base) (s .dimensions) k) × (ends (trail (now list) k) ≡ true))) ⌝ }
     ensures { λ r. ⌜ (pathOf r ≡ pathOver (s .dimensions) (replicate (s .dimensions) 0) 0 (trail (now (list .entry)) k))
         × Formed (s .dimensions) r ⌝ }
 {

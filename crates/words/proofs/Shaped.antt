@@ -12,15 +12,15 @@ use lib.ListN.{length, getD, take, drop, set, length-set, length-append, length-
 use lib.Seq.{drop-cons, drop-drop, take-at, drop-set-lt, getD-set-same, getD-set-other, lt-length-set, drop-length, length-take-le, sets, sets-eq}
 use borrow.Author.Tests.{lt-ltb, le-ltb, eq-eqb, ne-eqb}
 use borrow.Rule.Slice.PartMut.{midOf, putMid, mid-len}
-use Rattle.settings.specs.Numbers.{fieldsBeforeCoordinates, cellWords, lengthOf, mostDimensions, mostCells, headerWords}
+use Rattle.settings.specs.Numbers.{fieldsBeforeLinks, cellWords, lengthOf, mostDimensions, mostCells, headerWords}
 use Rattle.settings.specs.declared.Settings.{Settings}
 use Rattle.settings.proofs.Numbers.{cells-fit}
-use Rattle.meaning.specs.Keys.{coordinates}
-use Rattle.meaning.specs.Words.{wordIndex, wordAt, coordinateAt, linkAt, dimensionsAt, largestAt, cellsAt, baseAt, linkField, positionAt}
+use Rattle.meaning.specs.Keys.{coordinates, coordinate}
+use Rattle.meaning.specs.Words.{wordIndex, wordAt, keyAt, coordinateAt, dimensionsAt, largestAt, cellsAt, baseAt, linkField, positionAt}
 use Rattle.meaning.specs.Walk.{linkRead, stepAlong, stepAt}
 use Rattle.meaning.specs.Layer.Stores.{store}
 use Rattle.meaning.specs.declared.Step.the-variants.{Go, Up, End}
-use Rattle.meaning.proofs.Keys.{coordinates-length}
+use Rattle.meaning.proofs.Keys.{coordinates-length, coordinate-last, coordinate-front}
 use Rattle.words.specs.Shaped.{Shaped, Within}
 
 -- The settings are words 0 to 3
@@ -86,16 +86,13 @@ stores-shaped {s = s} h x j vs = sets-shaped h (wordIndex (s .dimensions) x j) v
 pub word-is : {ws : List ℕ} {s : Settings} → Shaped ws s → (x j : ℕ) {i : ℕ} → i ≡ wordIndex (s .dimensions) x j → getD ws i 0 ≡ wordAt ws x j
 word-is h x j e = rw (shaped-dimensions h, e) refl
 
-pub link-is : {ws : List ℕ} {s : Settings} → Shaped ws s → (x d : ℕ) → wordAt ws x (linkField (s .dimensions) d) ≡ linkAt ws x d
-link-is h x d = rw (shaped-dimensions h) refl
-
 pub position-is : {ws : List ℕ} {s : Settings} → Shaped ws s → getD ws (headerWords + s .dimensions - 1) 0 ≡ positionAt ws
 position-is h = rw (shaped-dimensions h) refl
 
-pub link-within : {s : Settings} {x d : ℕ} → x < s .cells → d < s .dimensions → Within s x (linkField (s .dimensions) d)
+pub link-within : {s : Settings} {x d : ℕ} → x < s .cells → d < s .dimensions → Within s x (linkField d)
 link-within hx hd = record { cell = hx; field = omega arith }
 
-pub field-within : {s : Settings} {x j : ℕ} → x < s .cells → j < fieldsBeforeCoordinates → Within s x j
+pub field-within : {s : Settings} {x j : ℕ} → x < s .cells → j < fieldsBeforeLinks → Within s x j
 field-within hx hj = record { cell = hx; field = omega arith }
 
 -- Parts
@@ -108,11 +105,6 @@ part-words ws D x j n {start} {end} p q =
     let k : end - start ≡ n = omega arith in
     rw (k, p) refl
 
-pub part-coordinates :
-    (ws : List ℕ) (D x : ℕ) {start end : ℕ} → start ≡ wordIndex D x fieldsBeforeCoordinates → end ≡ start + D →
-    midOf start (end - start) ws ≡ take D (drop (wordIndex D x fieldsBeforeCoordinates) ws)
-part-coordinates ws D x = part-words ws D x fieldsBeforeCoordinates D
-
 -- the list with the part's words as they are after
 pub part-written :
     (ws ys : List ℕ) (D x j n : ℕ) {start end : ℕ} → start ≡ wordIndex D x j → end ≡ start + n → end ≤ length ws → length ys ≡ n →
@@ -121,8 +113,6 @@ part-written ws ys D x j n {start} {end} p q h long =
     let k : start + (end - start) ≡ start + length ys = omega arith in
     rw (← p, drop-drop (end - start) start ws, k)
     (sym (sets-eq ys ws start (omega arith) ∙ append-assoc (take start ws) ys (drop (start + length ys) ws)))
-
--- Words filled
 
 -- One step, by the cell's coordinate and the sought one
 
@@ -157,6 +147,22 @@ sought-inside b D k e h = rw (e, coordinates-length b D k) h
 
 -- Coordinates
 
+-- coordinate d of a cell, by its key
+pub coordinate-is : {ws : List ℕ} {s : Settings} → Shaped ws s → (x d : ℕ) {key : ℕ} → key ≡ keyAt ws x →
+    coordinate (s .base) (s .dimensions) key d ≡ coordinateAt ws x d
+coordinate-is {ws} {s} h x d e = ap (λ k. coordinate (s .base) (s .dimensions) k d) e ∙ rw (shaped-dimensions h, shaped-base h) refl
+
+-- one digit divided off
+pub coordinate-onward : {v : ℕ} (b d rest : ℕ) {n : ℕ} → v ≡ coordinate b (n + 1) rest d → d < n → v ≡ coordinate b (n - 1 + 1) (rest / b) d
+coordinate-onward b d rest {n} e h =
+    let there : n - 1 + 1 ≡ n = omega arith in
+    rw (there) (e ∙ ap (λ m. coordinate b m rest d) (add-one n) ∙ coordinate-front b n rest d h)
+
+pub coordinate-reached : {v : ℕ} (b d rest : ℕ) {n : ℕ} → v ≡ coordinate b (n + 1) rest d → n ≤ d → d < n + 1 → rest % b ≡ v
+coordinate-reached b d rest {n} e h l =
+    let here : n ≡ d = omega arith in
+    sym (e ∙ ap (λ m. coordinate b (m + 1) rest d) here ∙ ap (λ m. coordinate b m rest d) (add-one d) ∙ coordinate-last b d rest)
+
 pub coordinates-none : (b key : ℕ) (part : List ℕ) → coordinates b (length part) key ≡ coordinates b (length part) key ++ drop (length part) part
 coordinates-none b key part = rw (drop-length part, append-nil (coordinates b (length part) key)) refl
 
@@ -188,16 +194,3 @@ coordinates-first b D key l {ys} h e =
     let p : ys ≡ coordinates b D key = e ∙ ap (λ (n : ℕ). coordinates b n key) (length-take-le D l h) in
     let n : length ys ≡ D = ap length p ∙ coordinates-length b D key in
     (take-at ys (drop D l) D n ∙ p, omega (arith, length-append ys (drop D l), length-drop D l))
-
--- the coordinates written as cell x's
-pub coordinates-written :
-    {ws : List ℕ} {s : Settings} → Shaped ws s → (x key : ℕ) {ys : List ℕ} {start end : ℕ} → x < s .cells →
-    start ≡ wordIndex (s .dimensions) x fieldsBeforeCoordinates → end ≡ start + s .dimensions →
-    ys ≡ coordinates (s .base) (length (midOf start (end - start) ws)) key →
-    putMid start (end - start) ws ys ≡ sets ws (wordIndex (s .dimensions) x fieldsBeforeCoordinates) (coordinates (s .base) (s .dimensions) key)
-coordinates-written {ws} {s} h x key {ys} {start} {end} hx p q e =
-    let D = s .dimensions in
-    let inside : end ≤ length ws = omega (arith, part-inside h hx fieldsBeforeCoordinates D (omega arith)) in
-    let long : length (midOf start (end - start) ws) ≡ D = omega (arith, mid-len start end ws inside) in
-    let is : ys ≡ coordinates (s .base) D key = e ∙ ap (λ (n : ℕ). coordinates (s .base) n key) long in
-    rw is (part-written ws (coordinates (s .base) D key) D x fieldsBeforeCoordinates D p q inside (coordinates-length (s .base) D key))

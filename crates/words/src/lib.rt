@@ -5,7 +5,7 @@ ghost use mathlib.Core.Path.{_≡_};
 ghost use Prim.Native.Nat.{_<_, _≤_};
 ghost use lib.ListN.{length, take, replicate};
 ghost use Rattle.settings.specs.Numbers.{mostDimensions, mostCells};
-ghost use Rattle.meaning.specs.Keys.{coordinates};
+ghost use Rattle.meaning.specs.Keys.{coordinates, coordinate};
 ghost use Rattle.meaning.specs.Words.{wordIndex, wordAt, positionAt, owedAt, coordinateAt, linkField, linkAt};
 ghost use Rattle.meaning.specs.Walk.{linkRead, stepAt};
 ghost use Rattle.meaning.specs.Layer.Stores as stores;
@@ -32,7 +32,7 @@ pub const LOW: u32 = 4;
 
 pub const HIGH: u32 = 5;
 
-pub const COORDINATES: u32 = Settings::FIELDS_BEFORE_COORDINATES;
+pub const LINKS: u32 = Settings::FIELDS_BEFORE_LINKS;
 
 // The words 1: the marks.
 pub const FREE: u32 = 0;
@@ -79,20 +79,26 @@ pub fn position(list: &[u32], s: Settings) -> u32
     list[i]
 }
 
-// Where link d stands in a cell.
-pub fn link_field(s: Settings, d: u32) -> u32
-    requires { ⌜ (s .dimensions ≤ mostDimensions) × (d < s .dimensions) ⌝ }
-    ensures { λ r. ⌜ r ≡ linkField (s .dimensions) d ⌝ }
+// Coordinate d of a key: its digits after that one are divided off.
+pub fn key_coordinate(s: Settings, key: u32, d: u32) -> u32
+    requires { ⌜ (0 < s .base) × (d < s .dimensions) ⌝ }
+    ensures { λ r. ⌜ r ≡ coordinate (s .base) (s .dimensions) key d ⌝ }
 {
-    COORDINATES + s.dimensions + d
+    let mut rest = key;
+    let mut n = s.dimensions - 1;
+    while d < n {
+        rest = rest / s.base;
+        n -= 1;
+    }
+    rest % s.base
 }
 
-// Coordinate d of cell x, as its word has it.
-pub fn coordinate(list: &[u32], s: Settings, x: u32, d: u32) -> u32
-    requires { ⌜ Shaped (now list) s × ((x < s .cells) × (d < s .dimensions)) ⌝ }
+// Coordinate d of cell x.
+pub fn cell_coordinate(list: &[u32], s: Settings, x: u32, d: u32) -> u32
+    requires { ⌜ Shaped (now list) s × ((0 < s .base) × ((x < s .cells) × (d < s .dimensions))) ⌝ }
     ensures { λ r. ⌜ r ≡ coordinateAt (now (list .entry)) x d ⌝ }
 {
-    word(list, s, x, COORDINATES + d)
+    key_coordinate(s, word(list, s, x, KEY), d)
 }
 
 // Link d of cell x, as its word has it.
@@ -100,15 +106,15 @@ pub fn link(list: &[u32], s: Settings, x: u32, d: u32) -> u32
     requires { ⌜ Shaped (now list) s × ((x < s .cells) × (d < s .dimensions)) ⌝ }
     ensures { λ r. ⌜ r ≡ linkAt (now (list .entry)) x d ⌝ }
 {
-    word(list, s, x, link_field(s, d))
+    word(list, s, x, LINKS + d)
 }
 
 // Link d of cell x becomes v.
 pub fn store_link(list: &mut [u32], s: Settings, x: u32, d: u32, v: u32)
     requires { ⌜ Shaped (now list) s × ((x < s .cells) × (d < s .dimensions)) ⌝ }
-    ensures { λ r. ⌜ (now (list .exit) ≡ stores.store (s .dimensions) (now (list .entry)) x (linkField (s .dimensions) d) v) × Shaped (now (list .exit)) s ⌝ }
+    ensures { λ r. ⌜ (now (list .exit) ≡ stores.store (s .dimensions) (now (list .entry)) x (linkField d) v) × Shaped (now (list .exit)) s ⌝ }
 {
-    store(list, s, x, link_field(s, d), v);
+    store(list, s, x, LINKS + d, v);
 }
 
 // Link d of cell x, read from the owed cell where x owes it.
@@ -131,10 +137,10 @@ pub fn link_read(list: &[u32], s: Settings, x: u32, d: u32) -> u32
 
 // One step of the walk for k from cell x and coordinate d, where `sought` holds k's coordinates.
 pub fn step(list: &[u32], s: Settings, sought: &[u32], k: u32, x: u32, d: u32) -> Step
-    requires { ⌜ Shaped (now list) s × ((now sought ≡ coordinates (s .base) (s .dimensions) k) × ((x < s .cells) × ((d < s .dimensions) × (owedAt (now list) x < s .cells)))) ⌝ }
+    requires { ⌜ Shaped (now list) s × ((0 < s .base) × ((now sought ≡ coordinates (s .base) (s .dimensions) k) × ((x < s .cells) × ((d < s .dimensions) × (owedAt (now list) x < s .cells))))) ⌝ }
     ensures { λ r. ⌜ r ≡ stepAt (now (list .entry)) k x d ⌝ }
 {
-    let own = coordinate(list, s, x, d);
+    let own = cell_coordinate(list, s, x, d);
     let wanted = sought[d as usize];
     if own < wanted {
         let y = link_read(list, s, x, d);

@@ -16,15 +16,19 @@ abbrev μ-loop : tie.MeasureT-loop
 returns : tie.Need-returns Inv-loop μ-loop
 returns c =
     let v = c .before .before .before .before in
-    zero-last (v .before .before .pre .1) (v .loop .inv) (omega arith) (c .before .coordinate .ensures) (c .if2 .taken)
+    let p = v .before .before .pre in
+    zero-last (p .0) (p .1) (v .loop .inv) (c .before .cell-coordinate .ensures) (c .if2 .taken)
 
 loop-again : tie.Need-loop-again Inv-loop μ-loop
 loop-again c =
     let v = c .before .before .before .before in
-    zero-more (v .before .before .pre .1) (v .loop .inv) (omega arith) (c .before .coordinate .ensures) (omega arith)
+    let p = v .before .before .pre in
+    zero-more (p .0) (p .1) (v .loop .inv) (omega arith) (c .before .cell-coordinate .ensures) (omega arith)
 
 returns-2 : tie.Need-returns-2 Inv-loop μ-loop
-returns-2 c = zero-all (c .before .before .before .before .pre .1) (c .before .before .loop .inv) (omega arith)
+returns-2 c =
+    let p = c .before .before .before .before .pre in
+    zero-all (p .0) (p .1) (c .before .before .loop .inv) (omega arith)
 
 pub leading-zeros-spec : {M : Type 1} → statement M
 leading-zeros-spec =

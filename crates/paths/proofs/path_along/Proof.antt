@@ -21,13 +21,13 @@ head-path-requires c κs = c .before .before .pre .0 .shaped .dimensions-most
 loop-holds : tie.Need-loop-holds Inv-loop μ-loop
 loop-holds c =
     let p = c .before .before .before .pre in
-    building-start (p .0) (p .1 .1) (c .head-path .ensures .0) (c .head-path .ensures .1)
+    building-start (p .0) (p .1 .1 .1) (c .head-path .ensures .0) (c .head-path .ensures .1)
 
 step-requires : tie.Need-step-requires Inv-loop μ-loop
 step-requires c κs =
     let p = c .before .before .before .before .pre in
     let w = c .loop .inv .walking in
-    (p .0 .shaped, (p .1 .0, (w .cell, (w .inside, p .0 .owed (c .loop .at) (w .cell)))))
+    (p .0 .shaped, (p .1 .0, (p .1 .1 .0, (w .cell, (w .inside, p .0 .owed (c .loop .at) (w .cell))))))
 
 onward-requires : tie.Need-onward-requires Inv-loop μ-loop
 onward-requires c κs =

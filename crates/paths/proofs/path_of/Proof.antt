@@ -45,7 +45,7 @@ path-along-requires : tie.Need-path-along-requires
 path-along-requires c κs =
     let word = c .before .before .before in
     let h = word .before .before .before .pre .in-it in
-    (stands-walkable h, (c .before .before .coordinates-of .ensures .0, stands-ends h (word .before .if1 .left) (word .word .ensures)))
+    (stands-walkable h, (stands-base h, (c .before .before .coordinates-of .ensures .0, stands-ends h (word .before .if1 .left) (word .word .ensures))))
 
 returns-2 : tie.Need-returns-2
 returns-2 c =

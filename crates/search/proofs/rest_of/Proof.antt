@@ -3,7 +3,7 @@
 use native.Mathlib.Omega.{arith}
 use lib.ListN.{length}
 use borrow.Author.Needs.{needs}
-use Rattle.words.proofs.Listed.{listed-shaped, listed-owed}
+use Rattle.words.proofs.Listed.{listed-shaped, listed-base, listed-owed}
 use Rattle.words.proofs.Walking.{trailAt, left-go, left-up}
 use Rattle.search.proofs.Searching.{Searching, searching-start, looked-fits, searching-go, searching-up, searching-end}
 use Rattle.search.proofs.rest_of.Statement.{statement}
@@ -25,7 +25,7 @@ step-requires : tie.Need-step-requires Inv-loop μ-loop
 step-requires c κs =
     let s = c .before .before .before in
     let w = c .loop .inv .walking in
-    (listed-shaped (s .pre .0), (s .pre .1 .1 .1, (w .cell, (w .inside, listed-owed (s .pre .0) (c .loop .at) (w .cell)))))
+    (listed-shaped (s .pre .0), (listed-base (s .pre .0), (s .pre .1 .1 .1, (w .cell, (w .inside, listed-owed (s .pre .0) (c .loop .at) (w .cell))))))
 
 add-looked : tie.Need-add-looked Inv-loop μ-loop
 add-looked c =

@@ -9,41 +9,41 @@ use Rattle.words.proofs.step.Tie as tie
 shared-slice-read-wanted : tie.Need-shared-slice-read-wanted
 shared-slice-read-wanted c =
     let s = c .before .before .before .before in
-    sought-inside (s .args .s .base) (s .args .s .dimensions) (s .args .k) (s .pre .1 .0) (s .pre .1 .1 .1 .0)
+    sought-inside (s .args .s .base) (s .args .s .dimensions) (s .args .k) (s .pre .1 .1 .0) (s .pre .1 .1 .1 .1 .0)
 
 returns : tie.Need-returns
 returns c =
     let s = c .before .before .before .before .before .before .before in
     sym
-    (step-none (s .pre .0) (s .args .k) (s .args .x) (s .args .d) (s .pre .1 .0) (c .before .before .before .before .coordinate .ensures)
+    (step-none (s .pre .0) (s .args .k) (s .args .x) (s .args .d) (s .pre .1 .1 .0) (c .before .before .before .before .cell-coordinate .ensures)
     (c .before .before .if1 .taken) (c .before .link-read .ensures) (c .if2 .taken))
 
 returns-2 : tie.Need-returns-2
 returns-2 c =
     let s = c .before .before .before .before .before .before .before in
     sym
-    (step-go (s .pre .0) (s .args .k) (s .args .x) (s .args .d) (s .pre .1 .0) (c .before .before .before .before .coordinate .ensures)
+    (step-go (s .pre .0) (s .args .k) (s .args .x) (s .args .d) (s .pre .1 .1 .0) (c .before .before .before .before .cell-coordinate .ensures)
     (c .before .before .if1 .taken) (c .before .link-read .ensures) (c .if2 .left))
 
 returns-3 : tie.Need-returns-3
 returns-3 c =
     let s = c .before .before .before .before .before .before .before .before in
     sym
-    (step-last (s .pre .0) (s .args .k) (s .args .x) (s .args .d) (s .pre .1 .0) (c .before .before .before .before .before .coordinate .ensures)
+    (step-last (s .pre .0) (s .args .k) (s .args .x) (s .args .d) (s .pre .1 .1 .0) (c .before .before .before .before .before .cell-coordinate .ensures)
     (c .before .before .if3 .taken) (c .if4 .taken))
 
 returns-4 : tie.Need-returns-4
 returns-4 c =
     let s = c .before .before .before .before .before .before .before .before in
     sym
-    (step-up (s .pre .0) (s .args .k) (s .args .x) (s .args .d) (s .pre .1 .0) (c .before .before .before .before .before .coordinate .ensures)
+    (step-up (s .pre .0) (s .args .k) (s .args .x) (s .args .d) (s .pre .1 .1 .0) (c .before .before .before .before .before .cell-coordinate .ensures)
     (c .before .before .if3 .taken) (c .if4 .left))
 
 returns-5 : tie.Need-returns-5
 returns-5 c =
     let s = c .before .before .before .before .before .before in
     sym
-    (step-above (s .pre .0) (s .args .k) (s .args .x) (s .args .d) (s .pre .1 .0) (c .before .before .before .coordinate .ensures)
+    (step-above (s .pre .0) (s .args .k) (s .args .x) (s .args .d) (s .pre .1 .1 .0) (c .before .before .before .cell-coordinate .ensures)
     (omega arith))
 
 pub step-spec : {M : Type 1} → statement M
