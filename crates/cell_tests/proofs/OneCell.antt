@@ -3,7 +3,6 @@ use mathlib.Core.Path.{_≡_, refl, sym, ap, _∙_}
 use mathlib.Core.Bool.{Bool, true, false, _&&_, and-false, or-false}
 use mathlib.Core.List.{List, [], _∷_}
 use Prim.Native.Nat.{ℕ, suc, _+_, _-_, _%_, _^_, _≤_, _<_}
-use native.Mathlib.Nat.{one-le-pow}
 use native.Mathlib.Numerals.{add-one}
 use native.Mathlib.Omega.{arith}
 use lib.Dec.{eqb, ltb}
@@ -27,9 +26,6 @@ use Rattle.cell_tests.proofs.Tests.{refuted, all-start}
 
 -- cell y after cell x, by the powers of the levels e and e + 1
 module _ {ws : List ℕ} {s : Settings} (h : Shaped ws s) {powers : List ℕ} (p : PowersOf s powers) (x y : ℕ) {e : ℕ} (inside : e < s .dimensions) where
-  pub level-some : {d : ℕ} → d ≤ s .dimensions → 0 < getD powers d 0
-  level-some {d} l = rw (p .level d l) (one-le-pow (s .dimensions - d) (s .base) (p .some))
-
   start-is : {key n : ℕ} (d : ℕ) → d ≤ s .dimensions → key ≡ keyAt ws y → n ≡ key - key % getD powers d 0 →
       blockStart (baseAt ws) (dimensionsAt ws) (keyAt ws y) d ≡ n
   unfolding blockStart

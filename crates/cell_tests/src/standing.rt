@@ -1,6 +1,6 @@
 // Whether one standing cell is right: when it is met by a link, after the cell that was read before it, and when its links are put.
 ghost use mathlib.Core.Path.{_≡_};
-ghost use Prim.Native.Nat.{_-_, _%_, _≤_, _<_};
+ghost use Prim.Native.Nat.{_≤_, _<_};
 ghost use Rattle.settings.specs.Levels.{PowersOf};
 ghost use Rattle.words.specs.Shaped.{Shaped};
 ghost use Rattle.tree.specs.Tree.{follows, nodeRight};
@@ -8,15 +8,6 @@ ghost use Rattle.tree.specs.Loop.{aloneRight, linksNone, owesNothing, owesRight
 ghost use Rattle.cell_tests.specs.Tests.{onlyLink};
 use settings::Settings;
 use tree::Seen;
-
-// Where the block of a key starts whose level has this power of b.
-fn block_start(key: u32, power: u64) -> u64
-    requires { ⌜ 0 < power ⌝ }
-    ensures { λ r. ⌜ r ≡ key - key % power ⌝ }
-{
-    let k = key as u64;
-    k - k % power
-}
 
 // Whether cell y comes after cell x in key order and shares exactly e coordinates with it.
 fn cell_follows(list: &[u32], s: Settings, powers: &[u64], x: u32, y: u32, e: u32) -> bool
@@ -26,10 +17,10 @@ fn cell_follows(list: &[u32], s: Settings, powers: &[u64], x: u32, y: u32, e: u3
     let before = words::word(list, s, x, words::KEY) as u64;
     let key = words::word(list, s, y, words::KEY);
     let d = e as usize;
-    if before < block_start(key, powers[d]) {
+    if before < words::block_start(key, powers[d]) {
         return false;
     }
-    before < block_start(key, powers[d + 1])
+    before < words::block_start(key, powers[d + 1])
 }
 
 // Whether the key of cell y is at most K, and its mark and value are right: dead as long as the position has not been read.

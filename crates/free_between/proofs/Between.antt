@@ -2,34 +2,39 @@
 -- it in the words of the call. Each law takes one turn, or the end.
 use mathlib.Core.Path.{_≡_, refl, sym, ap, _∙_, subst}
 use mathlib.Core.List.{List, _∷_}
-use Prim.Native.Nat.{ℕ, suc, _+_, _*_, _-_, _≤_, _<_}
+use Prim.Native.Nat.{ℕ, suc, _+_, _*_, _-_, _^_, _≤_, _<_}
 use native.Mathlib.Numerals.{add-one}
 use native.Mathlib.Omega.{arith}
 use lib.ListN.{length, getD, set, replicate, length-replicate}
 use lib.Seq.{sets}
 use borrow.Rule.Slice.PartMut.{midOf, putMid, mid-len}
 use Rattle.settings.specs.Numbers.{cellWords}
+use Rattle.settings.specs.Levels.{PowersOf}
 use Rattle.settings.specs.declared.Settings.{Settings}
 use Rattle.meaning.specs.Picture.{freeWords}
-use Rattle.meaning.specs.Words.{wordIndex, wordAt, keyAt, coordinateAt, linkAt, firstFreeAt, linkField}
+use Rattle.meaning.specs.Words.{wordIndex, wordAt, keyAt, linkAt, firstFreeAt, linkField}
 use Rattle.meaning.specs.Layer.Stores.{store}
 use Rattle.meaning.specs.Layer.SweepStores.{takeLinks, relinkHead, freeCell}
 use Rattle.meaning.proofs.Keys.{shared-le}
-use Rattle.meaning.proofs.SweepRow.{zeros-past, zeros-stop}
+use Rattle.meaning.proofs.Blocks.{shared-zeros}
 use Rattle.words.specs.Shaped.{Shaped, Within}
-use Rattle.words.proofs.Shaped.{shaped-dimensions, word-is, coordinate-is, part-inside, part-written}
+use Rattle.words.proofs.Shaped.{shaped-dimensions, word-is, part-inside, part-written}
 use Rattle.free_between.specs.Between.{zerosOf, Keyed, freeChained, ChainIn}
 
 -- Leading zeros
 
-module _ {ws : List ℕ} {s : Settings} (shaped : Shaped ws s) {x : ℕ} (k : Keyed ws s x) {d : ℕ} (upto : d ≤ zerosOf ws s x) where
-  pub zero-more : {r : ℕ} → d < s .dimensions → r ≡ coordinateAt ws x d → r ≡ 0 → d + 1 ≤ zerosOf ws s x
-  zero-more h e none =
-      omega (arith, zeros-past (s .base) (s .dimensions) (k .base) (keyAt ws x) (k .fits) d h upto (coordinate-is shaped x d refl ∙ sym e ∙ none))
+module _ {ws : List ℕ} {s : Settings} {x : ℕ} (k : Keyed ws s x) {powers : List ℕ} (p : PowersOf s powers) {d : ℕ} (upto : d ≤ zerosOf ws s x) {key : ℕ}
+    (is : key ≡ keyAt ws x) where
+  level : d < s .dimensions → getD powers (d + 1) 0 ≡ s .base ^ (s .dimensions - suc d)
+  level h = rw (add-one d) (p .level (suc d) h)
 
-  pub zero-last : {r : ℕ} → r ≡ coordinateAt ws x d → (r ≡ 0 → ⊥) → d ≡ zerosOf ws s x
-  zero-last e some =
-      sym (zeros-stop (s .base) (s .dimensions) (k .base) (keyAt ws x) (k .fits) d upto (λ z. some (e ∙ sym (coordinate-is shaped x d refl) ∙ z)))
+  pub zero-more : d < s .dimensions → key < getD powers (d + 1) 0 → d + 1 ≤ zerosOf ws s x
+  zero-more h less =
+      omega (arith, shared-zeros (s .base) (s .dimensions) (keyAt ws x) (suc d) (k .base) (k .fits) h .0 (omega (arith, less, is, level h)))
+
+  pub zero-last : d < s .dimensions → getD powers (d + 1) 0 ≤ key → d ≡ zerosOf ws s x
+  zero-last h more =
+      omega (arith, upto, shared-zeros (s .base) (s .dimensions) (keyAt ws x) (suc d) (k .base) (k .fits) h .1 (omega (arith, more, is, level h)))
 
   pub zero-all : s .dimensions ≤ d → d ≡ zerosOf ws s x
   zero-all h = omega (arith, shared-le (s .base) (s .dimensions) 0 (keyAt ws x))

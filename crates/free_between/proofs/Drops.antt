@@ -21,7 +21,7 @@ use Rattle.meaning.proofs.PathNext.{way-key}
 use Rattle.meaning.proofs.SweepStores.{Dropping}
 use Rattle.meaning.proofs.SweepFinish.{paid-owes-nothing}
 use Rattle.meaning.proofs.SweepWords.{swept-front, sweptZeros, swept-dropping, unowing-swept}
-use Rattle.words.proofs.Listed.{on-listed}
+use Rattle.words.proofs.Listed.{power-fits, on-listed}
 use Rattle.paths.specs.Paths.{pathOf}
 use Rattle.free_between.specs.declared.Target.{Target}
 use Rattle.free_between.specs.Between.{Droppable, zerosOf, Keyed}
@@ -51,6 +51,7 @@ module _ (u : State) (v : Sound u) (unowing : All (λ x. x .owes ≡ false) (u .
       record {
         cell = placed-below v here;
         base = base-positive u v;
+        power = power-fits u v;
         fits = rw (place-key v here) (key-below v here);
       }
 

@@ -44,10 +44,11 @@ pub record Droppable (ws : List ℕ) (s : Settings) (t : Target) : Type 0 where
 abbrev pub zerosOf : List ℕ → Settings → ℕ → ℕ
 zerosOf ws s x = shared (s .base) (s .dimensions) 0 (keyAt ws x)
 
--- cell x is one of the list's, and its key has D coordinates
+-- cell x is one of the list's, its key has D coordinates, and the powers of b fit into 64 bits
 pub record Keyed (ws : List ℕ) (s : Settings) (x : ℕ) : Type 0 where
   pub cell : x < s .cells
   pub base : 0 < s .base
+  pub power : s .base ^ s .dimensions < 2 ^ 64
   pub fits : keyAt ws x < s .base ^ s .dimensions
 
 -- The cells between

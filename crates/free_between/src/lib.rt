@@ -68,14 +68,17 @@ fn chain_between(list: &mut [u32], s: Settings, position: u32) -> Freed
     }
 }
 
-// How many leading coordinates of cell x are 0: what it shares with the head.
+// How many leading coordinates of cell x are 0: what it shares with the head. Those up to number d are 0 if its key is below the power of
+// level d + 1.
 fn leading_zeros(list: &[u32], s: Settings, x: u32) -> u32
     requires { ⌜ Shaped (now list) s × Keyed (now list) s x ⌝ }
     ensures { λ r. ⌜ r ≡ zerosOf (now (list .entry)) s x ⌝ }
 {
+    let powers = s.powers();
+    let key = words::word(list, s, x, words::KEY) as u64;
     let mut d: u32 = 0;
     while d < s.dimensions {
-        if words::cell_coordinate(list, s, x, d) != 0 {
+        if powers.of[d as usize + 1] <= key {
             return d;
         }
         d += 1;

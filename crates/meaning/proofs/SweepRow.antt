@@ -65,11 +65,3 @@ path-shifts b D pos deep front x later d asc apart h =
         (λ e. omega arith, λ e. omega arith))
         later (asc-larger 0 front x later asc))
 
--- Leading zeros: what a key shares with the head, coordinate by coordinate
-
-module _ (b D : ℕ) (pos : 0 < b) (key : ℕ) (below : key < b ^ D) where
-  pub zeros-past : (d : ℕ) → d < D → d ≤ shared b D 0 key → coordinate b D key d ≡ 0 → d < shared b D 0 key
-  zeros-past d h l e = shared-past b D 0 key d pos (omega arith) below h l (coordinate-head b D d ∙ sym e)
-
-  pub zeros-stop : (d : ℕ) → d ≤ shared b D 0 key → (coordinate b D key d ≡ 0 → ⊥) → shared b D 0 key ≡ d
-  zeros-stop d l ne = shared-stop b D 0 key d l (λ e. ne (sym e ∙ coordinate-head b D d))

@@ -2,11 +2,13 @@
 use mathlib.Core.Path.{_≡_, refl, sym, _∙_, ap}
 use mathlib.Core.List.{List}
 use Prim.Native.Nat.{ℕ, _+_, _*_, _-_, _^_, _≤_, _<_}
-use native.Mathlib.Nat.{pow-zero, pow-le-pow-right}
+use native.Mathlib.Nat.{pow-zero, one-le-pow, pow-le-pow-right}
 use native.Mathlib.Decide.{ℕ-discrete}
 use native.Mathlib.Omega.{arith}
 use lib.ListN.{length, getD, set, replicate, getD-replicate}
 use lib.Seq.{getD-set-same, getD-set-other}
+use Rattle.settings.specs.declared.Settings.{Settings}
+use Rattle.settings.specs.Levels.{PowersOf}
 use Rattle.settings.proofs.Numbers.{power-more}
 
 -- the powers from level d up to level `top`
@@ -38,3 +40,7 @@ pub level-fits : (b top d : ℕ) {v : ℕ} → 0 < b → d ≤ top → 0 < d →
 level-fits b top d pos h some e fits =
     let less : top - d + 1 ≤ top = omega arith in
     omega (arith, power-more b (top - d) e, pow-le-pow-right pos less)
+
+-- no power is 0
+pub power-some : {s : Settings} {powers : List ℕ} → PowersOf s powers → {d : ℕ} → d ≤ s .dimensions → 0 < getD powers d 0
+power-some {s} p {d} h = rw (p .level d h) (one-le-pow (s .dimensions - d) (s .base) (p .some))

@@ -1,7 +1,8 @@
 -- `cell_tests::standing::cell_follows` meets its contract: the two starts are those of the levels e and e + 1.
 use native.Mathlib.Omega.{arith}
 use borrow.Author.Needs.{needs}
-use Rattle.cell_tests.proofs.OneCell.{level-some, follows-not, follows-to}
+use Rattle.settings.proofs.Levels.{power-some}
+use Rattle.cell_tests.proofs.OneCell.{follows-not, follows-to}
 use Rattle.cell_tests.proofs.standing.cell_follows.Statement.{statement}
 use Rattle.cell_tests.proofs.standing.cell_follows.Tie as tie
 
@@ -11,7 +12,7 @@ read-level c = let s = c .before .before .before .before .before in omega (arith
 block-start-requires : tie.Need-block-start-requires
 block-start-requires c κs =
     let s = c .before .before .before .before .before in
-    level-some (s .pre .0) (s .pre .1 .0) (s .args .x) (s .args .y) (s .pre .1 .1 .1 .1) (omega (arith, s .pre .1 .1 .1 .1))
+    power-some (s .pre .1 .0) (omega (arith, s .pre .1 .1 .1 .1))
 
 returns : tie.Need-returns
 returns c =
@@ -25,7 +26,7 @@ read-next c = let s = c .before .before .before .before .before .before .before 
 block-start-requires-2 : tie.Need-block-start-requires-2
 block-start-requires-2 c κs =
     let s = c .before .before .before .before .before .before .before .before in
-    level-some (s .pre .0) (s .pre .1 .0) (s .args .x) (s .args .y) (s .pre .1 .1 .1 .1) (omega (arith, s .pre .1 .1 .1 .1))
+    power-some (s .pre .1 .0) (omega (arith, s .pre .1 .1 .1 .1))
 
 returns-2 : tie.Need-returns-2
 returns-2 c =

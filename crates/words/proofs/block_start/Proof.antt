@@ -1,9 +1,9 @@
--- `cell_tests::standing::block_start` meets its contract: what is left of the key is at most the key.
+-- `words::block_start` meets its contract: what is left of the key is at most the key.
 use native.Mathlib.Nat.{mod-le}
 use native.Mathlib.Omega.{arith}
 use borrow.Author.Needs.{needs}
-use Rattle.cell_tests.proofs.standing.block_start.Statement.{statement}
-use Rattle.cell_tests.proofs.standing.block_start.Tie as tie
+use Rattle.words.proofs.block_start.Statement.{statement}
+use Rattle.words.proofs.block_start.Tie as tie
 
 sub-result : tie.Need-sub-result
 sub-result c = mod-le (c .args .key) (c .args .power)
