@@ -1,6 +1,6 @@
 -- The tests of one cell, as the code makes them: its block, its node, its debt, and all that is tested when it is met.
 use mathlib.Core.Path.{_≡_, refl, sym, ap, _∙_}
-use mathlib.Core.Bool.{Bool, true, false, _&&_, and-false, or-false}
+use mathlib.Core.Bool.{Bool, true, false, and-false, or-false}
 use mathlib.Core.List.{List, [], _∷_}
 use Prim.Native.Nat.{ℕ, suc, _+_, _-_, _%_, _^_, _≤_, _<_}
 use native.Mathlib.Numerals.{add-one}

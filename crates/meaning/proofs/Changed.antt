@@ -3,15 +3,15 @@
 -- position, the cells and the keys.
 use mathlib.Core.Path.{_≡_, refl, sym, ap, ap₂, _∙_, fun-ext}
 use mathlib.Core.Bool.{Bool, true, false, cond, _&&_}
-use mathlib.Core.List.{List, [], _∷_, _++_, map}
+use mathlib.Core.List.{List, [], _∷_, map}
 use mathlib.Core.Option.{Option, none, some}
 use Prim.Native.Nat.{ℕ, zero, suc, _+_, _<_}
 use native.Mathlib.Omega.{arith}
 use lib.Dec.{eqb, leb}
 use lib.ListN.{length, getD}
-use Rattle.settings.specs.Numbers.{headerWords, fieldsBeforeLinks, cellWords}
+use Rattle.settings.specs.Numbers.{headerWords, cellWords}
 use Rattle.lists.specs.Lists.{numbersFrom}
-use Rattle.meaning.specs.Keys.{coordinates, coordinate, shared}
+use Rattle.meaning.specs.Keys.{shared}
 use Rattle.meaning.specs.Row.{Node, headNode, firstOf, firstSharing, Place, placeOf, settledLink, between, link}
 use Rattle.meaning.specs.State.{State, keyOf, positionKey, placesOf}
 use Rattle.meaning.specs.Picture.{mark, standingWords, wordsOf, firstWith, pathWord, path, picture}

@@ -11,7 +11,7 @@ use Rattle.settings.specs.Numbers.{headerWords}
 use Rattle.lists.specs.Lists.{firstNumber}
 use Rattle.lists.proofs.Occurrences.{all-occur, occurs-has}
 use Rattle.lists.proofs.All.{All, all-map, all-zip, all-mapped, all-in}
-use Rattle.meaning.specs.Keys.{coordinate, shared}
+use Rattle.meaning.specs.Keys.{shared}
 use Rattle.meaning.specs.Row.{headNode, Place, places}
 use Rattle.meaning.specs.Picture.{nextFree, firstWith, pathWord, picture}
 use Rattle.meaning.specs.Reading.{isList}

@@ -18,11 +18,11 @@ use Rattle.lists.specs.Lists.{numbersFrom, firstNumber}
 use Rattle.lists.proofs.Numbers.{made-at, made-length}
 use Rattle.lists.proofs.All.{All, all-left}
 use Rattle.lists.proofs.Tests.{both}
-use Rattle.meaning.specs.Keys.{coordinates, coordinate, shared}
+use Rattle.meaning.specs.Keys.{shared}
 use Rattle.meaning.specs.Row.{Node, headNode, firstOf, Place, places, owed, low, high, link, placeOf}
 use Rattle.meaning.specs.State.{State, placesOf}
 use Rattle.meaning.specs.Picture.{mark, standingWords, nextFree, freeWords, wordsOf, path, picture}
-use Rattle.meaning.specs.Words.{wordIndex, wordAt, coordinateAt, linkAt, linkField}
+use Rattle.meaning.specs.Words.{wordIndex, wordAt, linkAt, linkField}
 use Rattle.meaning.specs.Operations.{Slot, newNode, slotOwes}
 use Rattle.meaning.specs.Layer.Stores.{store, writePath, newWords}
 use Rattle.meaning.proofs.State.{Sound, base-positive}
@@ -31,7 +31,7 @@ use Rattle.meaning.proofs.Places.{lastFrom, dimensionFrom}
 use Rattle.meaning.proofs.Parent.{dimensionAfter, Without, Apart, asc-last, place-at}
 use Rattle.meaning.proofs.Slot.{Gap, sound-apart, dimensions-positive, SlotIs}
 use Rattle.meaning.proofs.KeepsInsert.{slot-first}
-use Rattle.meaning.proofs.Placed.{Placed, place-word, place-key, place-value, place-mark, place-owed, place-low, place-high, place-coordinate}
+use Rattle.meaning.proofs.Placed.{Placed, place-word, place-key, place-value, place-mark, place-owed, place-low, place-high}
 use Rattle.meaning.proofs.Placed.{place-link, free-cell-word}
 use Rattle.meaning.proofs.Stores.{Exact, picture-exact, field-cases, words-equal, exact-set, exact-sets, header-set-word, store-same}
 use Rattle.meaning.proofs.Stores.{store-other, store-below, cell-sets-inside, cell-sets-other, cell-sets-below, path-sets-header}

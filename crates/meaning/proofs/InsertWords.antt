@@ -31,7 +31,7 @@ use Rattle.meaning.proofs.Slot.{Gap, gap, SlotIs, slot-is, gap-changed}
 use Rattle.meaning.proofs.Smaller.{split-next-smaller}
 use Rattle.meaning.proofs.KeepsInsert.{added-row, added-position-lowered, added-position-kept, added-sound-at, parentPaid, bothPaid, both-sound, both-gap, both-position}
 use Rattle.meaning.proofs.Placed.{Placed, head-placed, placed-keyOf, placed-below, place-standing, place-word, place-key, place-value}
-use Rattle.meaning.proofs.Placed.{placed-node, placed-cell, cell-standing, place-mark, place-owed, place-coordinate, place-link}
+use Rattle.meaning.proofs.Placed.{placed-node, placed-cell, cell-standing, place-mark, place-owed, place-link}
 use Rattle.meaning.proofs.Stores.{finishWords-none}
 use Rattle.meaning.proofs.SentencesShape.{place-settled}
 use Rattle.meaning.proofs.Sentences.{position-is, position-key-is, picture-sentences}

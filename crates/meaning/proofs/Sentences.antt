@@ -33,7 +33,7 @@ use Rattle.meaning.proofs.SentencesRow.Led.{head, led}
 use Rattle.meaning.proofs.SentencesRow.Compared.{same, later, earlier}
 use Rattle.meaning.proofs.SentencesRow.Least.{least, nowhere}
 use Rattle.meaning.proofs.Placed.{Placed, placed-has, placed-node, placed-cell, placed-keyOf, placed-most, head-placed, place-key, place-value}
-use Rattle.meaning.proofs.Placed.{place-mark, place-owed, place-low, place-high, place-coordinate, place-link, place-standing, free-cell-first}
+use Rattle.meaning.proofs.Placed.{place-mark, place-owed, place-low, place-high, place-link, place-standing, free-cell-first}
 use Rattle.meaning.proofs.Placed.{free-cell-rest, free-cell-free, cell-standing, cell-unfound, cell-free, free-cell, position-placed}
 use Rattle.meaning.proofs.Placed.{place-unowing}
 use Rattle.meaning.proofs.SentencesShape.{NextIn, LedIn, HasPlace, placed-shared, placed-led, placed-compared, next-larger}

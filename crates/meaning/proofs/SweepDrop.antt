@@ -14,7 +14,7 @@ use Rattle.settings.specs.Numbers.{headerWords, fieldsBeforeLinks, cellWords}
 use Rattle.lists.specs.Lists.{occurrences}
 use Rattle.lists.proofs.Occurrences.{Distinct, occurrences-none, distinct-left, occurrences-reverseAux, occurs-has}
 use Rattle.lists.proofs.All.{All, all-left, all-right, all-mapped, all-at}
-use Rattle.meaning.specs.Keys.{coordinate, shared}
+use Rattle.meaning.specs.Keys.{shared}
 use Rattle.meaning.specs.Row.{Node, headNode, firstSharing, Place, headPlace, placesAfter, places, settledLink, placeOf}
 use Rattle.meaning.specs.State.{State, positionKey, placesOf}
 use Rattle.meaning.specs.Picture.{nextFree, freeWords, wordsOf, firstWith, picture}

@@ -9,7 +9,7 @@ use native.Mathlib.Nat.{zero-add}
 use native.Mathlib.Decide.{decLe}
 use native.Mathlib.Omega.{arith}
 use lib.Dec.{eqb, leb, ltb}
-use lib.ListN.{length, getD, List·getD-append}
+use lib.ListN.{length, getD}
 use lib.Seq.{getD-append-add}
 use borrow.Author.Tests.{lt-ltb, le-leb, eq-eqb, leb-true, ltb-true}
 use Rattle.settings.specs.Numbers.{fieldsBeforeLinks, cellWords}
@@ -17,7 +17,7 @@ use Rattle.lists.specs.Lists.{numbersFrom}
 use Rattle.lists.proofs.Numbers.{made-at}
 use Rattle.lists.proofs.All.{All, all-map, all-zip}
 use Rattle.lists.proofs.Tests.{both, and-both}
-use Rattle.meaning.specs.Keys.{coordinates, coordinate, shared}
+use Rattle.meaning.specs.Keys.{shared}
 use Rattle.meaning.specs.Row.{Node, headNode, firstOf, firstSharing, Place, headPlace, placesAfter, places, settledLink, owed, low, high}
 use Rattle.meaning.specs.Row.{between, link, placeOf}
 use Rattle.meaning.specs.State.{State}
@@ -25,10 +25,9 @@ use Rattle.meaning.specs.Picture.{standingWords, wordsOf, picture, mark}
 use Rattle.meaning.specs.Words.{wordAt, keyAt, owedAt, lowAt, highAt, linkAt, linkField, valueAt, markAt}
 use Rattle.meaning.specs.Walk.{linkRead}
 use Rattle.meaning.proofs.AgainstSlips.{owed-link-is-read-there}
-use Rattle.meaning.proofs.Keys.{coordinates-length}
 use Rattle.meaning.proofs.State.{Debt, Sound}
 use Rattle.meaning.proofs.StateCells.{row-range}
-use Rattle.meaning.proofs.Picture.{picture-word, place-found, picture-dimensions}
+use Rattle.meaning.proofs.Picture.{picture-word, place-found}
 use Rattle.meaning.proofs.Places.{places-nodes, row-of-places}
 
 -- Words by place.

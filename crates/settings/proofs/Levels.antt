@@ -1,5 +1,5 @@
 -- The powers of b, level by level from the last one: each is the one after it times b.
-use mathlib.Core.Path.{_≡_, refl, sym, _∙_, ap}
+use mathlib.Core.Path.{_≡_, sym, _∙_, ap}
 use mathlib.Core.List.{List}
 use Prim.Native.Nat.{ℕ, _+_, _*_, _-_, _^_, _≤_, _<_}
 use native.Mathlib.Nat.{pow-zero, one-le-pow, pow-le-pow-right}

@@ -2,7 +2,7 @@
 // list's words (docs/REFERENCE.md, *Numbers* and *The words*).
 ghost use mathlib.Core.Path.{_≡_};
 ghost use mathlib.Core.Bool.{true};
-ghost use Prim.Native.Nat.{ℕ, _^_, _≤_, _<_};
+ghost use Prim.Native.Nat.{_^_, _≤_, _<_};
 ghost use lib.Dec.{ltb};
 ghost use Rattle.settings.specs.Numbers.{leastDimensions, mostDimensions, leastLargest, mostLargest, mostCells};
 ghost use Rattle.settings.specs.Numbers.{inRange, baseOf, cellWords, lengthOf};

@@ -12,14 +12,14 @@ use lib.Dec.{eqb, ltb}
 use lib.ListN.{length, getD, take, drop, set, length-set}
 use lib.Seq.{drop-drop, getD-set-same, getD-set-other, sets, sets-eq}
 use borrow.Author.Tests.{lt-ltb, le-ltb, eq-eqb, ne-eqb}
-use borrow.Rule.Slice.PartMut.{midOf, putMid, mid-len}
+use borrow.Rule.Slice.PartMut.{midOf, putMid}
 use Rattle.settings.specs.Numbers.{fieldsBeforeLinks, cellWords, lengthOf, mostDimensions, mostCells, headerWords}
 use Rattle.settings.specs.Levels.{PowersOf}
 use Rattle.settings.specs.declared.Settings.{Settings}
 use Rattle.settings.proofs.Numbers.{cells-fit}
 use Rattle.settings.proofs.Levels.{power-some}
 use Rattle.meaning.specs.Keys.{coordinate, shared, blockStart}
-use Rattle.meaning.specs.Words.{wordIndex, wordAt, keyAt, dimensionsAt, largestAt, cellsAt, baseAt, linkField, positionAt}
+use Rattle.meaning.specs.Words.{wordIndex, wordAt, keyAt, dimensionsAt, largestAt, cellsAt, baseAt, positionAt}
 use Rattle.meaning.specs.Walk.{linkRead, stepAlong, stepAt}
 use Rattle.meaning.specs.Layer.Stores.{store}
 use Rattle.meaning.specs.declared.Step.the-variants.{Go, Up, End}

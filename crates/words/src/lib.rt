@@ -138,7 +138,15 @@ pub fn block_starts(k: u32, s: Settings, powers: &[u64]) -> [u64; 16]
 
 // One step of the walk for k from cell x and coordinate d. The cell shares the coordinates before d with k, so at d it is below k before
 // the start of k's next block, equal inside that block, and above it from its end on.
-pub fn step(list: &[u32], s: Settings, starts: &[u64], powers: &[u64], k: u32, x: u32, d: u32) -> Step
+pub fn step(
+    list: &[u32],
+    s: Settings,
+    starts: &[u64],
+    powers: &[u64],
+    k: u32,
+    x: u32,
+    d: u32,
+) -> Step
     requires { ⌜ Shaped (now list) s × (Sought s k (now starts) (now powers) × Met (now list) s k x d) ⌝ }
     ensures { λ r. ⌜ r ≡ stepAt (now (list .entry)) k x d ⌝ }
 {

@@ -1,8 +1,8 @@
 -- What the calls write, word by word: the layer between the meaning and the code. Each function takes the words as they stand to the
 -- words afterwards; D is the number of dimensions.
 use mathlib.Core.Bool.{cond}
-use mathlib.Core.List.{List, [], _∷_, _++_}
-use Prim.Native.Nat.{ℕ, zero, suc, _+_, _-_}
+use mathlib.Core.List.{List, [], _∷_}
+use Prim.Native.Nat.{ℕ, zero, suc, _-_}
 use lib.Dec.{eqb}
 use lib.ListN.{getD, set, replicate}
 use lib.Seq.{sets}

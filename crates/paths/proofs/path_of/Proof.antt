@@ -29,9 +29,10 @@ path-along-requires : tie.Need-path-along-requires
 path-along-requires c κs =
     let h = c .before .before .before .before .before .before .before .before .before .before .before .before .pre .in-it in
     let key = c .before .before .before .before .before .before .before .before .before .word .ensures in
-    let other = c .before .before .before .before .before .before .before .before .before .before .if1 .left in
-    (stands-walkable h,
-    (record { fits = stands-fits h other key; blocks = c .before .before .before .before .block-starts .ensures; sizes = c .before .before .before .before .before .before .before .before .powers .ensures }, stands-ends h other key))
+    let other = c .before .before .before .before .before .before .before .before .before .before .if1 .left in (
+      stands-walkable h,
+      (record { fits = stands-fits h other key; blocks = c .before .before .before .before .block-starts .ensures; sizes = c .before .before .before .before .before .before .before .before .powers .ensures }, stands-ends h other key),
+    )
 
 returns-2 : tie.Need-returns-2
 returns-2 c =

@@ -1,6 +1,5 @@
 -- `words::block_start` meets its contract: what is left of the key is at most the key.
 use native.Mathlib.Nat.{mod-le}
-use native.Mathlib.Omega.{arith}
 use borrow.Author.Needs.{needs}
 use Rattle.words.proofs.block_start.Statement.{statement}
 use Rattle.words.proofs.block_start.Tie as tie
