@@ -15,7 +15,7 @@ use std::process::ExitCode;
 /// What a word holds before set up, as in a trace.
 const UNSET: u32 = 2_779_096_485;
 /// The longest buffer of a trace.
-const LONGEST: u32 = 155_670;
+const LONGEST: u32 = 90_134;
 
 enum Call {
     SetUp { d: u32, k: u32, c: u32, len: u32 },
@@ -94,8 +94,15 @@ struct Reading {
 }
 
 fn cell_words(words: &[u32], d: usize, x: u32) -> &[u32] {
-    let size = 6 + 2 * d;
+    let size = 6 + d;
     &words[5 + d + x as usize * size..][..size]
+}
+
+/// The coordinates of a key: its d digits in base b, the most significant first.
+fn digits(key: u32, b: u32, d: usize) -> Vec<u32> {
+    let mut digits: Vec<u32> = (0..d as u32).scan(key, |rest, _| { let digit = *rest % b; *rest /= b; Some(digit) }).collect();
+    digits.reverse();
+    digits
 }
 
 fn read_cell(words: &[u32], d: usize, x: u32) -> Cell {
@@ -110,8 +117,8 @@ fn read_cell(words: &[u32], d: usize, x: u32) -> Cell {
         owed: w[3],
         low: w[4] as usize,
         high: w[5] as usize,
-        coordinates: w[6..6 + d].to_vec(),
-        links: w[6 + d..].to_vec(),
+        coordinates: digits(w[0], words[3], d),
+        links: w[6..].to_vec(),
         dimension: 0,
         path: (0..d).find(named).zip((0..d).rev().find(named)).filter(|_| w[2] != 0),
         position: path[d - 1] == x,

@@ -247,10 +247,10 @@ pub const NONE_YET: u64 = 4_294_967_296;
 /// How many words a list with D dimensions and C cells has: 5 + D + C(6+2D).
 ///
 /// ```
-/// assert_eq!(mdlist_host::words_needed(8, 512), 11_277);
+/// assert_eq!(mdlist_host::words_needed(8, 512), 7_181);
 /// ```
 pub const fn words_needed(d: u32, c: u32) -> usize {
-    5 + d as usize + c as usize * (6 + 2 * d as usize)
+    5 + d as usize + c as usize * (6 + d as usize)
 }
 
 fn checked(a: sys::Answer) -> Result<sys::Answer, Refusal> {
@@ -288,7 +288,7 @@ pub fn set_up(d: u32, k: u32, c: u32, list: &mut [u32]) -> Result<(), Refusal> {
 ///
 /// ```
 /// # use mdlist_host::*;
-/// let mut list = [0u32; 87];
+/// let mut list = [0u32; words_needed(2, 8)];
 /// set_up(2, 15, 8, &mut list)?;
 /// assert_eq!(insert(&mut list, 6, 60), Ok(0));
 /// assert_eq!(insert(&mut list, 16, 60), Err(Refusal::BadKey));
@@ -303,7 +303,7 @@ pub fn insert(list: &mut [u32], key: u32, value: u32) -> Result<u32, Refusal> {
 ///
 /// ```
 /// # use mdlist_host::*;
-/// let mut list = [0u32; 87];
+/// let mut list = [0u32; words_needed(2, 8)];
 /// set_up(2, 15, 8, &mut list)?;
 /// insert(&mut list, 6, 60)?;
 /// assert_eq!(find(&list, 6), Ok(Found { value: 60, looked: 1 }));
@@ -319,7 +319,7 @@ pub fn find(list: &[u32], key: u32) -> Result<Found, Refusal> {
 ///
 /// ```
 /// # use mdlist_host::*;
-/// let mut list = [0u32; 87];
+/// let mut list = [0u32; words_needed(2, 8)];
 /// set_up(2, 15, 8, &mut list)?;
 /// insert(&mut list, 6, 60)?;
 /// insert(&mut list, 5, 50)?;
@@ -336,7 +336,7 @@ pub fn finish(list: &mut [u32], key: u32) -> Result<u32, Refusal> {
 ///
 /// ```
 /// # use mdlist_host::*;
-/// let mut list = [0u32; 87];
+/// let mut list = [0u32; words_needed(2, 8)];
 /// set_up(2, 15, 8, &mut list)?;
 /// insert(&mut list, 6, 60)?;
 /// assert_eq!(take(&mut list), Ok(Taken { key: 6, value: 60, passed: 1 }));
@@ -351,7 +351,7 @@ pub fn take(list: &mut [u32]) -> Result<Taken, Refusal> {
 ///
 /// ```
 /// # use mdlist_host::*;
-/// let mut list = [0u32; 87];
+/// let mut list = [0u32; words_needed(2, 8)];
 /// set_up(2, 15, 8, &mut list)?;
 /// insert(&mut list, 6, 60)?;
 /// insert(&mut list, 5, 50)?;
@@ -372,7 +372,7 @@ pub fn sweep(list: &mut [u32]) -> Result<u32, Refusal> {
 ///
 /// ```
 /// # use mdlist_host::*;
-/// let mut list = [0u32; 87];
+/// let mut list = [0u32; words_needed(2, 8)];
 /// set_up(2, u32::MAX, 8, &mut list)?;
 /// let mut last = NONE_YET;
 /// assert_eq!(record(&mut list, b"0,1,2,text,7\r\n", &mut last), Ok(Recorded { key: 4_098, number: 65_543, looked: 0 }));
@@ -398,7 +398,7 @@ pub fn record(list: &mut [u32], bytes: &[u8], last: &mut u64) -> Result<Recorded
 /// ```
 /// # use mdlist_host::*;
 /// const CALLS: [Call; 2] = [Call::insert(6, 60), Call::take()];
-/// let mut list = [0u32; 87];
+/// let mut list = [0u32; words_needed(2, 8)];
 /// set_up(2, 15, 8, &mut list)?;
 /// assert_eq!(batch(&mut list, &CALLS, &mut [Answered::NONE; 2]), Ok(2));
 /// assert_eq!(format!("{CALLS:?}"), "[insert(6, 60), take()]");
@@ -413,7 +413,7 @@ impl Call {
     ///
     /// ```
     /// # use mdlist_host::*;
-    /// # let mut list = [0u32; 87];
+    /// # let mut list = [0u32; words_needed(2, 8)];
     /// # set_up(2, 15, 8, &mut list)?;
     /// let mut answers = [Answered::NONE; 1];
     /// batch(&mut list, &[Call::insert(6, 60)], &mut answers)?;
@@ -428,7 +428,7 @@ impl Call {
     ///
     /// ```
     /// # use mdlist_host::*;
-    /// # let mut list = [0u32; 87];
+    /// # let mut list = [0u32; words_needed(2, 8)];
     /// # set_up(2, 15, 8, &mut list)?;
     /// let mut answers = [Answered::NONE; 1];
     /// batch(&mut list, &[Call::find(6)], &mut answers)?;
@@ -443,7 +443,7 @@ impl Call {
     ///
     /// ```
     /// # use mdlist_host::*;
-    /// # let mut list = [0u32; 87];
+    /// # let mut list = [0u32; words_needed(2, 8)];
     /// # set_up(2, 15, 8, &mut list)?;
     /// let mut answers = [Answered::NONE; 3];
     /// batch(&mut list, &[Call::insert(6, 60), Call::insert(5, 50), Call::finish(5)], &mut answers)?;
@@ -458,7 +458,7 @@ impl Call {
     ///
     /// ```
     /// # use mdlist_host::*;
-    /// # let mut list = [0u32; 87];
+    /// # let mut list = [0u32; words_needed(2, 8)];
     /// # set_up(2, 15, 8, &mut list)?;
     /// let mut answers = [Answered::NONE; 1];
     /// batch(&mut list, &[Call::take()], &mut answers)?;
@@ -473,7 +473,7 @@ impl Call {
     ///
     /// ```
     /// # use mdlist_host::*;
-    /// # let mut list = [0u32; 87];
+    /// # let mut list = [0u32; words_needed(2, 8)];
     /// # set_up(2, 15, 8, &mut list)?;
     /// let mut answers = [Answered::NONE; 1];
     /// batch(&mut list, &[Call::sweep()], &mut answers)?;
@@ -505,7 +505,7 @@ impl fmt::Debug for Call {
 ///
 /// ```
 /// # use mdlist_host::*;
-/// let mut list = [0u32; 87];
+/// let mut list = [0u32; words_needed(2, 8)];
 /// set_up(2, 15, 8, &mut list)?;
 /// let mut answers = [Answered::NONE; 3];
 /// batch(&mut list, &[Call::insert(6, 60), Call::insert(16, 0), Call::take()], &mut answers)?;
@@ -531,7 +531,7 @@ impl Answered {
     ///
     /// ```
     /// # use mdlist_host::*;
-    /// # let mut list = [0u32; 87];
+    /// # let mut list = [0u32; words_needed(2, 8)];
     /// # set_up(2, 15, 8, &mut list)?;
     /// let mut answers = [Answered::NONE; 2];
     /// batch(&mut list, &[Call::insert(6, 60), Call::insert(5, 50)], &mut answers)?;
@@ -546,7 +546,7 @@ impl Answered {
     ///
     /// ```
     /// # use mdlist_host::*;
-    /// # let mut list = [0u32; 87];
+    /// # let mut list = [0u32; words_needed(2, 8)];
     /// # set_up(2, 15, 8, &mut list)?;
     /// let mut answers = [Answered::NONE; 2];
     /// batch(&mut list, &[Call::insert(6, 60), Call::find(6)], &mut answers)?;
@@ -561,7 +561,7 @@ impl Answered {
     ///
     /// ```
     /// # use mdlist_host::*;
-    /// # let mut list = [0u32; 87];
+    /// # let mut list = [0u32; words_needed(2, 8)];
     /// # set_up(2, 15, 8, &mut list)?;
     /// let mut answers = [Answered::NONE; 3];
     /// batch(&mut list, &[Call::insert(6, 60), Call::insert(5, 50), Call::finish(5)], &mut answers)?;
@@ -576,7 +576,7 @@ impl Answered {
     ///
     /// ```
     /// # use mdlist_host::*;
-    /// # let mut list = [0u32; 87];
+    /// # let mut list = [0u32; words_needed(2, 8)];
     /// # set_up(2, 15, 8, &mut list)?;
     /// let mut answers = [Answered::NONE; 2];
     /// batch(&mut list, &[Call::insert(6, 60), Call::take()], &mut answers)?;
@@ -591,7 +591,7 @@ impl Answered {
     ///
     /// ```
     /// # use mdlist_host::*;
-    /// # let mut list = [0u32; 87];
+    /// # let mut list = [0u32; words_needed(2, 8)];
     /// # set_up(2, 15, 8, &mut list)?;
     /// let mut answers = [Answered::NONE; 5];
     /// batch(&mut list, &[Call::insert(6, 60), Call::insert(5, 50), Call::take(), Call::take(), Call::sweep()], &mut answers)?;
@@ -615,7 +615,7 @@ const _: () = assert!(size_of::<Answered>() == 4 * size_of::<u32>() && align_of:
 ///
 /// ```
 /// # use mdlist_host::*;
-/// let mut list = [0u32; 87];
+/// let mut list = [0u32; words_needed(2, 8)];
 /// set_up(2, 15, 8, &mut list)?;
 /// let mut answers = [Answered::NONE; 4];
 /// assert_eq!(batch(&mut list, &[Call::insert(6, 60), Call::find(7), Call::take()], &mut answers), Ok(3));
@@ -666,7 +666,7 @@ impl Drop for Unhanded<'_> {
 ///
 /// ```
 /// # use mdlist_host::*;
-/// let mut list = [0u32; 87];
+/// let mut list = [0u32; words_needed(2, 8)];
 /// set_up(2, 15, 8, &mut list)?;
 /// insert(&mut list, 6, 60)?;
 /// insert(&mut list, 5, 50)?;

@@ -60,7 +60,7 @@ fn two_notes_for_one_unit() {
 /// The words of a cell: docs/REFERENCE.md, *The words*.
 fn cell(list: &[u32], x: u32) -> &[u32] {
     let d = list[0] as usize;
-    let length = 6 + 2 * d;
+    let length = 6 + d;
     &list[5 + d + x as usize * length..][..length]
 }
 

@@ -233,7 +233,7 @@ fn after(list: &[u32], calls: &[Call]) -> Vec<u32> {
 /// Where the words of a cell are: docs/REFERENCE.md, *The words*.
 fn cell(list: &[u32], x: u32) -> Range<usize> {
     let d = list[0] as usize;
-    let length = 6 + 2 * d;
+    let length = 6 + d;
     let first = 5 + d + x as usize * length;
     first..first + length
 }

@@ -36,9 +36,6 @@ fn draw_cell(model: &Model, key: u32, at: &Standing, words: &mut [u32]) {
     words[settings.word(at.cell, KEY)] = key;
     words[settings.word(at.cell, VALUE)] = value;
     words[settings.word(at.cell, MARK)] = mark;
-    for d in 0..settings.dimensions {
-        words[settings.coordinate_word(at.cell, d)] = settings.coordinate(key, d);
-    }
 }
 
 /// Debts 4.

@@ -11,7 +11,7 @@ pub const MARK: usize = 2;
 pub const OWED: usize = 3;
 pub const LOW: usize = 4;
 pub const HIGH: usize = 5;
-pub const BEFORE_COORDINATES: usize = 6;
+pub const BEFORE_LINKS: usize = 6;
 
 const MOST_DIMENSIONS: usize = 16;
 
@@ -28,7 +28,7 @@ pub struct Settings {
 
 /// The words 1: the exact length; the numbers need not be in range.
 pub fn exact_length(dimensions: usize, cells: usize) -> usize {
-    HEADER + dimensions + cells * (BEFORE_COORDINATES + 2 * dimensions)
+    HEADER + dimensions + cells * (BEFORE_LINKS + dimensions)
 }
 
 /// Numbers 3.
@@ -109,15 +109,11 @@ impl Settings {
         HEADER + self.dimensions + cell as usize * self.cell_length() + field
     }
 
-    pub fn coordinate_word(&self, cell: u32, d: usize) -> usize {
-        self.word(cell, BEFORE_COORDINATES + d)
-    }
-
     pub fn link_word(&self, cell: u32, d: usize) -> usize {
-        self.word(cell, BEFORE_COORDINATES + self.dimensions + d)
+        self.word(cell, BEFORE_LINKS + d)
     }
 
     pub fn cell_length(&self) -> usize {
-        BEFORE_COORDINATES + 2 * self.dimensions
+        BEFORE_LINKS + self.dimensions
     }
 }

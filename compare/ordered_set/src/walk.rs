@@ -10,7 +10,7 @@ pub fn walk(settings: &Settings, words: &[u32], k: u32) -> Vec<u32> {
     let mut gone_to = Vec::new();
     let (mut cell, mut d) = (0, 0);
     while d < settings.dimensions {
-        let at = words[settings.coordinate_word(cell, d)];
+        let at = settings.coordinate(words[settings.word(cell, KEY)], d);
         match at.cmp(&settings.coordinate(k, d)) {
             Ordering::Less => match link_read(settings, words, cell, d) {
                 0 => break,

@@ -6,7 +6,7 @@ use Prim.Native.Nat.{ℕ, _+_, _*_, _/_, _≤_}
 use native.Mathlib.Omega.{arith}
 use lib.ListN.{length, drop}
 use lib.Seq.{sets, sets-eq}
-use borrow.Author.Tests.{eq-eqb, ne-eqb}
+use borrow.Author.Tests.{ne-eqb}
 use Rattle.settings.specs.declared.Settings.{Settings}
 use Rattle.lists.proofs.Sets.{sets-append}
 use Rattle.meaning.specs.Refusals.{answer, Meets}

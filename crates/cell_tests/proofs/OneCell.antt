@@ -1,82 +1,49 @@
--- The tests of one cell, as the code makes them: its coordinates, its node, its debt, and all that is tested when it is met.
-use mathlib.Core.Path.{_≡_, refl, sym}
-use mathlib.Core.Bool.{Bool, true, false, _&&_, and-false, or-false}
+-- The tests of one cell, as the code makes them: its block, its node, its debt, and all that is tested when it is met.
+use mathlib.Core.Path.{_≡_, refl, sym, ap, _∙_}
+use mathlib.Core.Bool.{Bool, true, false, and-false, or-false}
 use mathlib.Core.List.{List, [], _∷_}
-use Prim.Native.Nat.{ℕ, suc, _+_, _*_, _-_, _^_, _≤_, _<_}
-use native.Mathlib.Nat.{le-refl, mul-le-mul, suc-mul, pow-le-pow-right}
-use Rattle.settings.proofs.Numbers.{power-more}
+use Prim.Native.Nat.{ℕ, suc, _+_, _-_, _%_, _^_, _≤_, _<_}
 use native.Mathlib.Numerals.{add-one}
 use native.Mathlib.Omega.{arith}
 use lib.Dec.{eqb, ltb}
-use lib.ListN.{length, getD, drop, drop-of-length-le}
-use lib.Seq.{drop-cons}
-use borrow.Author.Tests.{ltb-true, lt-ltb, le-ltb, le-leb, lt-leb, eq-eqb, ne-eqb}
-use borrow.Rule.Slice.PartMut.{midOf, mid-len}
-use Rattle.settings.specs.Numbers.{fieldsBeforeCoordinates}
+use lib.ListN.{getD}
+use borrow.Author.Tests.{ltb-true, lt-ltb, le-leb, lt-leb, eq-eqb, ne-eqb}
+use Rattle.settings.specs.Levels.{PowersOf}
 use Rattle.settings.specs.declared.Settings.{Settings}
-use Rattle.meaning.specs.Words.{wordIndex, keyAt, valueAt, markAt, owedAt, lowAt, highAt, coordinateAt, linkAt, dimensionsAt, largestAt, cellsAt}
+use Rattle.meaning.specs.Keys.{blockStart}
+use Rattle.meaning.specs.Words.{keyAt, valueAt, markAt, owedAt, lowAt, highAt, linkAt, dimensionsAt, largestAt, cellsAt, baseAt}
 use Rattle.words.specs.Shaped.{Shaped}
-use Rattle.words.proofs.Shaped.{shaped-dimensions, shaped-base, part-coordinates}
+use Rattle.words.proofs.Shaped.{shaped-dimensions, shaped-base}
 use Rattle.tree.specs.declared.Seen.{Seen}
-use Rattle.tree.specs.Tree.{allFrom, allBelow, written, writesKey, follows, nodeRight}
+use Rattle.tree.specs.Tree.{allFrom, follows, nodeRight}
 use Rattle.tree.specs.Loop.{aloneRight, linksNone, owesNothing, owesRight}
 use Rattle.tree.proofs.AcceptedTests.{joined-all}
 use Rattle.tree.proofs.Loop.{Owes, owes-told}
 use Rattle.cell_tests.specs.Tests.{onlyLink}
 use Rattle.cell_tests.proofs.Tests.{refuted, all-start}
 
--- Coordinates
+-- Blocks
 
--- coordinate d of cell y is that of cell x
-abbrev pub sameCoordinate : List ℕ → ℕ → ℕ → ℕ → Bool
-sameCoordinate ws x y d = eqb (coordinateAt ws y d) (coordinateAt ws x d)
+-- cell y after cell x, by the powers of the levels e and e + 1
+module _ {ws : List ℕ} {s : Settings} (h : Shaped ws s) {powers : List ℕ} (p : PowersOf s powers) (x y : ℕ) {e : ℕ} (inside : e < s .dimensions) where
+  start-is : {key n : ℕ} (d : ℕ) → d ≤ s .dimensions → key ≡ keyAt ws y → n ≡ key - key % getD powers d 0 →
+      blockStart (baseAt ws) (dimensionsAt ws) (keyAt ws y) d ≡ n
+  unfolding blockStart
+  start-is {key} d l k e =
+      ap (λ D. blockStart (baseAt ws) D (keyAt ws y) d) (shaped-dimensions h)
+      ∙ ap (λ b. blockStart b (s .dimensions) (keyAt ws y) d) (shaped-base h)
+      ∙ sym (e ∙ ap (λ n. key - key % n) (p .level d l) ∙ ap (λ m. m - m % (s .base ^ (s .dimensions - d))) k)
 
--- words that are coordinates below b and write the key, after the number n
-abbrev pub writesAfter : ℕ → ℕ → ℕ → List ℕ → Bool
-writesAfter b key n xs = allBelow b xs && eqb (written b n xs) key
+  pub follows-not : {before key n : ℕ} → before ≡ keyAt ws x → key ≡ keyAt ws y → n ≡ key - key % getD powers e 0 → before < n → false ≡ follows ws x y e
+  unfolding follows
+  follows-not b k f less = sym (rw (start-is e (omega arith) k f, ← b, lt-leb _ _ less) refl)
 
-module _ (b key n : ℕ) (part : List ℕ) {i : ℕ} where
-  pub key-high : i < length part → b ≤ getD part i 0 → writesAfter b key n (drop i part) ≡ false
-  unfolding allBelow
-  key-high h high = rw (drop-cons part i 0 h, le-ltb (getD part i 0) b high) refl
-
-  pub key-more :
-      i < length part → getD part i 0 < b →
-      writesAfter b key n (drop i part) ≡ writesAfter b key (n * b + getD part i 0) (drop (i + 1) part)
-  unfolding allBelow written
-  key-more h below = rw (add-one i, drop-cons part i 0 h, lt-ltb (getD part i 0) b below) refl
-
-  pub key-end : length part ≤ i → writesAfter b key n (drop i part) ≡ eqb n key
-  unfolding allBelow written
-  key-end h = rw (drop-of-length-le part h) refl
-
--- after one coordinate more the number is below the next power of b, which fits where the last one does
-pub power-next : {b n x : ℕ} (i : ℕ) → n < b ^ i → x < b → n * b + x < b ^ (i + 1)
-power-next {b} {n} {x} i h l =
-    let m : suc n * b ≤ b ^ i * b = mul-le-mul h (le-refl b) in
-    omega (arith, l, suc-mul n b, power-more b i refl)
-
-pub next-fits : {b n x i : ℕ} (m : ℕ) → n < b ^ i → x < b → i < m → b ^ m < 2 ^ 64 → n * b + x < 2 ^ 64
-next-fits {b} {n} {x} {i} m h l inside fits =
-    let some : 0 < b = omega arith in
-    let more : i + 1 ≤ m = omega arith in
-    omega (arith, power-next i h l, pow-le-pow-right some more)
-
-pub power-written :
-    (ws : List ℕ) (s : Settings) (y : ℕ) {start end : ℕ} → start ≡ wordIndex (s .dimensions) y fieldsBeforeCoordinates → end ≡ start + s .dimensions →
-    wordIndex (s .dimensions) y fieldsBeforeCoordinates + s .dimensions ≤ length ws → s .base ^ s .dimensions < 2 ^ 64 →
-    s .base ^ length (midOf start (end - start) ws) < 2 ^ 64
-power-written ws s y {start} {end} p q inside fits =
-    let long : length (midOf start (end - start) ws) ≡ s .dimensions = omega (arith, mid-len start end ws (omega arith)) in
-    rw long fits
-
--- the coordinate words of cell y, lent as the part from `start` to `end`
-pub key-written :
-    {ws : List ℕ} {s : Settings} → Shaped ws s → (y : ℕ) {start end key : ℕ} → start ≡ wordIndex (s .dimensions) y fieldsBeforeCoordinates →
-    end ≡ start + s .dimensions → key ≡ keyAt ws y → writesAfter (s .base) key 0 (midOf start (end - start) ws) ≡ writesKey ws y
-unfolding writesKey
-key-written {ws} {s} h y p q k =
-    rw (part-coordinates ws (s .dimensions) y p q, k, ← shaped-dimensions h, ← shaped-base h) refl
+  pub follows-to : {before key n m : ℕ} → before ≡ keyAt ws x → key ≡ keyAt ws y → n ≡ key - key % getD powers e 0 → n ≤ before →
+      m ≡ key - key % getD powers (e + 1) 0 → ltb before m ≡ follows ws x y e
+  unfolding follows
+  follows-to b k f le g =
+      let next : e + 1 ≡ suc e = add-one e in
+      sym (rw (start-is e (omega arith) k f, start-is (suc e) inside k (rw next at g), ← b, le-leb _ _ le) refl)
 
 -- The key, the mark and the value
 
@@ -151,24 +118,22 @@ pub record Alone (ws : List ℕ) (y e : ℕ) (s : Seen) : Type 0 where
   pub left : 0 < s .left
   pub inside : y < cellsAt ws
   pub comes : follows ws (s .last) y e ≡ true
-  pub writes : writesKey ws y ≡ true
   pub node : nodeRight ws y (s .reached) ≡ true
 
 module _ (ws : List ℕ) (y e : ℕ) (s : Seen) where
   pub alone : aloneRight ws y e s ≡ true → Alone ws y e s
   alone h =
-      let t = joined-all (ltb 0 (s .left) ∷ ltb y (cellsAt ws) ∷ follows ws (s .last) y e ∷ writesKey ws y ∷ nodeRight ws y (s .reached) ∷ []) h in
+      let t = joined-all (ltb 0 (s .left) ∷ ltb y (cellsAt ws) ∷ follows ws (s .last) y e ∷ nodeRight ws y (s .reached) ∷ []) h in
       record {
         left = ltb-true 0 (s .left) (t .0);
         inside = ltb-true y (cellsAt ws) (t .1 .0);
         comes = t .1 .1 .0;
-        writes = t .1 .1 .1 .0;
-        node = t .1 .1 .1 .1 .0;
+        node = t .1 .1 .1 .0;
       }
 
   pub alone-not : (Alone ws y e s → ⊥) → false ≡ aloneRight ws y e s
   alone-not never = sym (refuted (aloneRight ws y e s) (λ t. never (alone t)))
 
   pub alone-node :
-      0 < s .left → y < cellsAt ws → follows ws (s .last) y e ≡ true → writesKey ws y ≡ true → aloneRight ws y e s ≡ nodeRight ws y (s .reached)
-  alone-node left inside comes writes = rw (lt-ltb 0 (s .left) left, lt-ltb y (cellsAt ws) inside, comes, writes) refl
+      0 < s .left → y < cellsAt ws → follows ws (s .last) y e ≡ true → aloneRight ws y e s ≡ nodeRight ws y (s .reached)
+  alone-node left inside comes = rw (lt-ltb 0 (s .left) left, lt-ltb y (cellsAt ws) inside, comes) refl

@@ -14,10 +14,11 @@ use borrow.Rule.Slice.PartMut.{midOf}
 use Rattle.settings.specs.Numbers.{cellWords}
 use Rattle.settings.specs.declared.Settings.{Settings}
 use Rattle.lists.specs.Zeros.{allZero}
-use Rattle.meaning.specs.Words.{wordIndex, wordAt, keyAt, valueAt, markAt, coordinateAt, dimensionsAt, cellsAt}
+use Rattle.meaning.specs.Words.{wordIndex, wordAt, keyAt, valueAt, markAt, dimensionsAt, cellsAt}
 use Rattle.words.specs.Shaped.{Shaped}
 use Rattle.words.proofs.Shaped.{shaped-dimensions, shaped-cells, part-inside, part-words}
 use Rattle.tree.specs.Tree.{allFrom, headRight, freeRight}
+use Rattle.tree.specs.Loop.{owesNothing}
 use Rattle.tree.proofs.AcceptedTests.{Head, head-right}
 
 -- Tests
@@ -106,18 +107,10 @@ zero-fields {ws} {s} h {c} hc j n hn {start} {end} p q =
 pub head-not : (ws : List ℕ) → (Head ws → ⊥) → false ≡ headRight ws
 head-not ws never = sym (refuted (headRight ws) (λ t. never (head-right ws t)))
 
--- past its key, value and mark, the head's words up to its links are 0
-pub head-zero :
-    {ws : List ℕ} {s : Settings} → Shaped ws s → 0 < s .cells → {start end : ℕ} → start ≡ wordIndex (s .dimensions) 0 3 →
-    end ≡ start + (3 + s .dimensions) → keyAt ws 0 ≡ 0 → valueAt ws 0 ≡ 0 → markAt ws 0 ≡ 2 →
-    headRight ws ≡ allZero (midOf start (end - start) ws)
-unfolding headRight allFrom
-head-zero {ws} {s} h some p q key value mark =
-    let word : ℕ → Bool = λ i. eqb (wordAt ws 0 i) 0 in
-    let n : 3 + s .dimensions ≡ suc (suc (suc (dimensionsAt ws))) = omega (arith, shaped-dimensions h) in
-    let coordinates = all-shift (λ d. eqb (coordinateAt ws 0 d) 0) word (dimensionsAt ws) 0 6 (λ k. ap (λ i. eqb (wordAt ws 0 i) 0) (omega arith)) in
-    rw (eq-eqb (keyAt ws 0) 0 key, eq-eqb (valueAt ws 0) 0 value, eq-eqb (markAt ws 0) 2 mark, coordinates)
-    (sym (zero-fields h some 3 (3 + s .dimensions) (omega arith) p q ∙ ap (allFrom word 3) n))
+-- past its key, value and mark, the head's debt decides
+pub head-debt : (ws : List ℕ) → keyAt ws 0 ≡ 0 → valueAt ws 0 ≡ 0 → markAt ws 0 ≡ 2 → headRight ws ≡ owesNothing ws 0
+unfolding headRight owesNothing
+head-debt ws key value mark = rw (eq-eqb (keyAt ws 0) 0 key, eq-eqb (valueAt ws 0) 0 value, eq-eqb (markAt ws 0) 2 mark) refl
 
 -- A free cell
 

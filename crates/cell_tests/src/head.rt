@@ -5,7 +5,7 @@ ghost use Rattle.words.specs.Shaped.{Shaped};
 ghost use Rattle.tree.specs.Tree.{headRight};
 use settings::Settings;
 
-// Whether cell 0 is the head: key 0, value 0, dead; and, in one stretch of words, owing nothing and coordinates 0.
+// Whether cell 0 is the head: key 0, value 0, dead, and owing nothing.
 pub fn head_right(list: &[u32], s: Settings) -> bool
     requires { ⌜ Shaped (now list) s × (0 < s .cells) ⌝ }
     ensures { λ r. ⌜ r ≡ headRight (now (list .entry)) ⌝ }
@@ -19,7 +19,5 @@ pub fn head_right(list: &[u32], s: Settings) -> bool
     if words::word(list, s, 0, words::MARK) != words::DEAD {
         return false;
     }
-    let start = words::word_index(s, 0, words::OWED);
-    let end = start + (words::COORDINATES - words::OWED) as usize + s.dimensions as usize;
-    lists::all_zero(&list[start..end])
+    super::standing::owes_nothing(list, s, 0)
 }

@@ -1,61 +1,26 @@
 // Whether one standing cell is right: when it is met by a link, after the cell that was read before it, and when its links are put.
 ghost use mathlib.Core.Path.{_≡_};
-ghost use mathlib.Core.Bool.{_&&_};
-ghost use Prim.Native.Nat.{_^_, _≤_, _<_};
-ghost use lib.Dec.{eqb};
-ghost use lib.ListN.{length};
+ghost use Prim.Native.Nat.{_≤_, _<_};
+ghost use Rattle.settings.specs.Levels.{PowersOf};
 ghost use Rattle.words.specs.Shaped.{Shaped};
-ghost use Rattle.tree.specs.Tree.{allBelow, written, writesKey, follows, nodeRight};
+ghost use Rattle.tree.specs.Tree.{follows, nodeRight};
 ghost use Rattle.tree.specs.Loop.{aloneRight, linksNone, owesNothing, owesRight};
 ghost use Rattle.cell_tests.specs.Tests.{onlyLink};
 use settings::Settings;
 use tree::Seen;
 
-// Whether a cell's coordinate words, lent as a part, are each below b and write the key. After i words the number is below b to the power i,
-// so it fits, and nothing but the words is tested on the way.
-fn writes_key(part: &[u32], b: u32, key: u32) -> bool
-    requires { ⌜ b ^ length (now part) < 2 ^ 64 ⌝ }
-    ensures { λ r. ⌜ r ≡ (allBelow b (now (part .entry)) && eqb (written b 0 (now (part .entry))) key) ⌝ }
-{
-    let top = key as u64;
-    let base = b as u64;
-    let mut n: u64 = 0;
-    let mut i = 0;
-    while i < part.len() {
-        let digit = part[i];
-        if b <= digit {
-            return false;
-        }
-        n = n * base + digit as u64;
-        i += 1;
-    }
-    n == top
-}
-
-// Whether the coordinate words of cell y are its key's coordinates.
-fn cell_writes_key(list: &[u32], s: Settings, y: u32) -> bool
-    requires { ⌜ Shaped (now list) s × ((y < s .cells) × (s .base ^ s .dimensions < 2 ^ 64)) ⌝ }
-    ensures { λ r. ⌜ r ≡ writesKey (now (list .entry)) y ⌝ }
-{
-    let start = words::word_index(s, y, words::COORDINATES);
-    let end = start + s.dimensions as usize;
-    let key = words::word(list, s, y, words::KEY);
-    writes_key(&list[start..end], s.base, key)
-}
-
 // Whether cell y comes after cell x in key order and shares exactly e coordinates with it.
-fn cell_follows(list: &[u32], s: Settings, x: u32, y: u32, e: u32) -> bool
-    requires { ⌜ Shaped (now list) s × ((x < s .cells) × ((y < s .cells) × (e < s .dimensions))) ⌝ }
+fn cell_follows(list: &[u32], s: Settings, powers: &[u64], x: u32, y: u32, e: u32) -> bool
+    requires { ⌜ Shaped (now list) s × (PowersOf s (now powers) × ((x < s .cells) × ((y < s .cells) × (e < s .dimensions)))) ⌝ }
     ensures { λ r. ⌜ r ≡ follows (now (list .entry)) x y e ⌝ }
 {
-    let mut d: u32 = 0;
-    while d < e {
-        if words::coordinate(list, s, y, d) != words::coordinate(list, s, x, d) {
-            return false;
-        }
-        d += 1;
+    let before = words::word(list, s, x, words::KEY) as u64;
+    let key = words::word(list, s, y, words::KEY);
+    let d = e as usize;
+    if before < words::block_start(key, powers[d]) {
+        return false;
     }
-    words::coordinate(list, s, x, e) < words::coordinate(list, s, y, e)
+    before < words::block_start(key, powers[d + 1])
 }
 
 // Whether the key of cell y is at most K, and its mark and value are right: dead as long as the position has not been read.
@@ -147,8 +112,8 @@ pub fn owes_right(list: &[u32], s: Settings, y: u32, e: u32) -> bool
 }
 
 // Whether cell y, met by link e, is right after what has been seen, but for the path, its links and its debt.
-pub fn alone_right(list: &[u32], s: Settings, y: u32, e: u32, seen: Seen) -> bool
-    requires { ⌜ Shaped (now list) s × ((s .base ^ s .dimensions < 2 ^ 64) × ((e < s .dimensions) × (seen .last < s .cells))) ⌝ }
+pub fn alone_right(list: &[u32], s: Settings, powers: &[u64], y: u32, e: u32, seen: Seen) -> bool
+    requires { ⌜ Shaped (now list) s × (PowersOf s (now powers) × ((e < s .dimensions) × (seen .last < s .cells))) ⌝ }
     ensures { λ r. ⌜ r ≡ aloneRight (now (list .entry)) y e seen ⌝ }
 {
     if seen.left == 0 {
@@ -157,10 +122,7 @@ pub fn alone_right(list: &[u32], s: Settings, y: u32, e: u32, seen: Seen) -> boo
     if s.cells <= y {
         return false;
     }
-    if !cell_follows(list, s, seen.last, y, e) {
-        return false;
-    }
-    if !cell_writes_key(list, s, y) {
+    if !cell_follows(list, s, powers, seen.last, y, e) {
         return false;
     }
     node_right(list, s, y, seen.reached)

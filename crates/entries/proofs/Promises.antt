@@ -1,9 +1,9 @@
 -- The promises of specs/Promises.antt. A serial is below what a unit takes, a unit with its serial below what a class takes; so the key's
 -- parts do not run into each other.
-use mathlib.Core.Path.{_≡_, refl}
-use mathlib.Core.Logic.{_⊎_, inl, inr}
-use Prim.Native.Nat.{ℕ, _<_}
-use native.Mathlib.Decide.{ℕ-discrete, decLt}
+use mathlib.Core.Path.{_≡_}
+use mathlib.Core.Logic.{inl, inr}
+use Prim.Native.Nat.{_<_}
+use native.Mathlib.Decide.{decLt}
 use native.Mathlib.Omega.{arith}
 use Rattle.entries.specs.Entries.{InRange, entryKey}
 use Rattle.entries.specs.Promises.{KeyTellsEntry, KeyWithin, Before, KeyOrder, PlainOrder}

@@ -15,7 +15,7 @@ const LARGEST_KEY: u32 = 4294967295;
 const CELLS: u32 = 512;
 
 // The words 1: 5 + D + C x (6 + 2D).
-pub const WORDS: usize = 11277;
+pub const WORDS: usize = 7181;
 
 // The settings of a list that is one: the check is made once, and whoever keeps the list to himself needs no other.
 fn settings_of(words: &[u32]) -> Settings

@@ -10,7 +10,7 @@ use Rattle.meaning.specs.Words.{wordIndex, owedAt, lowAt, highAt, linkAt, linkF
 use Rattle.meaning.specs.Layer.Stores.{store, moveLinks, clearDebt, finishWords}
 use Rattle.meaning.proofs.Stores.{finishWords-none, finishWords-some}
 use Rattle.words.specs.Shaped.{Shaped}
-use Rattle.words.proofs.Shaped.{shaped-dimensions, link-is}
+use Rattle.words.proofs.Shaped.{shaped-dimensions}
 
 -- Links moved, one after the other
 
@@ -18,16 +18,16 @@ pub move-more :
     {ws : List ℕ} {s : Settings} → Shaped ws s → (n c d : ℕ) {high y : ℕ} → d < high → y ≡ linkAt ws c d →
     moveLinks (s .dimensions) ws n c d (high - d)
     ≡ moveLinks (s .dimensions)
-    (store (s .dimensions) (store (s .dimensions) ws n (linkField (s .dimensions) d) y) c (linkField (s .dimensions) d) 0) n c (d + 1) (high - (d + 1))
+    (store (s .dimensions) (store (s .dimensions) ws n (linkField d) y) c (linkField d) 0) n c (d + 1) (high - (d + 1))
 unfolding moveLinks
-move-more {ws} {s} h n c d {high} below e = rw (add-one d, e, ← link-is h c d, shaped-dimensions h) (more (high - d) (high - suc d) (omega arith))
+move-more {ws} {s} h n c d {high} below e = rw (add-one d, e, shaped-dimensions h) (more (high - d) (high - suc d) (omega arith))
   where
     D : ℕ
     D = s .dimensions
 
     more : (k rest : ℕ) → k ≡ suc rest →
         moveLinks D ws n c d k
-        ≡ moveLinks D (store D (store D ws n (linkField D d) (getD ws (wordIndex D c (linkField D d)) 0)) c (linkField D d) 0) n c (suc d) rest
+        ≡ moveLinks D (store D (store D ws n (linkField d) (getD ws (wordIndex D c (linkField d)) 0)) c (linkField d) 0) n c (suc d) rest
     more k rest q = rw q refl
 
 pub move-all : (D : ℕ) (ws : List ℕ) (n c d : ℕ) {high : ℕ} → high ≤ d → moveLinks D ws n c d (high - d) ≡ ws

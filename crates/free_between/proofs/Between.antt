@@ -2,34 +2,39 @@
 -- it in the words of the call. Each law takes one turn, or the end.
 use mathlib.Core.Path.{_≡_, refl, sym, ap, _∙_, subst}
 use mathlib.Core.List.{List, _∷_}
-use Prim.Native.Nat.{ℕ, suc, _+_, _*_, _-_, _≤_, _<_}
+use Prim.Native.Nat.{ℕ, suc, _+_, _-_, _^_, _≤_, _<_}
 use native.Mathlib.Numerals.{add-one}
 use native.Mathlib.Omega.{arith}
 use lib.ListN.{length, getD, set, replicate, length-replicate}
 use lib.Seq.{sets}
 use borrow.Rule.Slice.PartMut.{midOf, putMid, mid-len}
 use Rattle.settings.specs.Numbers.{cellWords}
+use Rattle.settings.specs.Levels.{PowersOf}
 use Rattle.settings.specs.declared.Settings.{Settings}
 use Rattle.meaning.specs.Picture.{freeWords}
-use Rattle.meaning.specs.Words.{wordIndex, wordAt, keyAt, coordinateAt, linkAt, firstFreeAt, linkField}
+use Rattle.meaning.specs.Words.{wordIndex, wordAt, keyAt, linkAt, firstFreeAt, linkField}
 use Rattle.meaning.specs.Layer.Stores.{store}
 use Rattle.meaning.specs.Layer.SweepStores.{takeLinks, relinkHead, freeCell}
 use Rattle.meaning.proofs.Keys.{shared-le}
-use Rattle.meaning.proofs.SweepRow.{zeros-past, zeros-stop}
+use Rattle.meaning.proofs.Blocks.{shared-zeros}
 use Rattle.words.specs.Shaped.{Shaped, Within}
-use Rattle.words.proofs.Shaped.{shaped-dimensions, word-is, link-is, part-inside, part-written}
+use Rattle.words.proofs.Shaped.{shaped-dimensions, word-is, part-inside, part-written}
 use Rattle.free_between.specs.Between.{zerosOf, Keyed, freeChained, ChainIn}
 
 -- Leading zeros
 
-module _ {ws : List ℕ} {s : Settings} {x : ℕ} (k : Keyed ws s x) {d : ℕ} (upto : d ≤ zerosOf ws s x) where
-  pub zero-more : {r : ℕ} → d < s .dimensions → r ≡ coordinateAt ws x d → r ≡ 0 → d + 1 ≤ zerosOf ws s x
-  zero-more h e none =
-      omega (arith, zeros-past (s .base) (s .dimensions) (k .base) (keyAt ws x) (k .fits) d h upto (sym (k .coordinates d h) ∙ sym e ∙ none))
+module _ {ws : List ℕ} {s : Settings} {x : ℕ} (k : Keyed ws s x) {powers : List ℕ} (p : PowersOf s powers) {d : ℕ} (upto : d ≤ zerosOf ws s x) {key : ℕ}
+    (is : key ≡ keyAt ws x) where
+  level : d < s .dimensions → getD powers (d + 1) 0 ≡ s .base ^ (s .dimensions - suc d)
+  level h = rw (add-one d) (p .level (suc d) h)
 
-  pub zero-last : {r : ℕ} → d < s .dimensions → r ≡ coordinateAt ws x d → (r ≡ 0 → ⊥) → d ≡ zerosOf ws s x
-  zero-last h e some =
-      sym (zeros-stop (s .base) (s .dimensions) (k .base) (keyAt ws x) (k .fits) d upto (λ z. some (e ∙ k .coordinates d h ∙ z)))
+  pub zero-more : d < s .dimensions → key < getD powers (d + 1) 0 → d + 1 ≤ zerosOf ws s x
+  zero-more h less =
+      omega (arith, shared-zeros (s .base) (s .dimensions) (keyAt ws x) (suc d) (k .base) (k .fits) h .0 (omega (arith, less, is, level h)))
+
+  pub zero-last : d < s .dimensions → getD powers (d + 1) 0 ≤ key → d ≡ zerosOf ws s x
+  zero-last h more =
+      omega (arith, upto, shared-zeros (s .base) (s .dimensions) (keyAt ws x) (suc d) (k .base) (k .fits) h .1 (omega (arith, more, is, level h)))
 
   pub zero-all : s .dimensions ≤ d → d ≡ zerosOf ws s x
   zero-all h = omega (arith, shared-le (s .base) (s .dimensions) 0 (keyAt ws x))
@@ -40,17 +45,17 @@ pub take-more :
     {ws : List ℕ} {s : Settings} → Shaped ws s → (x : ℕ) (path : List ℕ) (d : ℕ) {number from y : ℕ} → d < number → from ≡ getD path d 0 →
     y ≡ linkAt ws from d →
     takeLinks (s .dimensions) ws x path d (number - d)
-    ≡ takeLinks (s .dimensions) (store (s .dimensions) ws x (linkField (s .dimensions) d) y) x path (d + 1) (number - (d + 1))
+    ≡ takeLinks (s .dimensions) (store (s .dimensions) ws x (linkField d) y) x path (d + 1) (number - (d + 1))
 unfolding takeLinks
 take-more {ws} {s} h x path d {number} {from} {y} below f e =
-    rw (add-one d, e, f, ← link-is h (getD path d 0) d, shaped-dimensions h) (more (number - d) (number - suc d) (omega arith))
+    rw (add-one d, e, f, shaped-dimensions h) (more (number - d) (number - suc d) (omega arith))
   where
     D : ℕ
     D = s .dimensions
 
     more : (n rest : ℕ) → n ≡ suc rest →
         takeLinks D ws x path d n
-        ≡ takeLinks D (store D ws x (linkField D d) (getD ws (wordIndex D (getD path d 0) (linkField D d)) 0)) x path (suc d) rest
+        ≡ takeLinks D (store D ws x (linkField d) (getD ws (wordIndex D (getD path d 0) (linkField d)) 0)) x path (suc d) rest
     more n rest q = rw q refl
 
 pub take-all : (D : ℕ) (ws : List ℕ) (x : ℕ) (path : List ℕ) (d : ℕ) {number : ℕ} → number ≤ d → takeLinks D ws x path d (number - d) ≡ ws
@@ -84,12 +89,12 @@ module _ {ws : List ℕ} {s : Settings} (h : Shaped ws s) {x j : ℕ} (w : Withi
 
 -- The head's links, and a cell that becomes free
 
-pub relinked : (D : ℕ) (ws : List ℕ) (x z : ℕ) {left : List ℕ} {j : ℕ} → j ≡ linkField D z →
-    left ≡ sets ws (wordIndex D 0 j) (x ∷ replicate (cellWords D - suc j) 0) → left ≡ relinkHead D ws x z
+pub relinked : (D : ℕ) (ws : List ℕ) (x z : ℕ) {left : List ℕ} →
+    left ≡ sets ws (wordIndex D 0 (linkField z)) (x ∷ replicate (cellWords D - suc (linkField z)) 0) → left ≡ relinkHead D ws x z
 unfolding relinkHead
-relinked D ws x z field e =
-    let count : cellWords D - suc (linkField D z) ≡ D - suc z = omega arith in
-    e ∙ rw (field, count) refl
+relinked D ws x z e =
+    let count : cellWords D - suc (linkField z) ≡ D - suc z = omega arith in
+    e ∙ rw count refl
 
 pub freed : (D : ℕ) (ws : List ℕ) (x : ℕ) {left : List ℕ} →
     left ≡ sets ws (wordIndex D x 0) (firstFreeAt ws ∷ replicate (cellWords D - 1) 0) → set left 4 x ≡ freeCell D ws x

@@ -73,14 +73,14 @@ unfolding takeLinks
 alike-taken a x path d zero h = a
 alike-taken {D} {cells} {us} {ws} a x path d (suc k) h =
     alike-taken
-    (subst (λ v. Alike D cells (store D us x (linkField D d) (wordIn D us (getD path d 0) (linkField D d))) (store D ws x (linkField D d) v))
-    (alike-word a (getD path d 0) (linkField D d) (omega arith) (λ e. omega arith))
-    (alike-set a (wordIndex D x (linkField D d)) (wordIn D us (getD path d 0) (linkField D d))))
+    (subst (λ v. Alike D cells (store D us x (linkField d) (wordIn D us (getD path d 0) (linkField d))) (store D ws x (linkField d) v))
+    (alike-word a (getD path d 0) (linkField d) (omega arith) (λ e. omega arith))
+    (alike-set a (wordIndex D x (linkField d)) (wordIn D us (getD path d 0) (linkField d))))
     x path (suc d) k (omega arith)
 
 alike-relinked : {D : ℕ} {cells us ws : List ℕ} → Alike D cells us ws → (x z : ℕ) → Alike D cells (relinkHead D us x z) (relinkHead D ws x z)
 unfolding relinkHead
-alike-relinked {D} a x z = alike-sets a (wordIndex D 0 (linkField D z)) (x ∷ replicate (D - suc z) 0)
+alike-relinked {D} a x z = alike-sets a (wordIndex D 0 (linkField z)) (x ∷ replicate (D - suc z) 0)
 
 alike-cell : {D : ℕ} {cells us ws : List ℕ} → Alike D cells us ws → (x : ℕ) → Alike D cells (freeCell D us x) (freeCell D ws x)
 unfolding freeCell

@@ -1,12 +1,12 @@
--- What a list on which nobody owes gives, where a sweep moves the position to another cell than the head: that cell has its key's
--- coordinates, the numbers of the drop fit, and with the front dropped the words are the picture of the swept state.
+-- What a list on which nobody owes gives, where a sweep moves the position to another cell than the head: that cell is one of the list's,
+-- its key has D coordinates, the numbers of the drop fit, and with the front dropped the words are the picture of the swept state.
 use mathlib.Core.Path.{_≡_, sym, ap, _∙_, subst}
 use mathlib.Core.Bool.{false}
 use mathlib.Core.List.{List, map}
 use Prim.Native.Nat.{ℕ}
 use Rattle.settings.specs.declared.Settings.{Settings}
 use Rattle.lists.proofs.All.{All, all-at}
-use Rattle.meaning.specs.Keys.{coordinate, shared}
+use Rattle.meaning.specs.Keys.{shared}
 use Rattle.meaning.specs.Row.{Node, lastOf}
 use Rattle.meaning.specs.State.{State}
 use Rattle.meaning.specs.Picture.{picture}
@@ -15,13 +15,13 @@ use Rattle.meaning.specs.Operations.{paid, deadFront, fromLive, freedBy, swept}
 use Rattle.meaning.specs.Layer.Paths.{PathOf, dimensionIn}
 use Rattle.meaning.specs.Layer.SweepStores.{dropFront}
 use Rattle.meaning.proofs.State.{Sound, base-positive}
-use Rattle.meaning.proofs.Placed.{place-key, place-coordinate, placed-below}
+use Rattle.meaning.proofs.Placed.{place-key, placed-below}
 use Rattle.meaning.proofs.SentencesShape.{HasPlace, row-placed, key-below}
 use Rattle.meaning.proofs.PathNext.{way-key}
 use Rattle.meaning.proofs.SweepStores.{Dropping}
 use Rattle.meaning.proofs.SweepFinish.{paid-owes-nothing}
 use Rattle.meaning.proofs.SweepWords.{swept-front, sweptZeros, swept-dropping, unowing-swept}
-use Rattle.words.proofs.Listed.{on-listed}
+use Rattle.words.proofs.Listed.{power-fits, on-listed}
 use Rattle.paths.specs.Paths.{pathOf}
 use Rattle.free_between.specs.declared.Target.{Target}
 use Rattle.free_between.specs.Between.{Droppable, zerosOf, Keyed}
@@ -48,13 +48,11 @@ module _ (u : State) (v : Sound u) (unowing : All (λ x. x .owes ≡ false) (u .
   keyed-read =
       let standing = subst (All (HasPlace u)) (swept-front (u .row) ne) (row-placed v) in
       let here = all-at (HasPlace u) (freedBy (u .row)) x (fromLive (u .row)) standing .placed in
-      let b = u .settings .base in
-      let D = u .settings .dimensions in
       record {
         cell = placed-below v here;
         base = base-positive u v;
+        power = power-fits u v;
         fits = rw (place-key v here) (key-below v here);
-        coordinates = λ d h. place-coordinate v here d h ∙ ap (λ k. coordinate b D k d) (sym (place-key v here));
       }
 
   drops-read : Drops u (picture u) (u .settings) c number path

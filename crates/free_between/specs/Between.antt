@@ -5,10 +5,10 @@ use mathlib.Core.List.{List, [], _∷_, _++_, map}
 use Prim.Native.Nat.{ℕ, zero, suc, _^_, _<_}
 use lib.ListN.{length, getD}
 use Rattle.settings.specs.declared.Settings.{Settings}
-use Rattle.meaning.specs.Keys.{coordinate, shared}
+use Rattle.meaning.specs.Keys.{shared}
 use Rattle.meaning.specs.Row.{Node, lastOf}
 use Rattle.meaning.specs.Reading.{read}
-use Rattle.meaning.specs.Words.{wordIndex, keyAt, coordinateAt}
+use Rattle.meaning.specs.Words.{wordIndex, keyAt}
 use Rattle.meaning.specs.Operations.{paid, deadFront, fromLive, freedBy}
 use Rattle.meaning.specs.Layer.Listed.{Listed}
 use Rattle.meaning.specs.Layer.Paths.{PathOf, dimensionIn}
@@ -44,12 +44,12 @@ pub record Droppable (ws : List ℕ) (s : Settings) (t : Target) : Type 0 where
 abbrev pub zerosOf : List ℕ → Settings → ℕ → ℕ
 zerosOf ws s x = shared (s .base) (s .dimensions) 0 (keyAt ws x)
 
--- cell x has its key's coordinates
+-- cell x is one of the list's, its key has D coordinates, and the powers of b fit into 64 bits
 pub record Keyed (ws : List ℕ) (s : Settings) (x : ℕ) : Type 0 where
   pub cell : x < s .cells
   pub base : 0 < s .base
+  pub power : s .base ^ s .dimensions < 2 ^ 64
   pub fits : keyAt ws x < s .base ^ s .dimensions
-  pub coordinates : (d : ℕ) → d < s .dimensions → coordinateAt ws x d ≡ coordinate (s .base) (s .dimensions) (keyAt ws x) d
 
 -- The cells between
 

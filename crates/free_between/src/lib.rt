@@ -68,14 +68,17 @@ fn chain_between(list: &mut [u32], s: Settings, position: u32) -> Freed
     }
 }
 
-// How many leading coordinates of cell x are 0: what it shares with the head.
+// How many leading coordinates of cell x are 0: what it shares with the head. Those up to number d are 0 if its key is below the power of
+// level d + 1.
 fn leading_zeros(list: &[u32], s: Settings, x: u32) -> u32
     requires { ⌜ Shaped (now list) s × Keyed (now list) s x ⌝ }
     ensures { λ r. ⌜ r ≡ zerosOf (now (list .entry)) s x ⌝ }
 {
+    let powers = s.powers();
+    let key = words::word(list, s, x, words::KEY) as u64;
     let mut d: u32 = 0;
     while d < s.dimensions {
-        if words::coordinate(list, s, x, d) != 0 {
+        if powers.of[d as usize + 1] <= key {
             return d;
         }
         d += 1;
@@ -121,7 +124,7 @@ fn relink_head(list: &mut [u32], s: Settings, position: u32, z: u32)
     requires { ⌜ Shaped (now list) s × ((0 < s .cells) × (z < s .dimensions)) ⌝ }
     ensures { λ r. ⌜ (now (list .exit) ≡ relinkHead (s .dimensions) (now (list .entry)) position z) × Shaped (now (list .exit)) s ⌝ }
 {
-    store_before_zeros(list, s, 0, words::link_field(s, z), position);
+    store_before_zeros(list, s, 0, words::LINKS + z, position);
 }
 
 // Cell x becomes the first free one.

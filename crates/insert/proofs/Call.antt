@@ -157,47 +157,47 @@ free-none [] a e z = refl
 free-none (c ∷ free) a e z = absurd (let h = a .0 in omega arith)
 
 -- the definition's words of a new cell, by the slot that was found: q says nothing where there is no c
-same-words : (b D key value n : ℕ) {f : Found} {t : Slot} → SlotFound f t → newWords b D key value (slotOf n f) ≡ newWords b D key value t
+same-words : (D key value n : ℕ) {f : Found} {t : Slot} → SlotFound f t → newWords D key value (slotOf n f) ≡ newWords D key value t
 unfolding newWords
-same-words b D key value n {f} {t} g = at (ℕ-discrete (f .c) 0)
+same-words D key value n {f} {t} g = at (ℕ-discrete (f .c) 0)
   where
-    at : Dec (f .c ≡ 0) → newWords b D key value (slotOf n f) ≡ newWords b D key value t
+    at : Dec (f .c ≡ 0) → newWords D key value (slotOf n f) ≡ newWords D key value t
     at (yes z) = rw (← g .c, eq-eqb (f .c) 0 z) refl
     at (no ne) = rw (← g .c, ← g .p, ← g .q ne) refl
 
-same-slot : (b D : ℕ) (ws : List ℕ) (key value n : ℕ) {f : Found} {t : Slot} → SlotFound f t → n ≡ t .n →
-    insertWords b D ws key value (slotOf n f) ≡ insertWords b D ws key value t
+same-slot : (D : ℕ) (ws : List ℕ) (key value n : ℕ) {f : Found} {t : Slot} → SlotFound f t → n ≡ t .n →
+    insertWords D ws key value (slotOf n f) ≡ insertWords D ws key value t
 unfolding insertWords
-same-slot b D ws key value n g e = rw (same-words b D key value n g, g .parent, g .p, g .c, e) refl
+same-slot D ws key value n g e = rw (same-words D key value n g, g .parent, g .p, g .c, e) refl
 
 -- the steps of the code write what the definition says of the slot that was found, but for the path
 pub new-written :
     {paid : List ℕ} {s : Settings} → Shaped paid s → (ws : List ℕ) (key value n : ℕ) (f : Found) {next : ℕ} {cell us : List ℕ} →
     paid ≡ paidWords (s .dimensions) ws (f .parent) (f .c) → next ≡ wordAt paid n 0 →
-    cell ≡ sets (set paid 4 next) (wordIndex (s .dimensions) n 0) (newWords (s .base) (s .dimensions) key value (slotOf n f)) →
-    us ≡ store (s .dimensions) cell (f .parent) (linkField (s .dimensions) (f .p)) n → us ≡ insertWords (s .base) (s .dimensions) ws key value (slotOf n f)
+    cell ≡ sets (set paid 4 next) (wordIndex (s .dimensions) n 0) (newWords (s .dimensions) key value (slotOf n f)) →
+    us ≡ store (s .dimensions) cell (f .parent) (linkField (f .p)) n → us ≡ insertWords (s .dimensions) ws key value (slotOf n f)
 unfolding insertWords
 new-written h ws key value n f pays reads writes links = rw (links, writes, reads, ← word-is h n 0 refl, pays) refl
 
 -- The path's words stay
 
-exact-inserted : {D C : ℕ} {ws : List ℕ} → Exact D C ws → (b key value : ℕ) (t : Slot) → Exact D C (insertWords b D ws key value t)
+exact-inserted : {D C : ℕ} {ws : List ℕ} → Exact D C ws → (key value : ℕ) (t : Slot) → Exact D C (insertWords D ws key value t)
 unfolding insertWords
-exact-inserted {D} {C} {ws} exact b key value t = exact-set (exact-sets (exact-set (at (eqb (t .c) 0)) 4 _) (wordIndex D (t .n) 0)
-    (newWords b D key value t)) (wordIndex D (t .parent) (linkField D (t .p))) (t .n)
+exact-inserted {D} {C} {ws} exact key value t = exact-set (exact-sets (exact-set (at (eqb (t .c) 0)) 4 _) (wordIndex D (t .n) 0)
+    (newWords D key value t)) (wordIndex D (t .parent) (linkField (t .p))) (t .n)
   where
     at : (r : Bool) → Exact D C (cond r (finishWords D ws (t .parent)) (finishWords D (finishWords D ws (t .parent)) (t .c)))
     at true = exact-finished exact (t .parent)
     at false = exact-finished (exact-finished exact (t .parent)) (t .c)
 
-inserted-path : (b D : ℕ) (ws : List ℕ) (key value : ℕ) (t : Slot) (d : ℕ) → d < D →
-    getD (insertWords b D ws key value t) (headerWords + d) 0 ≡ getD ws (headerWords + d) 0
+inserted-path : (D : ℕ) (ws : List ℕ) (key value : ℕ) (t : Slot) (d : ℕ) → d < D →
+    getD (insertWords D ws key value t) (headerWords + d) 0 ≡ getD ws (headerWords + d) 0
 unfolding insertWords
-inserted-path b D ws key value t d h =
+inserted-path D ws key value t d h =
     let paid = paidWords D ws (t .parent) (t .c) in
     let next = getD paid (wordIndex D (t .n) 0) 0 in
-    let cell = newWords b D key value t in
-    store-below D (sets (set paid 4 next) (wordIndex D (t .n) 0) cell) (t .parent) (linkField D (t .p)) (t .n) (headerWords + d) (omega arith)
+    let cell = newWords D key value t in
+    store-below D (sets (set paid 4 next) (wordIndex D (t .n) 0) cell) (t .parent) (linkField (t .p)) (t .n) (headerWords + d) (omega arith)
     ∙ cell-sets-below D (set paid 4 next) (t .n) 0 cell (headerWords + d) (omega arith)
     ∙ header-set-path paid 4 next d (omega arith)
     ∙ at (eqb (t .c) 0)
@@ -217,17 +217,16 @@ module _ {t : State} (v : Sound t) (key value : ℕ) (least : 1 ≤ key) (most :
   slot : SlotFound f (slotFor t key)
   slot = found-slot v least is missing room
 
-  written : insertWords (t .settings .base) (t .settings .dimensions) (picture t) key value (slotOf n f)
-      ≡ insertWords (t .settings .base) (t .settings .dimensions) (picture t) key value (slotFor t key)
-  written = same-slot (t .settings .base) (t .settings .dimensions) (picture t) key value n slot (first ∙ number)
+  written : insertWords (t .settings .dimensions) (picture t) key value (slotOf n f)
+      ≡ insertWords (t .settings .dimensions) (picture t) key value (slotFor t key)
+  written = same-slot (t .settings .dimensions) (picture t) key value n slot (first ∙ number)
     where
       number : firstNumber (t .free) ≡ slotFor t key .n
       number = unfold slotFor in refl
 
-  added-leads : Leads (picture t) (insertWords (t .settings .base) (t .settings .dimensions) (picture t) key value (slotOf n f)) (t .settings)
+  added-leads : Leads (picture t) (insertWords (t .settings .dimensions) (picture t) key value (slotOf n f)) (t .settings)
       (positionKey t) key value f
   added-leads =
-      let b = t .settings .base in
       let D = t .settings .dimensions in
       let absent = found-missing v least is missing in
       let none = absent .node in
@@ -242,9 +241,9 @@ module _ {t : State} (v : Sound t) (key value : ℕ) (least : 1 ≤ key) (most :
               position = position;
               kept = λ h.
                   words
-                  ∙ ap (writePath (insertWords b D (picture t) key value (slotFor t key))) (added-path t v key value least most none room h)
-                  ∙ path-sets-same (exact-inserted (picture-exact t) b key value (slotFor t key)) (path t) (path-length t)
-                  (λ d l. inserted-path b D (picture t) key value (slotFor t key) d l ∙ picture-path-word t d l);
+                  ∙ ap (writePath (insertWords D (picture t) key value (slotFor t key))) (added-path t v key value least most none room h)
+                  ∙ path-sets-same (exact-inserted (picture-exact t) key value (slotFor t key)) (path t) (path-length t)
+                  (λ d l. inserted-path D (picture t) key value (slotFor t key) d l ∙ picture-path-word t d l);
             });
         outcome = insert-outcome-new t v key value least most none room ∙ ap (λ m. accepted key 0 m (picture after)) (sym (absent .looked));
       }
@@ -305,9 +304,9 @@ module _ {ws : List ℕ} {s : Settings} {key : ℕ} {f : Found} (k : Sought ws s
       word
 
   pub new-leads : (value : ℕ) {n : ℕ} → n ≡ firstFreeAt ws → 0 < n →
-      Leads ws (insertWords (s .base) (s .dimensions) ws key value (slotOf n f)) s (positionKey (read ws)) key value f
+      Leads ws (insertWords (s .dimensions) ws key value (slotOf n f)) s (positionKey (read ws)) key value f
   new-leads value {n} e h =
-      on-sought (λ t ws s. n ≡ firstFreeAt ws → Leads ws (insertWords (s .base) (s .dimensions) ws key value (slotOf n f)) s (positionKey t) key value f) k
+      on-sought (λ t ws s. n ≡ firstFreeAt ws → Leads ws (insertWords (s .dimensions) ws key value (slotOf n f)) s (positionKey t) key value f) k
       (λ t v most q word.
       let first = word ∙ picture-free t in
       added-leads v key value (k .least) most q missing (free-some (t .free) first h) first)

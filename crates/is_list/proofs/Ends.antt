@@ -99,6 +99,7 @@ module _ (ws : List ℕ) where
 pub record Headed (ws : List ℕ) (s : Settings) : Type 0 where
   pub right : headerRight ws ≡ true
   pub shaped : Shaped ws s
+  pub base : 0 < s .base
   pub power : s .base ^ s .dimensions < 2 ^ 64
   pub cells : 0 < s .cells
 
@@ -120,6 +121,7 @@ headed {ws} {s} p q = at (headerRight ws) refl (sym p ∙ q)
                 dimensions-most = h .in-range .dimensions-most;
                 cells-most = h .in-range .cells-most;
               };
+          base = h .positive;
           power = base-power-fits (h .in-range .dimensions-most) (h .in-range .largest-most) (h .in-range .largest-least) (h .base);
           cells = omega (arith, h .in-range .cells-least);
         })

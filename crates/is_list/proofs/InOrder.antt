@@ -340,9 +340,9 @@ pub record Reading (ws : List ℕ) (s : Settings) (start : Seen) (cells numbers 
   pub within : SeenWithin s seen
   pub same : verdict (leftOver ws 0 0 0 0 [] start) ≡ verdict (leftOver ws before (seen .last) e from (pendingOf cells numbers count) seen)
 
-pub reading-starts : {ws : List ℕ} {s : Settings} {start : Seen} → Started ws s start → (cells numbers : List ℕ) → length cells ≡ 16 → length numbers ≡ 16 →
+pub reading-starts : {ws : List ℕ} {s : Settings} {powers : List ℕ} {start : Seen} → Started ws s powers start → (cells numbers : List ℕ) → length cells ≡ 16 → length numbers ≡ 16 →
     Reading ws s start cells numbers 0 0 0 start
-reading-starts {ws} {s} {start} k cells numbers hc hn =
+reading-starts {ws} {s} {start = start} k cells numbers hc hn =
     record {
       before = 0;
       hung = plain (k .unowing) refl;

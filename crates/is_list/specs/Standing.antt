@@ -2,9 +2,10 @@
 use mathlib.Core.Path.{_≡_}
 use mathlib.Core.Bool.{true, cond, _&&_}
 use mathlib.Core.List.{List, [], _∷_}
-use Prim.Native.Nat.{ℕ, zero, suc, _-_, _^_, _≤_, _<_}
+use Prim.Native.Nat.{ℕ, zero, suc, _-_, _≤_, _<_}
 use lib.Dec.{eqb}
 use lib.ListN.{length, getD}
+use Rattle.settings.specs.Levels.{PowersOf}
 use Rattle.settings.specs.declared.Settings.{Settings}
 use Rattle.meaning.specs.Reading.{settingsAt}
 use Rattle.meaning.specs.Words.{owedAt, highAt, linkAt}
@@ -70,9 +71,9 @@ pub record NextIs (ws : List ℕ) (s : Settings) (y e from : ℕ) (pending : Lis
   pub goes : (w : Way) → r ≡ Goes w → GoesOn ws s y e from pending w cells numbers
 
 -- where the loop starts: at a head that owes nothing
-pub record Started (ws : List ℕ) (s : Settings) (start : Seen) : Type 0 where
+pub record Started (ws : List ℕ) (s : Settings) (powers : List ℕ) (start : Seen) : Type 0 where
   pub shaped : Shaped ws s
-  pub power : s .base ^ s .dimensions < 2 ^ 64
+  pub levels : PowersOf s powers
   pub within : SeenWithin s start
   pub right : start .right ≡ true
   pub head : start .last ≡ 0

@@ -50,7 +50,8 @@ pub fn is_list(list: &[u32]) -> Reading
     if !start.right {
         return Reading::NotAList;
     }
-    let seen = standing::read(list, s, start);
+    let powers = s.powers();
+    let seen = standing::read(list, s, &powers.of, start);
     if !seen.right {
         return Reading::NotAList;
     }

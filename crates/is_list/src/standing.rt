@@ -2,7 +2,8 @@
 // still to be followed are kept pending, at most one of each number: the next cell is where the one of the highest number leads.
 ghost use mathlib.Core.Path.{_≡_};
 ghost use mathlib.Core.List.{[]};
-ghost use Prim.Native.Nat.{_-_, _^_, _≤_, _<_};
+ghost use Prim.Native.Nat.{_-_, _≤_, _<_};
+ghost use Rattle.settings.specs.Levels.{PowersOf};
 ghost use Rattle.meaning.specs.Words.{linkAt};
 ghost use Rattle.words.specs.Shaped.{Shaped};
 ghost use Rattle.tree.specs.Tree.{atHead};
@@ -70,11 +71,11 @@ fn wrong(seen: Seen) -> Seen
 }
 
 // What has been seen once cell y is met by link e. Past the position the path is no longer compared.
-fn enter(list: &[u32], s: Settings, y: u32, e: u32, seen: Seen) -> Seen
-    requires { ⌜ Shaped (now list) s × ((s .base ^ s .dimensions < 2 ^ 64) × ((e < s .dimensions) × SeenWithin s seen)) ⌝ }
+fn enter(list: &[u32], s: Settings, powers: &[u64], y: u32, e: u32, seen: Seen) -> Seen
+    requires { ⌜ Shaped (now list) s × (PowersOf s (now powers) × ((e < s .dimensions) × SeenWithin s seen)) ⌝ }
     ensures { λ r. ⌜ Entered (now (list .entry)) s y e seen r ⌝ }
 {
-    if !standing::alone_right(list, s, y, e, seen) {
+    if !standing::alone_right(list, s, powers, y, e, seen) {
         return wrong(seen);
     }
     let left = seen.left - 1;
@@ -193,8 +194,8 @@ fn go_on(
 }
 
 // What has been seen when all standing cells have been read, from what has been seen at the head on.
-pub fn read(list: &[u32], s: Settings, start: Seen) -> Seen
-    requires { ⌜ Started (now list) s start ⌝ }
+pub fn read(list: &[u32], s: Settings, powers: &[u64], start: Seen) -> Seen
+    requires { ⌜ Started (now list) s (now powers) start ⌝ }
     ensures { λ r. ⌜ verdict r ≡ verdict (leftOver (now (list .entry)) 0 0 0 0 [] start) ⌝ }
 {
     let mut cells = [0u32; 16];
@@ -209,7 +210,7 @@ pub fn read(list: &[u32], s: Settings, start: Seen) -> Seen
             Next::Wrong => return wrong(seen),
             Next::End => return seen,
             Next::Goes(w) => {
-                seen = enter(list, s, w.cell, w.number, seen);
+                seen = enter(list, s, powers, w.cell, w.number, seen);
                 e = w.number;
                 from = w.from;
                 count = w.count;

@@ -5,7 +5,6 @@ use mathlib.Core.Bool.{Bool, true, false, cond, true≢false}
 use mathlib.Core.List.{List, [], _∷_, _++_, append-nil}
 use Prim.Native.Nat.{ℕ, _+_, _<_}
 use native.Mathlib.Numerals.{add-one}
-use lib.Dec.{eqb}
 use lib.ListN.{length, getD, take}
 use lib.Seq.{take-suc}
 use borrow.Author.Tests.{eq-eqb}
@@ -21,7 +20,6 @@ use Rattle.records.specs.declared.feed.Fed.{Fed}
 use Rattle.records.specs.declared.feed.Told.{Told}
 use Rattle.records.specs.declared.feed.Told.the-variants.{NoRecord, Record}
 use Rattle.records.proofs.Notes.{note-within}
-use Rattle.meaning.specs.Refusals.{Outcome}
 use Rattle.meaning.specs.Operations.{takeOut}
 use Rattle.meaning.specs.Records.{Lent, noteOut}
 use Rattle.meaning.specs.Calls.{outcome, alone, lending}

@@ -1,23 +1,21 @@
 -- Every cell number that the words of a picture hold is below C: a cell that is owed from, where a link leads as it stands, and as it is
 -- read. A standing cell's debt and links lead to nodes of the row, and a free cell has neither.
-use mathlib.Core.Path.{_≡_, refl, ap, _∙_}
+use mathlib.Core.Path.{_≡_, refl}
 use mathlib.Core.Bool.{Bool, cond, _&&_, not}
 use mathlib.Core.List.{List, [], _∷_}
 use mathlib.Core.Option.{Option, none, some}
-use Prim.Native.Nat.{ℕ, _+_, _<_}
+use Prim.Native.Nat.{ℕ, _<_}
 use native.Mathlib.Omega.{arith}
 use lib.Dec.{eqb, leb}
-use Rattle.settings.specs.Numbers.{fieldsBeforeCoordinates}
 use Rattle.lists.proofs.All.{All, all-map}
 use Rattle.lists.proofs.Tests.{cond-has}
 use Rattle.meaning.specs.Keys.{shared}
 use Rattle.meaning.specs.Row.{Node, firstOf, firstSharing, Place, placeOf, settledLink, low, high, between, link, owed}
 use Rattle.meaning.specs.State.{State, placesOf}
 use Rattle.meaning.specs.Picture.{picture}
-use Rattle.meaning.specs.Words.{wordAt, owedAt, lowAt, highAt, linkAt}
+use Rattle.meaning.specs.Words.{owedAt, lowAt, highAt, linkAt, linkField}
 use Rattle.meaning.specs.Walk.{linkRead}
 use Rattle.meaning.proofs.State.{Sound}
-use Rattle.meaning.proofs.Picture.{picture-dimensions}
 use Rattle.meaning.proofs.Placed.{Placed, placed-below, placed-cell, place-owed, place-link, free-cell-rest}
 use Rattle.meaning.proofs.SentencesShape.{later-placed}
 
@@ -71,8 +69,7 @@ module _ (s : State) (v : Sound s) where
     where
       at : (o : Option Place) → placeOf x (placesOf s (s .row)) ≡ o → linkAt (picture s) x d < s .settings .cells
       at none e =
-          let word = ap (λ n. wordAt (picture s) x (fieldsBeforeCoordinates + n + d)) (picture-dimensions s) in
-          rw (word ∙ free-cell-rest s x h e (fieldsBeforeCoordinates + s .settings .dimensions + d) (omega arith) (omega arith)) cell-none
+          rw (free-cell-rest s x h e (linkField d) (omega arith) (omega arith)) cell-none
       at (some p) e =
           let here : Placed s x p = record { found = e } in
           let cell : p .node .cell < s .settings .cells = rw (placed-cell here) h in

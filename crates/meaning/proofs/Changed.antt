@@ -3,22 +3,22 @@
 -- position, the cells and the keys.
 use mathlib.Core.Path.{_≡_, refl, sym, ap, ap₂, _∙_, fun-ext}
 use mathlib.Core.Bool.{Bool, true, false, cond, _&&_}
-use mathlib.Core.List.{List, [], _∷_, _++_, map}
+use mathlib.Core.List.{List, [], _∷_, map}
 use mathlib.Core.Option.{Option, none, some}
 use Prim.Native.Nat.{ℕ, zero, suc, _+_, _<_}
 use native.Mathlib.Omega.{arith}
 use lib.Dec.{eqb, leb}
 use lib.ListN.{length, getD}
-use Rattle.settings.specs.Numbers.{headerWords, fieldsBeforeCoordinates, cellWords}
+use Rattle.settings.specs.Numbers.{headerWords, cellWords}
 use Rattle.lists.specs.Lists.{numbersFrom}
-use Rattle.meaning.specs.Keys.{coordinates, coordinate, shared}
+use Rattle.meaning.specs.Keys.{shared}
 use Rattle.meaning.specs.Row.{Node, headNode, firstOf, firstSharing, Place, placeOf, settledLink, between, link}
 use Rattle.meaning.specs.State.{State, keyOf, positionKey, placesOf}
 use Rattle.meaning.specs.Picture.{mark, standingWords, wordsOf, firstWith, pathWord, path, picture}
 use Rattle.meaning.specs.Words.{linkField}
 use Rattle.meaning.proofs.Picture.{shownWords, picture-word, picture-path, path-word}
 use Rattle.meaning.proofs.Places.{Keeping, changedPlace, cells-changed, keys-changed, firstOf-changed, places-changed}
-use Rattle.meaning.proofs.WalkRead.{words-coordinate, words-link}
+use Rattle.meaning.proofs.WalkRead.{words-link}
 use Rattle.meaning.proofs.Placed.{Placed}
 use Rattle.meaning.proofs.KeepsState.{changedState}
 use Rattle.meaning.proofs.Stores.{wordIn}
@@ -82,7 +82,7 @@ unfoldable pub wordsBy : ℕ → ℕ → ℕ → Bool → Bool → Bool → Plac
 wordsBy b D value live beforeOwes owes q =
     q .node .key ∷ value ∷ mark live
     ∷ cond owes (firstOf (q .later) .cell) 0 ∷ cond owes (q .dimension) 0 ∷ cond owes (shared b D (q .node .key) (firstOf (q .later) .key)) 0
-    ∷ (coordinates b D (q .node .key) ++ map (linkBy b D beforeOwes owes q) (numbersFrom 0 D))
+    ∷ map (linkBy b D beforeOwes owes q) (numbersFrom 0 D)
 
 pub standing-by : (b D : ℕ) (q : Place) → standingWords b D q ≡ wordsBy b D (q .node .value) (q .node .live) (q .before .owes) (q .node .owes) q
 unfolding standingWords wordsBy link
@@ -94,15 +94,10 @@ sixBy b D value live owes q =
     q .node .key ∷ value ∷ mark live
     ∷ cond owes (firstOf (q .later) .cell) 0 ∷ cond owes (q .dimension) 0 ∷ cond owes (shared b D (q .node .key) (firstOf (q .later) .key)) 0 ∷ []
 
-pub by-coordinate : (b D value : ℕ) (live beforeOwes owes : Bool) (q : Place) (d : ℕ) → d < D →
-    getD (wordsBy b D value live beforeOwes owes q) (fieldsBeforeCoordinates + d) 0 ≡ coordinate b D (q .node .key) d
-unfolding wordsBy
-by-coordinate b D value live beforeOwes owes q d h = words-coordinate (sixBy b D value live owes q) refl b D (q .node .key) (linkBy b D beforeOwes owes q) d h
-
 pub by-link : (b D value : ℕ) (live beforeOwes owes : Bool) (q : Place) (d : ℕ) → d < D →
-    getD (wordsBy b D value live beforeOwes owes q) (linkField D d) 0 ≡ linkBy b D beforeOwes owes q d
+    getD (wordsBy b D value live beforeOwes owes q) (linkField d) 0 ≡ linkBy b D beforeOwes owes q d
 unfolding wordsBy
-by-link b D value live beforeOwes owes q d h = words-link (sixBy b D value live owes q) refl b D (q .node .key) (linkBy b D beforeOwes owes q) d h
+by-link b D value live beforeOwes owes q d h = words-link (sixBy b D value live owes q) refl D (linkBy b D beforeOwes owes q) d h
 
 -- Changed nodes
 
@@ -134,7 +129,7 @@ module _ (f : Node → Node) (keeping : Keeping f) where
   wordsBy-changed b D value live beforeOwes owes q = λ i.
       keeping .key (q .node) i ∷ value ∷ mark live
       ∷ cond owes (first-cell (q .later) i) 0 ∷ cond owes (q .dimension) 0 ∷ cond owes (shared b D (keeping .key (q .node) i) (first-key (q .later) i)) 0
-      ∷ (coordinates b D (keeping .key (q .node) i) ++ map (fun-ext (linkBy-changed b D beforeOwes owes q) i) (numbersFrom 0 D))
+      ∷ map (fun-ext (linkBy-changed b D beforeOwes owes q) i) (numbersFrom 0 D)
 
   foundChanged : Option Place → Option Place
   foundChanged none = none

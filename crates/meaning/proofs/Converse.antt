@@ -11,7 +11,7 @@ use Rattle.settings.specs.Numbers.{headerWords}
 use Rattle.lists.specs.Lists.{firstNumber}
 use Rattle.lists.proofs.Occurrences.{all-occur, occurs-has}
 use Rattle.lists.proofs.All.{All, all-map, all-zip, all-mapped, all-in}
-use Rattle.meaning.specs.Keys.{coordinate, shared}
+use Rattle.meaning.specs.Keys.{shared}
 use Rattle.meaning.specs.Row.{headNode, Place, places}
 use Rattle.meaning.specs.Picture.{nextFree, firstWith, pathWord, picture}
 use Rattle.meaning.specs.Reading.{isList}
@@ -101,8 +101,6 @@ module _ (ws : List ℕ) (a : AList ws) where
         owed = sym (owed-shown ws a p q);
         low = sym (low-shown ws a p q);
         high = sym (high-shown ws a p q);
-        coordinate = λ d h.
-            a .coordinate-words (p .node .cell) d (shown .standing) h ∙ ap (λ key. coordinate (baseAt ws) (dimensionsAt ws) key d) (sym (shown .key));
         link = λ d h. sym (link-shown ws a p d q h);
       }
 

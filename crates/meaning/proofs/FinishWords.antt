@@ -10,7 +10,7 @@ use native.Mathlib.Decide.{ℕ-discrete, decLe, decLt}
 use native.Mathlib.Omega.{arith}
 use lib.ListN.{getD}
 use borrow.Author.Tests.{lt-leb}
-use Rattle.settings.specs.Numbers.{headerWords, fieldsBeforeCoordinates, cellWords}
+use Rattle.settings.specs.Numbers.{headerWords, fieldsBeforeLinks, cellWords}
 use Rattle.lists.specs.Lists.{occurrences}
 use Rattle.meaning.specs.Keys.{shared}
 use Rattle.meaning.specs.Row.{Node, firstOf, Place, settledLink, between, placeOf, firstSharing}
@@ -32,7 +32,7 @@ use Rattle.meaning.proofs.SentencesRow.Led.{head, led}
 use Rattle.meaning.proofs.Placed.{Placed, placed-has, placed-cell, head-placed, occurs-placed, placed-below, place-owed, place-low, place-high}
 use Rattle.meaning.proofs.Placed.{place-unowing}
 use Rattle.meaning.proofs.SentencesShape.{NextIn, LedIn, placed-ascends, placed-led, place-after}
-use Rattle.meaning.proofs.Changed.{wordsBy, by-coordinate, by-link, placed-word, changed-word, changed-free, changed-header, changed-path}
+use Rattle.meaning.proofs.Changed.{wordsBy, by-link, placed-word, changed-word, changed-free, changed-header, changed-path}
 use Rattle.meaning.proofs.Stores.{wordIn, picture-exact, words-equal, field-cases, exact-finished, finishWords-finished, finishWords-none}
 use Rattle.meaning.proofs.Stores.{finishWords-below, OwingWithin, finishWords-debt, finishWords-given, finishWords-cleared, finishWords-cell}
 use Rattle.meaning.proofs.Stores.{finishWords-field, finishWords-before, finishWords-after}
@@ -45,7 +45,7 @@ placed-once here there = let e = here .found in let f = there .found in cc
 
 module _ (b D value : ℕ) (live : Bool) (q : Place) where
   -- the debt of the cell before shows in the links alone
-  led-apart : (a c owes : Bool) (j : ℕ) → j < fieldsBeforeCoordinates → getD (wordsBy b D value live a owes q) j 0 ≡ getD (wordsBy b D value live c owes q) j 0
+  led-apart : (a c owes : Bool) (j : ℕ) → j < fieldsBeforeLinks → getD (wordsBy b D value live a owes q) j 0 ≡ getD (wordsBy b D value live c owes q) j 0
   unfolding wordsBy
   led-apart a c owes zero h = refl
   led-apart a c owes (suc zero) h = refl
@@ -234,37 +234,37 @@ module _ {s : State} (v : Sound s) {n : ℕ} {p : Place} (here : Placed s n p) w
 
     -- The links of the two
 
-    own-settled : (d : ℕ) → d < D → wordIn D (picture after) n (linkField D d) ≡ settledLink b D p d
+    own-settled : (d : ℕ) → d < D → wordIn D (picture after) n (linkField d) ≡ settledLink b D p d
     own-settled d h =
-        own-after (linkField D d) (omega arith)
+        own-after (linkField d) (omega arith)
         ∙ by-link b D (p .node .value) (p .node .live) false false p d h
 
     -- the links that n does not owe are settled before too
-    own-outside : (d : ℕ) → d < D → (p .dimension ≤ d → d < q .dimension → ⊥) → wordIn D (picture s) n (linkField D d) ≡ settledLink b D p d
+    own-outside : (d : ℕ) → d < D → (p .dimension ≤ d → d < q .dimension → ⊥) → wordIn D (picture s) n (linkField d) ≡ settledLink b D p d
     own-outside d h out =
-        own-before (linkField D d) (omega arith)
+        own-before (linkField d) (omega arith)
         ∙ by-link b D (p .node .value) (p .node .live) false true p d h
         ∙ ap (λ t. cond t 0 (settledLink b D p d))
         (ap (λ m. between (p .dimension) m d) high-shared ∙ between-out (p .dimension) (q .dimension) d out)
 
     -- Debts 3
-    next-inside : (d : ℕ) → d < D → p .dimension ≤ d → d < q .dimension → wordIn D (picture s) (q .node .cell) (linkField D d) ≡ settledLink b D p d
+    next-inside : (d : ℕ) → d < D → p .dimension ≤ d → d < q .dimension → wordIn D (picture s) (q .node .cell) (linkField d) ≡ settledLink b D p d
     next-inside d h l u =
-        next-before (linkField D d) (omega arith)
+        next-before (linkField d) (omega arith)
         ∙ by-link b D (q .node .value) (q .node .live) true false q d h
         ∙ ap (λ t. cond t (firstSharing b D (q .before .key) d (q .node ∷ q .later)) (settledLink b D q d))
         (ap (λ m. between m (q .dimension) d) (next .beforeDimension) ∙ between-is (p .dimension) (q .dimension) d l u)
         ∙ ap₂ (λ y r. firstSharing b D (y .key) d r) (next .before) (sym (next .later))
         ∙ sym (settled-above b D p d l)
 
-    next-settled : (d : ℕ) → d < D → wordIn D (picture after) (q .node .cell) (linkField D d) ≡ settledLink b D q d
+    next-settled : (d : ℕ) → d < D → wordIn D (picture after) (q .node .cell) (linkField d) ≡ settledLink b D q d
     next-settled d h =
-        next-after (linkField D d) (omega arith)
+        next-after (linkField d) (omega arith)
         ∙ by-link b D (q .node .value) (q .node .live) false false q d h
 
-    next-outside : (d : ℕ) → d < D → (p .dimension ≤ d → d < q .dimension → ⊥) → wordIn D (picture s) (q .node .cell) (linkField D d) ≡ settledLink b D q d
+    next-outside : (d : ℕ) → d < D → (p .dimension ≤ d → d < q .dimension → ⊥) → wordIn D (picture s) (q .node .cell) (linkField d) ≡ settledLink b D q d
     next-outside d h out =
-        next-before (linkField D d) (omega arith)
+        next-before (linkField d) (omega arith)
         ∙ by-link b D (q .node .value) (q .node .live) true false q d h
         ∙ ap (λ t. cond t (firstSharing b D (q .before .key) d (q .node ∷ q .later)) (settledLink b D q d))
         (ap (λ m. between m (q .dimension) d) (next .beforeDimension) ∙ between-out (p .dimension) (q .dimension) d out)
@@ -276,20 +276,20 @@ module _ {s : State} (v : Sound s) {n : ℕ} {p : Place} (here : Placed s n p) w
 
     -- link d is none of the links that move
     outside : (d : ℕ) → (p .dimension ≤ d → d < q .dimension → ⊥) → (i : ℕ) → lowAt (picture s) n ≤ i → i < highAt (picture s) n →
-        linkField D d ≡ linkField D i → ⊥
+        linkField d ≡ linkField i → ⊥
     outside d out i l u e = out (omega (arith, low-is)) (omega (arith, high-is))
 
-    own-link : (d : ℕ) → d < D → wordIn D (picture after) n (linkField D d) ≡ wordIn D (finishWords D (picture s) n) n (linkField D d)
+    own-link : (d : ℕ) → d < D → wordIn D (picture after) n (linkField d) ≡ wordIn D (finishWords D (picture s) n) n (linkField d)
     own-link d h =
         own-settled d h
         ∙ inside-cases (p .dimension) (q .dimension) d
         (λ l u.
         sym (next-inside d h l u)
-        ∙ ap (λ c. wordIn D (picture s) c (linkField D d)) (sym owed-is)
+        ∙ ap (λ c. wordIn D (picture s) c (linkField d)) (sym owed-is)
         ∙ sym (finishWords-given (picture-exact s) n owing d (omega (arith, low-is)) (omega (arith, high-is))))
-        (λ out. sym (own-outside d h out) ∙ sym (finishWords-after (picture-exact s) n owing (linkField D d) (omega arith) (omega arith) (outside d out)))
+        (λ out. sym (own-outside d h out) ∙ sym (finishWords-after (picture-exact s) n owing (linkField d) (omega arith) (omega arith) (outside d out)))
 
-    own-first : (j : ℕ) → j < fieldsBeforeCoordinates → Dec (j < 3) → wordIn D (picture after) n j ≡ wordIn D (finishWords D (picture s) n) n j
+    own-first : (j : ℕ) → j < fieldsBeforeLinks → Dec (j < 3) → wordIn D (picture after) n j ≡ wordIn D (finishWords D (picture s) n) n j
     own-first j h (yes l) =
         own-after j (omega arith)
         ∙ owes-apart b D (p .node .value) (p .node .live) p false false true j l
@@ -306,28 +306,22 @@ module _ {s : State} (v : Sound s) {n : ℕ} {p : Place} (here : Placed s n p) w
     own-word =
         field-cases (λ j. wordIn D (picture after) n j ≡ wordIn D (finishWords D (picture s) n) n j) D
         (λ j h. own-first j h (decLt j 3))
-        (λ d h.
-        own-after (fieldsBeforeCoordinates + d) (omega arith)
-        ∙ by-coordinate b D (p .node .value) (p .node .live) false false p d h
-        ∙ sym (by-coordinate b D (p .node .value) (p .node .live) false true p d h)
-        ∙ sym (own-before (fieldsBeforeCoordinates + d) (omega arith))
-        ∙ sym (finishWords-after (picture-exact s) n owing (fieldsBeforeCoordinates + d) (omega arith) (omega arith) (λ i l u e. omega arith)))
         own-link
 
-    next-kept : (j : ℕ) → j < cellWords D → ((i : ℕ) → lowAt (picture s) n ≤ i → i < highAt (picture s) n → j ≡ linkField D i → ⊥) →
+    next-kept : (j : ℕ) → j < cellWords D → ((i : ℕ) → lowAt (picture s) n ≤ i → i < highAt (picture s) n → j ≡ linkField i → ⊥) →
         wordIn D (picture s) (q .node .cell) j ≡ wordIn D (finishWords D (picture s) n) (q .node .cell) j
     next-kept j h other = sym (finishWords-field (picture-exact s) n owing (q .node .cell) j h next-other other)
 
-    next-link : (d : ℕ) → d < D → wordIn D (picture after) (q .node .cell) (linkField D d)
-        ≡ wordIn D (finishWords D (picture s) n) (q .node .cell) (linkField D d)
+    next-link : (d : ℕ) → d < D → wordIn D (picture after) (q .node .cell) (linkField d)
+        ≡ wordIn D (finishWords D (picture s) n) (q .node .cell) (linkField d)
     next-link d h =
         next-settled d h
         ∙ inside-cases (p .dimension) (q .dimension) d
         (λ l u.
         next-cut d u
         ∙ sym (finishWords-cleared (picture-exact s) n owing d (omega (arith, low-is)) (omega (arith, high-is)))
-        ∙ ap (λ c. wordIn D (finishWords D (picture s) n) c (linkField D d)) owed-is)
-        (λ out. sym (next-outside d h out) ∙ next-kept (linkField D d) (omega arith) (outside d out))
+        ∙ ap (λ c. wordIn D (finishWords D (picture s) n) c (linkField d)) owed-is)
+        (λ out. sym (next-outside d h out) ∙ next-kept (linkField d) (omega arith) (outside d out))
 
     next-word : (j : ℕ) → j < cellWords D → wordIn D (picture after) (q .node .cell) j ≡ wordIn D (finishWords D (picture s) n) (q .node .cell) j
     next-word =
@@ -337,12 +331,6 @@ module _ {s : State} (v : Sound s) {n : ℕ} {p : Place} (here : Placed s n p) w
         ∙ led-apart b D (q .node .value) (q .node .live) q false true false j h
         ∙ sym (next-before j (omega arith))
         ∙ next-kept j (omega arith) (λ i l u e. omega arith))
-        (λ d h.
-        next-after (fieldsBeforeCoordinates + d) (omega arith)
-        ∙ by-coordinate b D (q .node .value) (q .node .live) false false q d h
-        ∙ sym (by-coordinate b D (q .node .value) (q .node .live) true false q d h)
-        ∙ sym (next-before (fieldsBeforeCoordinates + d) (omega arith))
-        ∙ next-kept (fieldsBeforeCoordinates + d) (omega arith) (λ i l u e. omega arith))
         next-link
 
     other-word : (x j : ℕ) → x < s .settings .cells → j < cellWords D → (x ≡ n → ⊥) → (x ≡ q .node .cell → ⊥) →
@@ -434,6 +422,6 @@ module _ (s : State) (v : Sound s) (n : ℕ) (stands : 0 < occurrences n (0 ∷ 
       at : Dec (0 < owedAt (picture s) n) → OwesSame (picture s) (picture (withRow s (finished n (s .row)))) x
       at (yes o) = (kept 3 (omega arith), kept 4 (omega arith), kept 5 (omega arith))
         where
-          kept : (j : ℕ) → j < fieldsBeforeCoordinates → wordAt (picture (withRow s (finished n (s .row)))) x j ≡ wordAt (picture s) x j
+          kept : (j : ℕ) → j < fieldsBeforeLinks → wordAt (picture (withRow s (finished n (s .row)))) x j ≡ wordAt (picture s) x j
           kept j h = finish-finished o .other x j (omega arith) (λ e l u. ne e) (λ d l u e. absurd (omega arith))
       at (no o) = subst (λ us. OwesSame (picture s) us x) (sym (finish-nothing (omega arith))) (refl, refl, refl)

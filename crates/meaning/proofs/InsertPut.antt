@@ -13,16 +13,16 @@ use lib.Dec.{eqb, ltb}
 use lib.ListN.{length, getD, set, drop}
 use lib.Seq.{sets, ext-getD}
 use borrow.Author.Tests.{ne-eqb, eqb-false, not-true}
-use Rattle.settings.specs.Numbers.{headerWords, fieldsBeforeCoordinates, cellWords}
+use Rattle.settings.specs.Numbers.{headerWords, fieldsBeforeLinks, cellWords}
 use Rattle.lists.specs.Lists.{numbersFrom, firstNumber}
 use Rattle.lists.proofs.Numbers.{made-at, made-length}
 use Rattle.lists.proofs.All.{All, all-left}
 use Rattle.lists.proofs.Tests.{both}
-use Rattle.meaning.specs.Keys.{coordinates, coordinate, shared}
+use Rattle.meaning.specs.Keys.{shared}
 use Rattle.meaning.specs.Row.{Node, headNode, firstOf, Place, places, owed, low, high, link, placeOf}
 use Rattle.meaning.specs.State.{State, placesOf}
 use Rattle.meaning.specs.Picture.{mark, standingWords, nextFree, freeWords, wordsOf, path, picture}
-use Rattle.meaning.specs.Words.{wordIndex, wordAt, coordinateAt, linkAt, linkField}
+use Rattle.meaning.specs.Words.{wordIndex, wordAt, linkAt, linkField}
 use Rattle.meaning.specs.Operations.{Slot, newNode, slotOwes}
 use Rattle.meaning.specs.Layer.Stores.{store, writePath, newWords}
 use Rattle.meaning.proofs.State.{Sound, base-positive}
@@ -31,7 +31,7 @@ use Rattle.meaning.proofs.Places.{lastFrom, dimensionFrom}
 use Rattle.meaning.proofs.Parent.{dimensionAfter, Without, Apart, asc-last, place-at}
 use Rattle.meaning.proofs.Slot.{Gap, sound-apart, dimensions-positive, SlotIs}
 use Rattle.meaning.proofs.KeepsInsert.{slot-first}
-use Rattle.meaning.proofs.Placed.{Placed, place-word, place-key, place-value, place-mark, place-owed, place-low, place-high, place-coordinate}
+use Rattle.meaning.proofs.Placed.{Placed, place-word, place-key, place-value, place-mark, place-owed, place-low, place-high}
 use Rattle.meaning.proofs.Placed.{place-link, free-cell-word}
 use Rattle.meaning.proofs.Stores.{Exact, picture-exact, field-cases, words-equal, exact-set, exact-sets, header-set-word, store-same}
 use Rattle.meaning.proofs.Stores.{store-other, store-below, cell-sets-inside, cell-sets-other, cell-sets-below, path-sets-header}
@@ -53,7 +53,7 @@ newPlace b D pre x post =
 -- the words where nothing is to be finished: the first free cell taken off its chain and written, and link p of the parent set to it
 abbrev pub writeNew : ℕ → ℕ → List ℕ → ℕ → ℕ → Slot → List ℕ
 writeNew b D ws key value t =
-    store D (sets (set ws 4 (getD ws (wordIndex D (t .n) 0) 0)) (wordIndex D (t .n) 0) (newWords b D key value t)) (t .parent) (linkField D (t .p)) (t .n)
+    store D (sets (set ws 4 (getD ws (wordIndex D (t .n) 0) 0)) (wordIndex D (t .n) 0) (newWords D key value t)) (t .parent) (linkField (t .p)) (t .n)
 
 -- the chain without its first cell
 next-free : (c : ℕ) (free : List ℕ) → (firstNumber free ≡ c → ⊥) → nextFree c (drop 1 free) ≡ nextFree c free
@@ -124,7 +124,7 @@ module _ (s : State) (v : Sound s) (key value : ℕ) (positive : 0 < key) (g : G
       sym (made-at (link b D new) 0 D d 0 inside ∙ ap (link b D new) (zero-add d) ∙ put-link d inside))
 
   pub put-new-words :
-      newWords (s .settings .base) (s .settings .dimensions) key value t
+      newWords (s .settings .dimensions) key value t
       ≡ standingWords (s .settings .base) (s .settings .dimensions) (newPlace (s .settings .base) (s .settings .dimensions) (g .pre)
       (newNode (t .n) key value (slotOwes t)) (g .post))
   unfolding newWords standingWords
@@ -144,7 +144,7 @@ module _ (s : State) (v : Sound s) (key value : ℕ) (positive : 0 < key) (g : G
 
       same-words :
           {c c′ l l′ h h′ : ℕ} {ls ls′ : List ℕ} → c ≡ c′ → l ≡ l′ → h ≡ h′ → ls ≡ ls′ →
-          _≡_ {A = List ℕ} (key ∷ value ∷ 1 ∷ c ∷ l ∷ h ∷ (coordinates b D key ++ ls)) (key ∷ value ∷ 1 ∷ c′ ∷ l′ ∷ h′ ∷ (coordinates b D key ++ ls′))
+          _≡_ {A = List ℕ} (key ∷ value ∷ 1 ∷ c ∷ l ∷ h ∷ ls) (key ∷ value ∷ 1 ∷ c′ ∷ l′ ∷ h′ ∷ ls′)
       same-words e k m n = cc
 
   -- Every other cell
@@ -152,18 +152,15 @@ module _ (s : State) (v : Sound s) (key value : ℕ) (positive : 0 < key) (g : G
   -- a standing cell, but for links that lead to the new one
   word-kept :
       (c : ℕ) (p q : Place) → Placed now c p → Placed s c q → Kept b D (t .n) p q → (j : ℕ) → j < cellWords D →
-      ((d : ℕ) → j ≡ linkField D d → link b D p d ≡ link b D q d) → wordAt (picture now) c j ≡ wordAt (picture s) c j
+      ((d : ℕ) → j ≡ linkField d → link b D p d ≡ link b D q d) → wordAt (picture now) c j ≡ wordAt (picture s) c j
   unfolding picture
-  word-kept c p q here there k = field-cases Same D first (λ d h l. coordinate-kept d h)
+  word-kept c p q here there k = field-cases Same D first
       (λ d h l. place-link w here d h ∙ l d refl ∙ sym (place-link v there d h))
     where
       Same : ℕ → Type 0
-      Same j = ((d : ℕ) → j ≡ linkField D d → link b D p d ≡ link b D q d) → wordAt (picture now) c j ≡ wordAt (picture s) c j
+      Same j = ((d : ℕ) → j ≡ linkField d → link b D p d ≡ link b D q d) → wordAt (picture now) c j ≡ wordAt (picture s) c j
 
-      coordinate-kept : (d : ℕ) → d < D → coordinateAt (picture now) c d ≡ coordinateAt (picture s) c d
-      coordinate-kept d h = place-coordinate w here d h ∙ ap (λ y. coordinate b D (y .key) d) (k .node) ∙ sym (place-coordinate v there d h)
-
-      first : (j : ℕ) → j < fieldsBeforeCoordinates → Same j
+      first : (j : ℕ) → j < fieldsBeforeLinks → Same j
       first zero h l = place-key w here ∙ ap (λ y. y .key) (k .node) ∙ sym (place-key v there)
       first (suc zero) h l = place-value w here ∙ ap (λ y. y .value) (k .node) ∙ sym (place-value v there)
       first (suc (suc zero)) h l = place-mark w here ∙ ap (λ y. mark (y .live)) (k .node) ∙ sym (place-mark v there)
@@ -181,7 +178,7 @@ module _ (s : State) (v : Sound s) (key value : ℕ) (positive : 0 < key) (g : G
   -- a cell that is not the new one, but for link p of the parent
   pub put-elsewhere :
       (c j : ℕ) → c < s .settings .cells → j < cellWords (s .settings .dimensions) → (t .n ≡ c → ⊥) →
-      (c ≡ t .parent → j ≡ linkField (s .settings .dimensions) (t .p) → ⊥) →
+      (c ≡ t .parent → j ≡ linkField (t .p) → ⊥) →
       wordAt (picture (withNew s (g .pre) (newNode (t .n) key value (slotOwes t)) (g .post) position)) c j ≡ wordAt (picture s) c j
   unfolding picture
   put-elsewhere c j below h other elsewhere = at (placeOf c (placesOf now (now .row))) (placeOf c (placesOf s (s .row))) refl refl (both-found c other)
@@ -198,7 +195,7 @@ module _ (s : State) (v : Sound s) (key value : ℕ) (positive : 0 < key) (g : G
           word-kept c p q (record { found = e }) (record { found = u }) k j h
           (λ d is.
           link-of-other s (g .pre) x (g .post) pos deep (w .ascends) apart clear c d p q e (ap (λ r. placeOf c (places b D r)) (sym (g .splits)) ∙ u) other
-          (λ m n. elsewhere (m ∙ sym (i .parent-is)) (is ∙ ap (linkField D) (n ∙ sym (i .p-is)))))
+          (λ m n. elsewhere (m ∙ sym (i .parent-is)) (is ∙ ap linkField (n ∙ sym (i .p-is)))))
 
   -- link p of the parent
   pub put-parent : linkAt (picture (withNew s (g .pre) (newNode (t .n) key value (slotOwes t)) (g .post) position)) (t .parent) (t .p) ≡ t .n
@@ -209,7 +206,7 @@ module _ (s : State) (v : Sound s) (key value : ℕ) (positive : 0 < key) (g : G
       inside = slot-number s v key positive g f t i
 
       at : (o : Option Place) → placeOf (t .parent) (placesOf now (now .row)) ≡ o →
-          OnBoth (Kept b D (t .n)) o (placeOf (t .parent) (placesOf s (s .row))) → wordAt (picture now) (t .parent) (linkField D (t .p)) ≡ t .n
+          OnBoth (Kept b D (t .n)) o (placeOf (t .parent) (placesOf s (s .row))) → wordAt (picture now) (t .parent) (linkField (t .p)) ≡ t .n
       at none e k = absurd (subst (OnBoth (Kept b D (t .n)) none) (slot-parent-placed s v key positive g f t i .1 .found) k)
       at (some p) e k =
           place-link w (record { found = e }) (t .p) inside
@@ -222,9 +219,9 @@ module _ (s : State) (v : Sound s) (key value : ℕ) (positive : 0 < key) (g : G
   off = set (picture s) 4 (getD (picture s) (wordIndex D (t .n) 0) 0)
 
   abbrev written : List ℕ
-  written = sets off (wordIndex D (t .n) 0) (newWords b D key value t)
+  written = sets off (wordIndex D (t .n) 0) (newWords D key value t)
 
-  newWords-length : length (newWords b D key value t) ≡ cellWords D
+  newWords-length : length (newWords D key value t) ≡ cellWords D
   unfolding wordsOf
   newWords-length = ap length put-new-words ∙ wordsOf-length b D 0 [] (some new)
 
@@ -232,14 +229,14 @@ module _ (s : State) (v : Sound s) (key value : ℕ) (positive : 0 < key) (g : G
   off-exact = exact-set (picture-exact s) 4 (getD (picture s) (wordIndex D (t .n) 0) 0)
 
   written-exact : Exact D (s .settings .cells) written
-  written-exact = exact-sets off-exact (wordIndex D (t .n) 0) (newWords b D key value t)
+  written-exact = exact-sets off-exact (wordIndex D (t .n) 0) (newWords D key value t)
 
   put-header : (k : ℕ) → k < headerWords → getD (picture now) k 0 ≡ getD (writeNew b D (picture s) key value t) k 0
   unfolding picture
   put-header k h =
       header k h
-      ∙ sym (store-below D written (t .parent) (linkField D (t .p)) (t .n) k (omega arith)
-      ∙ cell-sets-below D off (t .n) 0 (newWords b D key value t) k (omega arith))
+      ∙ sym (store-below D written (t .parent) (linkField (t .p)) (t .n) k (omega arith)
+      ∙ cell-sets-below D off (t .n) 0 (newWords D key value t) k (omega arith))
     where
       header : (k : ℕ) → k < headerWords → getD (picture now) k 0 ≡ getD off k 0
       header zero l = refl
@@ -252,33 +249,33 @@ module _ (s : State) (v : Sound s) (key value : ℕ) (positive : 0 < key) (g : G
   put-cell : (c j : ℕ) → c < s .settings .cells → j < cellWords D → getD (picture now) (wordIndex D c j) 0
       ≡ getD (writeNew b D (picture s) key value t) (wordIndex D c j) 0
   unfolding picture
-  put-cell c j below h = at (ℕ-discrete (t .n) c) (ℕ-discrete c (t .parent)) (ℕ-discrete j (linkField D (t .p)))
+  put-cell c j below h = at (ℕ-discrete (t .n) c) (ℕ-discrete c (t .parent)) (ℕ-discrete j (linkField (t .p)))
     where
-      number : linkField D (t .p) < cellWords D
+      number : linkField (t .p) < cellWords D
       number = let l = slot-number s v key positive g f t i in omega arith
 
-      elsewhere : (t .n ≡ c → ⊥) → (c ≡ t .parent → j ≡ linkField D (t .p) → ⊥) →
-          getD (picture now) (wordIndex D c j) 0 ≡ getD (store D written (t .parent) (linkField D (t .p)) (t .n)) (wordIndex D c j) 0
+      elsewhere : (t .n ≡ c → ⊥) → (c ≡ t .parent → j ≡ linkField (t .p) → ⊥) →
+          getD (picture now) (wordIndex D c j) 0 ≡ getD (store D written (t .parent) (linkField (t .p)) (t .n)) (wordIndex D c j) 0
       elsewhere ne off-link =
           put-elsewhere c j below h ne off-link
-          ∙ sym (store-other D written (t .parent) (linkField D (t .p)) (t .n) c j number h off-link
-          ∙ cell-sets-other D off (t .n) 0 (newWords b D key value t) (omega (arith, newWords-length)) c j h (λ e. ne (sym e))
+          ∙ sym (store-other D written (t .parent) (linkField (t .p)) (t .n) c j number h off-link
+          ∙ cell-sets-other D off (t .n) 0 (newWords D key value t) (omega (arith, newWords-length)) c j h (λ e. ne (sym e))
           ∙ header-set-word D (picture s) 4 (getD (picture s) (wordIndex D (t .n) 0) 0) c j (omega arith))
 
-      at : Dec (t .n ≡ c) → Dec (c ≡ t .parent) → Dec (j ≡ linkField D (t .p)) →
-          getD (picture now) (wordIndex D c j) 0 ≡ getD (store D written (t .parent) (linkField D (t .p)) (t .n)) (wordIndex D c j) 0
+      at : Dec (t .n ≡ c) → Dec (c ≡ t .parent) → Dec (j ≡ linkField (t .p)) →
+          getD (picture now) (wordIndex D c j) 0 ≡ getD (store D written (t .parent) (linkField (t .p)) (t .n)) (wordIndex D c j) 0
       at (yes e) m n =
-          subst (λ y. getD (picture now) (wordIndex D y j) 0 ≡ getD (store D written (t .parent) (linkField D (t .p)) (t .n)) (wordIndex D y j) 0) e
+          subst (λ y. getD (picture now) (wordIndex D y j) 0 ≡ getD (store D written (t .parent) (linkField (t .p)) (t .n)) (wordIndex D y j) 0) e
           (place-word w put-new j h
           ∙ ap (λ ws. getD ws j 0) (sym put-new-words)
-          ∙ sym (store-other D written (t .parent) (linkField D (t .p)) (t .n) (t .n) j number h (λ q r. slot-apart s v key positive g f t i q)
+          ∙ sym (store-other D written (t .parent) (linkField (t .p)) (t .n) (t .n) j number h (λ q r. slot-apart s v key positive g f t i q)
           ∙ ap (λ k. getD written (wordIndex D (t .n) k) 0) (sym (zero-add j))
-          ∙ cell-sets-inside off-exact (t .n) 0 (newWords b D key value t) (slot-below s v key positive g f t i) (omega (arith, newWords-length)) j
+          ∙ cell-sets-inside off-exact (t .n) 0 (newWords D key value t) (slot-below s v key positive g f t i) (omega (arith, newWords-length)) j
           (omega (arith, newWords-length))))
       at (no ne) (yes m) (yes n) =
-          subst₂ (λ y k. getD (picture now) (wordIndex D y k) 0 ≡ getD (store D written (t .parent) (linkField D (t .p)) (t .n)) (wordIndex D y k) 0)
+          subst₂ (λ y k. getD (picture now) (wordIndex D y k) 0 ≡ getD (store D written (t .parent) (linkField (t .p)) (t .n)) (wordIndex D y k) 0)
           (sym m) (sym n)
-          (put-parent ∙ sym (store-same written-exact (t .parent) (linkField D (t .p)) (t .n) (subst (λ y. y < s .settings .cells) m below) number))
+          (put-parent ∙ sym (store-same written-exact (t .parent) (linkField (t .p)) (t .n) (subst (λ y. y < s .settings .cells) m below) number))
       at (no ne) (yes m) (no n) = elsewhere ne (λ e q. n q)
       at (no ne) (no m) n = elsewhere ne (λ e q. m e)
 
@@ -287,7 +284,7 @@ module _ (s : State) (v : Sound s) (key value : ℕ) (positive : 0 < key) (g : G
       ≡ writePath (writeNew (s .settings .base) (s .settings .dimensions) (picture s) key value t)
       (path (withNew s (g .pre) (newNode (t .n) key value (slotOwes t)) (g .post) position))
   put-words =
-      let exact = exact-set written-exact (wordIndex D (t .parent) (linkField D (t .p))) (t .n) in
+      let exact = exact-set written-exact (wordIndex D (t .parent) (linkField (t .p))) (t .n) in
       let ws = writeNew b D (picture s) key value t in
       words-equal (picture-exact now) (exact-sets exact headerWords (path now))
       (λ k h. put-header k h ∙ sym (path-sets-header ws (path now) k h))

@@ -11,7 +11,7 @@ use native.Mathlib.Omega.{arith}
 use lib.Dec.{eqb, ltb}
 use lib.ListN.{length, getD, drop}
 use borrow.Author.Tests.{eq-eqb, ne-eqb, lt-ltb, le-ltb}
-use Rattle.settings.specs.Numbers.{fieldsBeforeCoordinates, cellWords}
+use Rattle.settings.specs.Numbers.{fieldsBeforeLinks, cellWords}
 use Rattle.lists.specs.Lists.{occurrences}
 use Rattle.lists.proofs.All.{All, all-map, all-each, all-mapped}
 use Rattle.lists.proofs.Tests.{and-both}
@@ -31,7 +31,7 @@ use Rattle.meaning.proofs.Slot.{Gap, gap, SlotIs, slot-is, gap-changed}
 use Rattle.meaning.proofs.Smaller.{split-next-smaller}
 use Rattle.meaning.proofs.KeepsInsert.{added-row, added-position-lowered, added-position-kept, added-sound-at, parentPaid, bothPaid, both-sound, both-gap, both-position}
 use Rattle.meaning.proofs.Placed.{Placed, head-placed, placed-keyOf, placed-below, place-standing, place-word, place-key, place-value}
-use Rattle.meaning.proofs.Placed.{placed-node, placed-cell, cell-standing, place-mark, place-owed, place-coordinate, place-link}
+use Rattle.meaning.proofs.Placed.{placed-node, placed-cell, cell-standing, place-mark, place-owed, place-link}
 use Rattle.meaning.proofs.Stores.{finishWords-none}
 use Rattle.meaning.proofs.SentencesShape.{place-settled}
 use Rattle.meaning.proofs.Sentences.{position-is, position-key-is, picture-sentences}
@@ -194,8 +194,8 @@ module _ (s : State) (v : Sound s) (key value : ℕ) (positive : 0 < key) (g : G
   unfolding picture
   c-unmoved x j unmoved o = at (ℕ-discrete (t .c) (t .parent))
     where
-      at : Dec (t .c ≡ t .parent) → (x ≡ t .c → 3 ≤ j → j < fieldsBeforeCoordinates → ⊥) ×
-          ((d : ℕ) → lowAt (picture one) (t .c) ≤ d → d < highAt (picture one) (t .c) → j ≡ linkField D d →
+      at : Dec (t .c ≡ t .parent) → (x ≡ t .c → 3 ≤ j → j < fieldsBeforeLinks → ⊥) ×
+          ((d : ℕ) → lowAt (picture one) (t .c) ≤ d → d < highAt (picture one) (t .c) → j ≡ linkField d →
           (x ≡ t .c → ⊥) × (x ≡ owedAt (picture one) (t .c) → ⊥))
       at (yes e) = absurd (omega (arith, o, ap (owedAt (picture one)) e, finish-own s v (t .parent) parent-stands .0))
       at (no ne) =
@@ -216,7 +216,7 @@ module _ (s : State) (v : Sound s) (key value : ℕ) (positive : 0 < key) (g : G
     now-sound : Sound now
     now-sound = subst Sound added-is (added-sound-at s v key value positive g f t i most)
 
-    pub added-words-at : picture (added s key value t) ≡ writePath (insertWords (s .settings .base) (s .settings .dimensions) (picture s) key value t)
+    pub added-words-at : picture (added s key value t) ≡ writePath (insertWords (s .settings .dimensions) (picture s) key value t)
         (path (added s key value t))
     unfolding insertWords
     added-words-at =
@@ -231,7 +231,7 @@ module _ (s : State) (v : Sound s) (key value : ℕ) (positive : 0 < key) (g : G
     here : Placed now (t .n) new
     here = put-new two two-sound key value positive two-gap f t two-slot parent-unowing c-unowing (added s key value t .position) now-sound
 
-    new-word : (j : ℕ) → j < cellWords D → wordAt (picture now) (t .n) j ≡ getD (newWords b D key value t) j 0
+    new-word : (j : ℕ) → j < cellWords D → wordAt (picture now) (t .n) j ≡ getD (newWords D key value t) j 0
     new-word j h =
         place-word now-sound here j h
         ∙ ap (λ ws. getD ws j 0) (sym (put-new-words two two-sound key value positive two-gap f t two-slot parent-unowing c-unowing
@@ -241,7 +241,7 @@ module _ (s : State) (v : Sound s) (key value : ℕ) (positive : 0 < key) (g : G
     new-link d h = place-link now-sound here d h ∙ put-link two two-sound key value positive two-gap f t two-slot parent-unowing c-unowing
         (added s key value t .position) now-sound d h
 
-    elsewhere : (x j : ℕ) → x < s .settings .cells → j < cellWords D → (x ≡ t .n → ⊥) → (x ≡ t .parent → j ≡ linkField D (t .p) → ⊥) →
+    elsewhere : (x j : ℕ) → x < s .settings .cells → j < cellWords D → (x ≡ t .n → ⊥) → (x ≡ t .parent → j ≡ linkField (t .p) → ⊥) →
         wordAt (picture now) x j ≡ wordAt (picture two) x j
     elsewhere x j below h not-n = put-elsewhere two two-sound key value positive two-gap f t two-slot parent-unowing c-unowing
         (added s key value t .position) now-sound x j below h (λ e. not-n (sym e))
@@ -278,7 +278,7 @@ module _ (s : State) (v : Sound s) (key value : ℕ) (positive : 0 < key) (g : G
     link-as-paid x d stands h off =
         let (q, there) = cell-standing s x stands in
         let new = slot-new s v key positive g f t i in
-        elsewhere x (linkField D d) (stands .cell) (omega arith)
+        elsewhere x (linkField d) (stands .cell) (omega arith)
         (λ e. placed-node there (λ y. y .cell ≡ t .n → ⊥) (new .0) (new .1) (placed-cell there ∙ e)) (λ e q. off e (omega arith))
 
     -- The links that the parent and c were due
@@ -303,7 +303,7 @@ module _ (s : State) (v : Sound s) (key value : ℕ) (positive : 0 < key) (g : G
       unfolding picture
       now-parent-links d l h =
           let from = owedAt (picture s) (t .parent) in
-          let j = linkField D d in
+          let j = linkField d in
           let o = due-owes (picture s) sentences (t .parent) d parent-standing l h in
           let inside = picture-owing s v (t .parent) parent-stands o .high in
           let paid = finish-finished s v (t .parent) parent-stands o in (
@@ -325,7 +325,7 @@ module _ (s : State) (v : Sound s) (key value : ℕ) (positive : 0 < key) (g : G
       unfolding picture
       now-c-links d l h =
           let from = owedAt (picture s) (t .c) in
-          let j = linkField D d in
+          let j = linkField d in
           let o = due-owes (picture s) sentences (t .c) d c-standing l h in
           let a = apart o in
           let (owed-same, low-same, high-same) = finish-others s v (t .parent) parent-stands (t .c) (λ e. a .not-c (sym e)) in
@@ -350,7 +350,6 @@ module _ (s : State) (v : Sound s) (key value : ℕ) (positive : 0 < key) (g : G
           key = place-key now-sound here;
           value = place-value now-sound here;
           live = place-mark now-sound here;
-          coordinates = λ d h. place-coordinate now-sound here d h;
           standing = place-standing v (slot-parent-placed s v key positive g f t i .1);
           settled = now-settled;
           held = held;
@@ -416,7 +415,7 @@ module _ (s : State) (v : Sound s) (key value : ℕ) (positive : 1 ≤ key) (mos
   -- every word after the call
   pub added-words :
       picture (added s key value (slotFor s key))
-      ≡ writePath (insertWords (s .settings .base) (s .settings .dimensions) (picture s) key value (slotFor s key)) (path (added s key value (slotFor s key)))
+      ≡ writePath (insertWords (s .settings .dimensions) (picture s) key value (slotFor s key)) (path (added s key value (slotFor s key)))
   added-words = added-words-at s v key value positive around f (slotFor s key) slot most
 
   -- c had that slot before, and q is what n and c share

@@ -4,9 +4,9 @@ use mathlib.Core.Path.{_≡_, refl, sym, _∙_, ap}
 use mathlib.Core.Bool.{true, false}
 use mathlib.Core.Logic.{_↔_}
 use mathlib.Core.List.{List, [], _∷_}
-use Prim.Native.Nat.{ℕ, zero, suc, _+_, _*_, _/_, _%_, _^_, _≤_, _<_, min}
-use native.Mathlib.Nat.{add-zero, pow-zero, pow-suc, mod-lt, mod-eq-of-lt, zero-mod, mul-add-mod-self-right, zero-div}
-use native.Mathlib.Nat.{div-eq-of-lt, div-add-mod', div-mul-le-self, le-div-iff-mul-le, div-lt-iff-lt-mul, mul-add-div-right}
+use Prim.Native.Nat.{ℕ, zero, suc, _*_, _/_, _%_, _^_, _≤_, _<_, min}
+use native.Mathlib.Nat.{pow-zero, pow-suc, mod-lt}
+use native.Mathlib.Nat.{div-add-mod', div-mul-le-self, le-div-iff-mul-le, div-lt-iff-lt-mul}
 use native.Mathlib.Decide.{ℕ-discrete, decLt}
 use native.Mathlib.Omega.{arith}
 use lib.ListN.{length, getD, length-append, List·getD-append, List·getD-eq-default}
@@ -22,14 +22,6 @@ quotient-rises b x y pos h = le-div-iff-mul-le pos .1 (omega (arith, div-mul-le-
 
 pub quotient-below : (b D x : ℕ) → 0 < b → x < b ^ suc D → x / b < b ^ D
 quotient-below b D x pos h = div-lt-iff-lt-mul pos .1 (omega (arith, pow-suc b D))
-
-pub quotient-is : (b n x : ℕ) → x < b → (n * b + x) / b ≡ n
-quotient-is b n x h =
-    let pos : 0 < b = omega arith in
-    mul-add-div-right pos n x ∙ rw (div-eq-of-lt h) (add-zero n)
-
-pub remainder-is : (b n x : ℕ) → x < b → (n * b + x) % b ≡ x
-remainder-is b n x h = mul-add-mod-self-right n b x ∙ mod-eq-of-lt h
 
 -- keys below 1 are 0
 pub below-power-zero : (b x : ℕ) → x < b ^ 0 → x ≡ 0
@@ -132,11 +124,6 @@ pub coordinate-below : (b D key d : ℕ) → 0 < b → coordinate b D key d < b
 coordinate-below b zero key d pos = omega (arith, coordinate-behind b 0 key d (omega arith))
 coordinate-below b (suc D) key d pos = coordinate-cases (λ c. c < b) b D key d pos (mod-lt key pos) (coordinate-below b D (key / b) d pos)
 
-pub coordinate-head : (b D d : ℕ) → coordinate b D 0 d ≡ 0
-coordinate-head b zero d = coordinate-behind b 0 0 d (omega arith)
-coordinate-head b (suc D) d =
-    coordinate-cases (λ c. c ≡ 0) b D 0 d refl (zero-mod b) (ap (λ key. coordinate b D key d) (zero-div b) ∙ coordinate-head b D d)
-
 -- Coordinates of two keys
 
 -- below what they share, two keys have the same coordinates
@@ -199,23 +186,6 @@ coordinate-larger b D x y d pos hx hy h less = go (decLt x y)
     go : Dec (x < y) → x < y
     go (yes l) = l
     go (no l) = absurd (omega (arith, less, coordinate-rises b D y x d pos hy hx (omega (arith, h, shared-sym b D x y)) (omega (arith, l))))
-
--- of keys that share d coordinates, coordinate d is shared too if it is the same, ..
-pub shared-past : (b D x y d : ℕ) → 0 < b → x < b ^ D → y < b ^ D → d < D → d ≤ shared b D x y → coordinate b D x d ≡ coordinate b D y d → d < shared b D x y
-shared-past b D x y d pos hx hy inside h same = go (ℕ-discrete d (shared b D x y)) (ℕ-discrete x y)
-  where
-    go : Dec (d ≡ shared b D x y) → Dec (x ≡ y) → d < shared b D x y
-    go (no ne) e = omega (arith, h, ne)
-    go (yes q) (yes e) = omega (arith, inside, ap (shared b D x) e, shared-same b D x)
-    go (yes q) (no ne) = absurd (coordinate-other b D x y pos hx hy ne (rw q at same))
-
--- .. and else they share just d
-pub shared-stop : (b D x y d : ℕ) → d ≤ shared b D x y → (coordinate b D x d ≡ coordinate b D y d → ⊥) → shared b D x y ≡ d
-shared-stop b D x y d h other = go (decLt d (shared b D x y))
-  where
-    go : Dec (d < shared b D x y) → shared b D x y ≡ d
-    go (yes less) = absurd (other (coordinate-same b D x y d less))
-    go (no more) = omega (arith, h, more)
 
 -- keys with the same coordinates are the same
 pub coordinates-determine : (b D x y : ℕ) → 0 < b → x < b ^ D → y < b ^ D → coordinates b D x ≡ coordinates b D y → x ≡ y

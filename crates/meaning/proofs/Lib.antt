@@ -1,6 +1,7 @@
 -- The laws of the definitions in specs/, in the order in which a reader meets them (docs/MAP.md).
 -- Keys and rows: coordinates, what keys share, rows in order, places.
 pub mod Keys
+pub mod Blocks
 pub mod AscendingRow
 pub mod AscendingKeys
 pub mod Put

@@ -10,7 +10,7 @@ use Prim.Native.Nat.{ℕ, zero, suc, _+_, _≤_, _<_}
 use native.Mathlib.Decide.{ℕ-discrete}
 use native.Mathlib.Omega.{arith}
 use lib.ListN.{length, getD}
-use Rattle.settings.specs.Numbers.{cellWords, headerWords, fieldsBeforeCoordinates, lengthOf}
+use Rattle.settings.specs.Numbers.{cellWords, headerWords, fieldsBeforeLinks, lengthOf}
 use Rattle.lists.specs.Lists.{occurrences, firstNumber}
 use Rattle.lists.proofs.Occurrences.{occurrences-past, occurrences-append, occurrences-more, occurs-has}
 use Rattle.lists.proofs.All.{All, all-map, all-append, all-right, all-each, all-zip, all-mapped}
@@ -28,7 +28,7 @@ use Rattle.meaning.proofs.StateCells.{row-range, free-range, cells-cove
 use Rattle.meaning.proofs.Picture.{picture-word, place-here, place-past, Told, told, places-cells, free-found, freeWords-rest, shownWords}
 use Rattle.meaning.proofs.Picture.{picture-path, place-found}
 use Rattle.meaning.proofs.Places.{keyOf-same, keyOf-other, node-found, nodes-passed}
-use Rattle.meaning.proofs.WalkRead.{Held, all-places, places-held, standing-word, standing-coordinate, standing-link}
+use Rattle.meaning.proofs.WalkRead.{Held, all-places, places-held, standing-word, standing-link}
 use Rattle.meaning.proofs.Stores.{picture-exact, field-cases, words-equal}
 
 -- Cells and places
@@ -206,9 +206,9 @@ module _ {s : State} (v : Sound s) {x : ℕ} {p : Place} (here : Placed s x p) w
   held : Held (picture s) (s .settings .base) (s .settings .dimensions) p
   held = placed-has here (Held (picture s) (s .settings .base) (s .settings .dimensions)) (places-held s v)
 
-  pub place-coordinate : (d : ℕ) → d < s .settings .dimensions →
-      coordinateAt (picture s) x d ≡ coordinate (s .settings .base) (s .settings .dimensions) (p .node .key) d
-  place-coordinate d h = ap (λ c. coordinateAt (picture s) c d) (sym (placed-cell here)) ∙ held .coordinate d h
+  pub place-coordinate : (d : ℕ) → coordinateAt (picture s) x d ≡ coordinate (s .settings .base) (s .settings .dimensions) (p .node .key) d
+  unfolding picture
+  place-coordinate d = ap (λ k. coordinate (s .settings .base) (s .settings .dimensions) k d) place-key
 
   pub place-link : (d : ℕ) → d < s .settings .dimensions → linkAt (picture s) x d ≡ link (s .settings .base) (s .settings .dimensions) p d
   place-link d h = ap (λ c. linkAt (picture s) c d) (sym (placed-cell here)) ∙ held .link d h
@@ -301,9 +301,9 @@ held-word : (ws : List ℕ) (b : ℕ) (p : Place) → Held ws b (dimensionsAt ws
 unfolding standingWords
 held-word ws b p t =
     field-cases (λ j. wordAt ws (p .node .cell) j ≡ getD (standingWords b (dimensionsAt ws) p) j 0) (dimensionsAt ws) first
-    (λ d h. t .coordinate d h ∙ sym (standing-coordinate b (dimensionsAt ws) p d h)) (λ d h. t .link d h ∙ sym (standing-link b (dimensionsAt ws) p d h))
+    (λ d h. t .link d h ∙ sym (standing-link b (dimensionsAt ws) p d h))
   where
-    first : (j : ℕ) → j < fieldsBeforeCoordinates → wordAt ws (p .node .cell) j ≡ getD (standingWords b (dimensionsAt ws) p) j 0
+    first : (j : ℕ) → j < fieldsBeforeLinks → wordAt ws (p .node .cell) j ≡ getD (standingWords b (dimensionsAt ws) p) j 0
     first zero h = t .key
     first (suc zero) h = t .value
     first (suc (suc zero)) h = t .mark

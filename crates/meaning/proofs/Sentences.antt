@@ -33,10 +33,10 @@ use Rattle.meaning.proofs.SentencesRow.Led.{head, led}
 use Rattle.meaning.proofs.SentencesRow.Compared.{same, later, earlier}
 use Rattle.meaning.proofs.SentencesRow.Least.{least, nowhere}
 use Rattle.meaning.proofs.Placed.{Placed, placed-has, placed-node, placed-cell, placed-keyOf, placed-most, head-placed, place-key, place-value}
-use Rattle.meaning.proofs.Placed.{place-mark, place-owed, place-low, place-high, place-coordinate, place-link, place-standing, free-cell-first}
+use Rattle.meaning.proofs.Placed.{place-mark, place-owed, place-low, place-high, place-link, place-standing, free-cell-first}
 use Rattle.meaning.proofs.Placed.{free-cell-rest, free-cell-free, cell-standing, cell-unfound, cell-free, free-cell, position-placed}
 use Rattle.meaning.proofs.Placed.{place-unowing}
-use Rattle.meaning.proofs.SentencesShape.{NextIn, LedIn, HasPlace, placed-shared, placed-digit, placed-led, placed-compared, next-larger}
+use Rattle.meaning.proofs.SentencesShape.{NextIn, LedIn, HasPlace, placed-shared, placed-led, placed-compared, next-larger}
 use Rattle.meaning.proofs.SentencesShape.{place-after, place-next-smaller, place-dimension, row-placed, place-settled}
 
 -- What a cell owes
@@ -354,9 +354,6 @@ picture-sentences s v =
       free-chain = chain-sentence v;
       owes-nothing = λ x stands e. owes-nothing-sentence v (cell-standing s x stands .1) e;
       distinct = λ x y sx sy e. distinct-sentence v (cell-standing s x sx .1) (cell-standing s y sy .1) e;
-      coordinate-words = λ x d stands h.
-          let (p, here) = cell-standing s x stands in
-          place-coordinate v here d h ∙ sym (placed-digit v here d);
       debts = λ n stands h. debt-sentence v (cell-standing s n stands .1) h;
       links = λ x d stands h own due-to. link-sentence v (cell-standing s x stands .1) d h own due-to;
       position = position-standing v;

@@ -14,8 +14,8 @@ use Rattle.meaning.specs.Keys.{coordinate, coordinates, shared}
 use Rattle.meaning.specs.Row.{Node, headNode, Place, placesAfter, places, settledLink, firstSharing}
 use Rattle.meaning.specs.State.{State, placesOf}
 use Rattle.meaning.specs.Picture.{picture}
-use Rattle.meaning.specs.Words.{keyAt}
-use Rattle.meaning.specs.Sentences.{sharedAt, digitAt, NextSmaller, NextLarger, Dimension, Settled, LargerAt}
+use Rattle.meaning.specs.Words.{keyAt, coordinateAt}
+use Rattle.meaning.specs.Sentences.{sharedAt, NextSmaller, NextLarger, Dimension, Settled, LargerAt}
 use Rattle.meaning.specs.Sentences.Dimension.{of-head, of-other}
 use Rattle.meaning.specs.Sentences.Settled.{leads, leads-nowhere, below-dimension}
 use Rattle.meaning.proofs.AscendingRow.{Asc, asc-above}
@@ -29,6 +29,7 @@ use Rattle.meaning.proofs.SentencesRow.Led.{head, led}
 use Rattle.meaning.proofs.SentencesRow.Compared.{same, later, earlier}
 use Rattle.meaning.proofs.SentencesRow.Least.{least, nowhere}
 use Rattle.meaning.proofs.Placed.{Placed, Own, placed-has, placed-cell, placed-most, place-key, place-standing, cell-standing}
+use Rattle.meaning.proofs.Placed.{place-coordinate}
 
 -- q is the place after p; p is the head's or has a place before it; p is the last or has a place after it
 abbrev pub NextIn : State → Place → Place → Type 0
@@ -89,11 +90,6 @@ module _ {s : State} (v : Sound s) where
       let D = s .settings .dimensions in
       ap₂ (λ k l. agreed (coordinates b D k) (coordinates b D l)) (place-key v here) (place-key v there)
       ∙ sym (shared-agreed b D (p .node .key) (q .node .key) (base-positive s v) (key-below here) (key-below there))
-
-  pub placed-digit : {x : ℕ} {p : Place} → Placed s x p → (d : ℕ) →
-      digitAt (picture s) x d ≡ coordinate (s .settings .base) (s .settings .dimensions) (p .node .key) d
-  unfolding picture
-  placed-digit here d = ap (λ k. coordinate (s .settings .base) (s .settings .dimensions) k d) (place-key v here)
 
   pub placed-ascends : {x : ℕ} {p : Place} → Placed s x p → Asc (p .node .key) (p .later)
   placed-ascends here =
@@ -202,7 +198,7 @@ module _ {s : State} (v : Sound s) where
 
   -- what shares exactly d coordinates with a standing cell and is larger at d is a later one
   larger-later : {x : ℕ} {p : Place} → Placed s x p → (d z : ℕ) (r : Place) → Placed s z r →
-      sharedAt (picture s) x z ≡ d → digitAt (picture s) x d < digitAt (picture s) z d →
+      sharedAt (picture s) x z ≡ d → coordinateAt (picture s) x d < coordinateAt (picture s) z d →
       SharesExactly (s .settings .base) (s .settings .dimensions) (p .node .key) d (r .node) × Later (p .node .key) (p .later) r
   larger-later {x} {p} here d z r found shares larger = (exactly, at (placed-compared here found))
     where
@@ -216,7 +212,7 @@ module _ {s : State} (v : Sound s) where
       exactly = sym (placed-shared here found) ∙ shares
 
       above : coordinate b D (p .node .key) d < coordinate b D (r .node .key) d
-      above = subst₂ (λ i j. i < j) (placed-digit here d) (placed-digit found d) larger
+      above = subst₂ (λ i j. i < j) (place-coordinate v here d) (place-coordinate v found d) larger
 
       at : Compared p r → Later (p .node .key) (p .later) r
       at (same e) = absurd (omega (arith, above, ap (λ q. coordinate b D (q .node .key) d) e))
@@ -242,7 +238,7 @@ module _ {s : State} (v : Sound s) where
         standing = place-standing v there;
         shares = placed-shared here there ∙ shares;
         larger =
-            subst₂ (λ i j. i < j) (sym (placed-digit here d)) (sym (placed-digit there d))
+            subst₂ (λ i j. i < j) (sym (place-coordinate v here d)) (sym (place-coordinate v there d))
             (subst (λ e. coordinate b D (p .node .key) e < coordinate b D (stands .place .node .key) e) shares less);
       }
 

@@ -9,9 +9,9 @@ use Rattle.lists.specs.Compared.{agreed}
 use Rattle.lists.proofs.All.{All, all-map, all-of-map, all-mapped}
 use Rattle.meaning.specs.Keys.{coordinate, coordinates}
 use Rattle.meaning.specs.Reading.{isList}
-use Rattle.meaning.specs.Words.{keyAt, owedAt, linkAt, dimensionsAt, baseAt}
+use Rattle.meaning.specs.Words.{keyAt, owedAt, linkAt, dimensionsAt, baseAt, coordinateAt}
 use Rattle.meaning.specs.Book.{standingKeys}
-use Rattle.meaning.specs.Sentences.{sharedAt, digitAt, Standing, NextSmaller, Dimension, of-head, of-other, LargerAt, Settled, leads}
+use Rattle.meaning.specs.Sentences.{sharedAt, Standing, NextSmaller, Dimension, of-head, of-other, LargerAt, Settled, leads}
 use Rattle.meaning.specs.Sentences.{leads-nowhere, below-dimension, AList}
 use Rattle.meaning.proofs.Placed.{placed-node, place-key, place-standing, cell-standing}
 use Rattle.meaning.proofs.Outcomes.{on-read-lists}
@@ -72,8 +72,8 @@ module _ {ws vs : List ℕ} (a : Alike ws vs) where
   shared-alike x y x′ y′ k l =
       λ i. agreed (coordinates (a .base i) (a .dimensions i) (k i)) (coordinates (a .base i) (a .dimensions i) (l i))
 
-  digit-alike : (x x′ d : ℕ) → keyAt ws x ≡ keyAt vs x′ → digitAt ws x d ≡ digitAt vs x′ d
-  digit-alike x x′ d k = λ i. coordinate (a .base i) (a .dimensions i) (k i) d
+  coordinate-alike : (x x′ d : ℕ) → keyAt ws x ≡ keyAt vs x′ → coordinateAt ws x d ≡ coordinateAt vs x′ d
+  coordinate-alike x x′ d k = λ i. coordinate (a .base i) (a .dimensions i) (k i) d
 
   smaller-alike : (x y x′ y′ : ℕ) → keyAt ws x ≡ keyAt vs x′ → keyAt ws y ≡ keyAt vs y′ → Standing vs y′ → NextSmaller ws x y → NextSmaller vs x′ y′
   smaller-alike x y x′ y′ k l stands n =
@@ -94,7 +94,7 @@ module _ {ws vs : List ℕ} (a : Alike ws vs) where
       record {
         standing = stands;
         shares = sym (shared-alike x y x′ y′ k l) ∙ h .shares;
-        larger = omega (arith, more, digit-alike x x′ d k, digit-alike y y′ d l);
+        larger = omega (arith, more, coordinate-alike x x′ d k, coordinate-alike y y′ d l);
       }
 
 module _ {ws vs : List ℕ} (a : Alike ws vs) (left : AList ws) (right : AList vs) where

@@ -12,7 +12,7 @@ use lib.Dec.{eqb}
 use lib.ListN.{length, getD, set, length-set}
 use lib.Seq.{sets, length-sets, getD-set-same, getD-set-other, ext-getD}
 use borrow.Author.Tests.{eq-eqb, ne-eqb}
-use Rattle.settings.specs.Numbers.{headerWords, fieldsBeforeCoordinates, cellWords, lengthOf}
+use Rattle.settings.specs.Numbers.{headerWords, fieldsBeforeLinks, cellWords, lengthOf}
 use Rattle.meaning.specs.State.{State}
 use Rattle.meaning.specs.Picture.{picture}
 use Rattle.meaning.specs.Writes.{Finished}
@@ -70,19 +70,16 @@ index-cases P D C header path cell i h = at (decLt i headerWords) (decLt i (head
         let there : wordIndex D (from / w) (from % w) ≡ i = omega (arith, div-add-mod' from w) in
         subst P there (cell (from / w) (from % w) cellBelow (mod-lt from {m = w} (omega arith)))
 
--- every word of a cell is one of the six before the coordinates, a coordinate or a link
-pub field-cases : (P : ℕ → Type 0) (D : ℕ) → ((j : ℕ) → j < fieldsBeforeCoordinates → P j) → ((d : ℕ) → d < D → P (fieldsBeforeCoordinates + d)) →
-    ((d : ℕ) → d < D → P (linkField D d)) → (j : ℕ) → j < cellWords D → P j
-field-cases P D first coordinate link j h = at (decLt j fieldsBeforeCoordinates) (decLt j (fieldsBeforeCoordinates + D))
+-- every word of a cell is one of the six before the links, or a link
+pub field-cases : (P : ℕ → Type 0) (D : ℕ) → ((j : ℕ) → j < fieldsBeforeLinks → P j) → ((d : ℕ) → d < D → P (linkField d)) → (j : ℕ) →
+    j < cellWords D → P j
+field-cases P D first link j h = at (decLt j fieldsBeforeLinks)
   where
-    at : Dec (j < fieldsBeforeCoordinates) → Dec (j < fieldsBeforeCoordinates + D) → P j
-    at (yes l) more = first j l
-    at (no l) (yes m) =
-        let there : fieldsBeforeCoordinates + (j - fieldsBeforeCoordinates) ≡ j = omega arith in
-        subst P there (coordinate (j - fieldsBeforeCoordinates) (omega arith))
-    at (no l) (no m) =
-        let there : linkField D (j - (fieldsBeforeCoordinates + D)) ≡ j = omega arith in
-        subst P there (link (j - (fieldsBeforeCoordinates + D)) (omega arith))
+    at : Dec (j < fieldsBeforeLinks) → P j
+    at (yes l) = first j l
+    at (no l) =
+        let there : linkField (j - fieldsBeforeLinks) ≡ j = omega arith in
+        subst P there (link (j - fieldsBeforeLinks) (omega arith))
 
 -- words of the exact length that agree in each cell's word are the same
 pub words-equal : {D C : ℕ} {us ws : List ℕ} → Exact D C us → Exact D C ws → ((i : ℕ) → i < headerWords → getD us i 0 ≡ getD ws i 0) →
@@ -196,66 +193,66 @@ pub moveLinks-length : (D : ℕ) (ws : List ℕ) (n c d k : ℕ) → length (mov
 unfolding moveLinks
 moveLinks-length D ws n c d zero = refl
 moveLinks-length D ws n c d (suc k) =
-    let given = store D ws n (linkField D d) (wordIn D ws c (linkField D d)) in
-    moveLinks-length D (store D given c (linkField D d) 0) n c (suc d) k
-    ∙ length-set given (wordIndex D c (linkField D d)) 0
-    ∙ length-set ws (wordIndex D n (linkField D d)) (wordIn D ws c (linkField D d))
+    let given = store D ws n (linkField d) (wordIn D ws c (linkField d)) in
+    moveLinks-length D (store D given c (linkField d) 0) n c (suc d) k
+    ∙ length-set given (wordIndex D c (linkField d)) 0
+    ∙ length-set ws (wordIndex D n (linkField d)) (wordIn D ws c (linkField d))
 
 pub exact-moved : {D C : ℕ} {ws : List ℕ} → Exact D C ws → (n c d k : ℕ) → Exact D C (moveLinks D ws n c d k)
 exact-moved {D} {C} {ws} e n c d k = record { size = moveLinks-length D ws n c d k ∙ e .size }
 
 -- a word that is none of the links in question
 pub moveLinks-kept : (D : ℕ) (ws : List ℕ) (n c d k i : ℕ) →
-    ((m : ℕ) → d ≤ m → m < d + k → (i ≡ wordIndex D n (linkField D m) → ⊥) × (i ≡ wordIndex D c (linkField D m) → ⊥)) →
+    ((m : ℕ) → d ≤ m → m < d + k → (i ≡ wordIndex D n (linkField m) → ⊥) × (i ≡ wordIndex D c (linkField m) → ⊥)) →
     getD (moveLinks D ws n c d k) i 0 ≡ getD ws i 0
 unfolding moveLinks
 moveLinks-kept D ws n c d zero i apart = refl
 moveLinks-kept D ws n c d (suc k) i apart =
-    let value = wordIn D ws c (linkField D d) in
-    let given = store D ws n (linkField D d) value in
+    let value = wordIn D ws c (linkField d) in
+    let given = store D ws n (linkField d) value in
     let first = apart d (omega arith) (omega arith) in
-    moveLinks-kept D (store D given c (linkField D d) 0) n c (suc d) k i (λ m h l. apart m (omega arith) (omega arith))
-    ∙ getD-set-other given (wordIndex D c (linkField D d)) i 0 0 (first .1)
-    ∙ getD-set-other ws (wordIndex D n (linkField D d)) i value 0 (first .0)
+    moveLinks-kept D (store D given c (linkField d) 0) n c (suc d) k i (λ m h l. apart m (omega arith) (omega arith))
+    ∙ getD-set-other given (wordIndex D c (linkField d)) i 0 0 (first .1)
+    ∙ getD-set-other ws (wordIndex D n (linkField d)) i value 0 (first .0)
 
 pub moveLinks-below : (D : ℕ) (ws : List ℕ) (n c d k i : ℕ) → i < headerWords + D → getD (moveLinks D ws n c d k) i 0 ≡ getD ws i 0
 moveLinks-below D ws n c d k i h =
-    moveLinks-kept D ws n c d k i (λ m l u. (index-above D n (linkField D m) i h, index-above D c (linkField D m) i h))
+    moveLinks-kept D ws n c d k i (λ m l u. (index-above D n (linkField m) i h, index-above D c (linkField m) i h))
 
 -- a field that is none of the links in question
 pub moveLinks-field : (D : ℕ) (ws : List ℕ) (n c d k : ℕ) → d + k ≤ D → (x j : ℕ) → j < cellWords D →
-    ((m : ℕ) → d ≤ m → m < d + k → j ≡ linkField D m → ⊥) → wordIn D (moveLinks D ws n c d k) x j ≡ wordIn D ws x j
+    ((m : ℕ) → d ≤ m → m < d + k → j ≡ linkField m → ⊥) → wordIn D (moveLinks D ws n c d k) x j ≡ wordIn D ws x j
 moveLinks-field D ws n c d k fit x j h other =
     moveLinks-kept D ws n c d k (wordIndex D x j)
     (λ m l u. (
-      λ e. other m l u (index-apart D x n j (linkField D m) h (omega arith) e .1),
+      λ e. other m l u (index-apart D x n j (linkField m) h (omega arith) e .1),
       λ e. other m l u
-          (index-apart D x c j (linkField D m) h (omega arith) e .1),
+          (index-apart D x c j (linkField m) h (omega arith) e .1),
     ))
 
 -- the words after one link has moved
 abbrev movedLink : ℕ → List ℕ → ℕ → ℕ → ℕ → List ℕ
-movedLink D ws n c d = store D (store D ws n (linkField D d) (wordIn D ws c (linkField D d))) c (linkField D d) 0
+movedLink D ws n c d = store D (store D ws n (linkField d) (wordIn D ws c (linkField d))) c (linkField d) 0
 
 exact-link : {D C : ℕ} {ws : List ℕ} → Exact D C ws → (n c d : ℕ) → Exact D C (movedLink D ws n c d)
-exact-link {D} {C} {ws} exact n c d = exact-set (exact-set exact (wordIndex D n (linkField D d)) (wordIn D ws c (linkField D d)))
-    (wordIndex D c (linkField D d)) 0
+exact-link {D} {C} {ws} exact n c d = exact-set (exact-set exact (wordIndex D n (linkField d)) (wordIn D ws c (linkField d)))
+    (wordIndex D c (linkField d)) 0
 
 -- the other links of all cells
 link-other : (D : ℕ) (ws : List ℕ) (n c d x i : ℕ) → d < D → i < D → (d ≡ i → ⊥) →
-    wordIn D (movedLink D ws n c d) x (linkField D i) ≡ wordIn D ws x (linkField D i)
+    wordIn D (movedLink D ws n c d) x (linkField i) ≡ wordIn D ws x (linkField i)
 link-other D ws n c d x i h k ne =
-    let value = wordIn D ws c (linkField D d) in
-    store-other D (store D ws n (linkField D d) value) c (linkField D d) 0 x (linkField D i) (omega arith) (omega arith) (λ e q. ne (omega arith))
-    ∙ store-other D ws n (linkField D d) value x (linkField D i) (omega arith) (omega arith) (λ e q. ne (omega arith))
+    let value = wordIn D ws c (linkField d) in
+    store-other D (store D ws n (linkField d) value) c (linkField d) 0 x (linkField i) (omega arith) (omega arith) (λ e q. ne (omega arith))
+    ∙ store-other D ws n (linkField d) value x (linkField i) (omega arith) (omega arith) (λ e q. ne (omega arith))
 
 -- links of lower number are not among those that move
-lower-kept : (D : ℕ) (ws : List ℕ) (n c d k x : ℕ) → suc d + k ≤ D → wordIn D (moveLinks D ws n c (suc d) k) x (linkField D d) ≡ wordIn D ws x (linkField D d)
-lower-kept D ws n c d k x fit = moveLinks-field D ws n c (suc d) k fit x (linkField D d) (omega arith) (λ m l u e. omega arith)
+lower-kept : (D : ℕ) (ws : List ℕ) (n c d k x : ℕ) → suc d + k ≤ D → wordIn D (moveLinks D ws n c (suc d) k) x (linkField d) ≡ wordIn D ws x (linkField d)
+lower-kept D ws n c d k x fit = moveLinks-field D ws n c (suc d) k fit x (linkField d) (omega arith) (λ m l u e. omega arith)
 
 -- the links that move are the new cell's
 pub moveLinks-given : {D C : ℕ} {ws : List ℕ} → Exact D C ws → (n c d k : ℕ) → n < C → (n ≡ c → ⊥) → d + k ≤ D → (i : ℕ) → d ≤ i → i < d + k →
-    wordIn D (moveLinks D ws n c d k) n (linkField D i) ≡ wordIn D ws c (linkField D i)
+    wordIn D (moveLinks D ws n c d k) n (linkField i) ≡ wordIn D ws c (linkField i)
 unfolding moveLinks
 moveLinks-given exact n c d zero here apart fit i h l = absurd (omega arith)
 moveLinks-given {D} {C} {ws} exact n c d (suc k) here apart fit i h l =
@@ -265,19 +262,19 @@ moveLinks-given {D} {C} {ws} exact n c d (suc k) here apart fit i h l =
     moved = movedLink D ws n c d
 
     at : Dec (d ≡ i) →
-        (suc d ≤ i → i < suc d + k → wordIn D (moveLinks D moved n c (suc d) k) n (linkField D i) ≡ wordIn D moved c (linkField D i)) →
-        wordIn D (moveLinks D moved n c (suc d) k) n (linkField D i) ≡ wordIn D ws c (linkField D i)
+        (suc d ≤ i → i < suc d + k → wordIn D (moveLinks D moved n c (suc d) k) n (linkField i) ≡ wordIn D moved c (linkField i)) →
+        wordIn D (moveLinks D moved n c (suc d) k) n (linkField i) ≡ wordIn D ws c (linkField i)
     at (yes e) more =
-        let value = wordIn D ws c (linkField D d) in
-        subst (λ m. wordIn D (moveLinks D moved n c (suc d) k) n (linkField D m) ≡ wordIn D ws c (linkField D m)) e
+        let value = wordIn D ws c (linkField d) in
+        subst (λ m. wordIn D (moveLinks D moved n c (suc d) k) n (linkField m) ≡ wordIn D ws c (linkField m)) e
         (lower-kept D moved n c d k n (omega arith)
-        ∙ store-other D (store D ws n (linkField D d) value) c (linkField D d) 0 n (linkField D d) (omega arith) (omega arith) (λ q f. apart q)
-        ∙ store-same exact n (linkField D d) value here (omega arith))
+        ∙ store-other D (store D ws n (linkField d) value) c (linkField d) 0 n (linkField d) (omega arith) (omega arith) (λ q f. apart q)
+        ∙ store-same exact n (linkField d) value here (omega arith))
     at (no ne) more = more (lt-of-le-ne h ne) (omega arith) ∙ link-other D ws n c d c i (omega arith) (omega arith) ne
 
 -- .. and 0 stands in their place
 pub moveLinks-cleared : {D C : ℕ} {ws : List ℕ} → Exact D C ws → (n c d k : ℕ) → c < C → d + k ≤ D → (i : ℕ) → d ≤ i → i < d + k →
-    wordIn D (moveLinks D ws n c d k) c (linkField D i) ≡ 0
+    wordIn D (moveLinks D ws n c d k) c (linkField i) ≡ 0
 unfolding moveLinks
 moveLinks-cleared exact n c d zero here fit i h l = absurd (omega arith)
 moveLinks-cleared {D} {C} {ws} exact n c d (suc k) here fit i h l =
@@ -286,13 +283,13 @@ moveLinks-cleared {D} {C} {ws} exact n c d (suc k) here fit i h l =
     moved : List ℕ
     moved = movedLink D ws n c d
 
-    at : Dec (d ≡ i) → (suc d ≤ i → i < suc d + k → wordIn D (moveLinks D moved n c (suc d) k) c (linkField D i) ≡ 0) →
-        wordIn D (moveLinks D moved n c (suc d) k) c (linkField D i) ≡ 0
+    at : Dec (d ≡ i) → (suc d ≤ i → i < suc d + k → wordIn D (moveLinks D moved n c (suc d) k) c (linkField i) ≡ 0) →
+        wordIn D (moveLinks D moved n c (suc d) k) c (linkField i) ≡ 0
     at (yes e) more =
-        let value = wordIn D ws c (linkField D d) in
-        subst (λ m. wordIn D (moveLinks D moved n c (suc d) k) c (linkField D m) ≡ 0) e
+        let value = wordIn D ws c (linkField d) in
+        subst (λ m. wordIn D (moveLinks D moved n c (suc d) k) c (linkField m) ≡ 0) e
         (lower-kept D moved n c d k c (omega arith)
-        ∙ store-same (exact-set exact (wordIndex D n (linkField D d)) value) c (linkField D d) 0 here (omega arith))
+        ∙ store-same (exact-set exact (wordIndex D n (linkField d)) value) c (linkField d) 0 here (omega arith))
     at (no ne) more = more (lt-of-le-ne h ne) (omega arith)
 
 -- What a cell owes, finished
@@ -361,26 +358,26 @@ module _ {D C : ℕ} {ws : List ℕ} (exact : Exact D C ws) (n : ℕ) (debt : Ow
 
   -- links low to high-1 of n are those that stood in the owed cell
   pub finishWords-given : (i : ℕ) → lowAt ws n ≤ i → i < highAt ws n →
-      wordIn D (finishWords D ws n) n (linkField D i) ≡ wordIn D ws (owedAt ws n) (linkField D i)
+      wordIn D (finishWords D ws n) n (linkField i) ≡ wordIn D ws (owedAt ws n) (linkField i)
   finishWords-given i h l =
-      finished-as (wordIndex D n (linkField D i)) (wordIn D ws (owedAt ws n) (linkField D i))
-      (cell-sets-after D moved n 3 (0 ∷ 0 ∷ 0 ∷ []) (linkField D i) (omega arith)
+      finished-as (wordIndex D n (linkField i)) (wordIn D ws (owedAt ws n) (linkField i))
+      (cell-sets-after D moved n 3 (0 ∷ 0 ∷ 0 ∷ []) (linkField i) (omega arith)
       ∙ moveLinks-given exact n (owedAt ws n) (lowAt ws n) (highAt ws n - lowAt ws n) (debt .cell) (debt .apart) fits i h (omega arith))
 
   -- and those of the owed cell are 0
-  pub finishWords-cleared : (i : ℕ) → lowAt ws n ≤ i → i < highAt ws n → wordIn D (finishWords D ws n) (owedAt ws n) (linkField D i) ≡ 0
+  pub finishWords-cleared : (i : ℕ) → lowAt ws n ≤ i → i < highAt ws n → wordIn D (finishWords D ws n) (owedAt ws n) (linkField i) ≡ 0
   finishWords-cleared i h l =
-      finished-as (wordIndex D (owedAt ws n) (linkField D i)) 0
-      (cell-sets-other D moved n 3 (0 ∷ 0 ∷ 0 ∷ []) (omega arith) (owedAt ws n) (linkField D i) (omega arith) (λ e. debt .apart (sym e))
+      finished-as (wordIndex D (owedAt ws n) (linkField i)) 0
+      (cell-sets-other D moved n 3 (0 ∷ 0 ∷ 0 ∷ []) (omega arith) (owedAt ws n) (linkField i) (omega arith) (λ e. debt .apart (sym e))
       ∙ moveLinks-cleared exact n (owedAt ws n) (lowAt ws n) (highAt ws n - lowAt ws n) (debt .owed) fits i h (omega arith))
 
   -- every other word
-  pub finishWords-other : (x j : ℕ) → j < cellWords D → (x ≡ n → 3 ≤ j → j < fieldsBeforeCoordinates → ⊥) →
-      ((i : ℕ) → lowAt ws n ≤ i → i < highAt ws n → j ≡ linkField D i → (x ≡ n → ⊥) × (x ≡ owedAt ws n → ⊥)) →
+  pub finishWords-other : (x j : ℕ) → j < cellWords D → (x ≡ n → 3 ≤ j → j < fieldsBeforeLinks → ⊥) →
+      ((i : ℕ) → lowAt ws n ≤ i → i < highAt ws n → j ≡ linkField i → (x ≡ n → ⊥) × (x ≡ owedAt ws n → ⊥)) →
       wordIn D (finishWords D ws n) x j ≡ wordIn D ws x j
   finishWords-other x j h not-debt not-link = finished-as (wordIndex D x j) (wordIn D ws x j) (uncleared (ℕ-discrete x n) (decLt j 3) ∙ unmoved)
     where
-      at-least : x ≡ n → 3 ≤ j → Dec (j < fieldsBeforeCoordinates) → fieldsBeforeCoordinates ≤ j
+      at-least : x ≡ n → 3 ≤ j → Dec (j < fieldsBeforeLinks) → fieldsBeforeLinks ≤ j
       at-least e l (yes u) = absurd (not-debt e l u)
       at-least e l (no u) = omega arith
 
@@ -389,15 +386,15 @@ module _ {D C : ℕ} {ws : List ℕ} (exact : Exact D C ws) (n : ℕ) (debt : Ow
           (cell-sets-before D moved n 3 (0 ∷ 0 ∷ 0 ∷ []) j l)
       uncleared (yes e) (no l) =
           subst (λ y. wordIn D (clearDebt D moved n) y j ≡ wordIn D moved y j) (sym e)
-          (cell-sets-after D moved n 3 (0 ∷ 0 ∷ 0 ∷ []) j (at-least e (omega arith) (decLt j fieldsBeforeCoordinates)))
+          (cell-sets-after D moved n 3 (0 ∷ 0 ∷ 0 ∷ []) j (at-least e (omega arith) (decLt j fieldsBeforeLinks)))
       uncleared (no ne) more = cell-sets-other D moved n 3 (0 ∷ 0 ∷ 0 ∷ []) (omega arith) x j h ne
 
       unmoved : wordIn D moved x j ≡ wordIn D ws x j
       unmoved =
           moveLinks-kept D ws n (owedAt ws n) (lowAt ws n) (highAt ws n - lowAt ws n) (wordIndex D x j)
           (λ i l u. (
-            λ e. let same = index-apart D x n j (linkField D i) h (omega (arith, fits)) e in not-link i l (omega arith) (same .1) .0 (same .0),
-            λ e. let same = index-apart D x (owedAt ws n) j (linkField D i) h (omega (arith, fits)) e in not-link i l (omega arith) (same .1) .1 (same .0),
+            λ e. let same = index-apart D x n j (linkField i) h (omega (arith, fits)) e in not-link i l (omega arith) (same .1) .0 (same .0),
+            λ e. let same = index-apart D x (owedAt ws n) j (linkField i) h (omega (arith, fits)) e in not-link i l (omega arith) (same .1) .1 (same .0),
           ))
 
   -- every word of a cell that is neither of the two
@@ -405,7 +402,7 @@ module _ {D C : ℕ} {ws : List ℕ} (exact : Exact D C ws) (n : ℕ) (debt : Ow
   finishWords-cell x j h not-n not-c = finishWords-other x j h (λ e l u. not-n e) (λ i l u e. (not-n, not-c))
 
   -- every word of the owed cell, and of any but n, that is none of those links
-  pub finishWords-field : (x j : ℕ) → j < cellWords D → (x ≡ n → ⊥) → ((i : ℕ) → lowAt ws n ≤ i → i < highAt ws n → j ≡ linkField D i → ⊥) →
+  pub finishWords-field : (x j : ℕ) → j < cellWords D → (x ≡ n → ⊥) → ((i : ℕ) → lowAt ws n ≤ i → i < highAt ws n → j ≡ linkField i → ⊥) →
       wordIn D (finishWords D ws n) x j ≡ wordIn D ws x j
   finishWords-field x j h not-n other = finishWords-other x j h (λ e l u. not-n e) (λ i l u e. absurd (other i l u e))
 
@@ -414,7 +411,7 @@ module _ {D C : ℕ} {ws : List ℕ} (exact : Exact D C ws) (n : ℕ) (debt : Ow
   finishWords-before j h = finishWords-other n j (omega arith) (λ e l u. omega arith) (λ i l u e. absurd (omega arith))
 
   -- coordinates of n, and its other links
-  pub finishWords-after : (j : ℕ) → fieldsBeforeCoordinates ≤ j → j < cellWords D → ((i : ℕ) → lowAt ws n ≤ i → i < highAt ws n → j ≡ linkField D i → ⊥) →
+  pub finishWords-after : (j : ℕ) → fieldsBeforeLinks ≤ j → j < cellWords D → ((i : ℕ) → lowAt ws n ≤ i → i < highAt ws n → j ≡ linkField i → ⊥) →
       wordIn D (finishWords D ws n) n j ≡ wordIn D ws n j
   finishWords-after j l h other = finishWords-other n j h (λ e m u. omega arith) (λ i m u e. absurd (other i m u e))
 
@@ -422,8 +419,8 @@ module _ {D C : ℕ} {ws : List ℕ} (exact : Exact D C ws) (n : ℕ) (debt : Ow
 pub wordAt-in : (D : ℕ) (ws : List ℕ) → dimensionsAt ws ≡ D → (x j : ℕ) → wordAt ws x j ≡ wordIn D ws x j
 wordAt-in D ws e x j = ap (λ m. wordIn m ws x j) e
 
-pub linkAt-in : (D : ℕ) (ws : List ℕ) → dimensionsAt ws ≡ D → (x d : ℕ) → linkAt ws x d ≡ wordIn D ws x (linkField D d)
-linkAt-in D ws e x d = ap (λ m. wordIn m ws x (linkField m d)) e
+pub linkAt-in : (D : ℕ) (ws : List ℕ) → dimensionsAt ws ≡ D → (x d : ℕ) → linkAt ws x d ≡ wordIn D ws x (linkField d)
+linkAt-in D ws e x d = ap (λ m. wordIn m ws x (linkField d)) e
 
 pub finishWords-finished : {D C : ℕ} {ws : List ℕ} → Exact D C ws → dimensionsAt ws ≡ D → (n : ℕ) → OwingWithin D C ws n → Finished ws (finishWords D ws n) n
 finishWords-finished {D} {C} {ws} exact dimensions n debt =

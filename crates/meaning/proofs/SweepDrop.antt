@@ -10,11 +10,11 @@ use native.Mathlib.Omega.{arith}
 use lib.Arith.{lt-of-le-ne}
 use lib.ListN.{getD}
 use borrow.Author.Tests.{lt-leb}
-use Rattle.settings.specs.Numbers.{headerWords, fieldsBeforeCoordinates, cellWords}
+use Rattle.settings.specs.Numbers.{headerWords, fieldsBeforeLinks, cellWords}
 use Rattle.lists.specs.Lists.{occurrences}
 use Rattle.lists.proofs.Occurrences.{Distinct, occurrences-none, distinct-left, occurrences-reverseAux, occurs-has}
 use Rattle.lists.proofs.All.{All, all-left, all-right, all-mapped, all-at}
-use Rattle.meaning.specs.Keys.{coordinate, shared}
+use Rattle.meaning.specs.Keys.{shared}
 use Rattle.meaning.specs.Row.{Node, headNode, firstSharing, Place, headPlace, placesAfter, places, settledLink, placeOf}
 use Rattle.meaning.specs.State.{State, positionKey, placesOf}
 use Rattle.meaning.specs.Picture.{nextFree, freeWords, wordsOf, firstWith, picture}
@@ -33,7 +33,7 @@ use Rattle.meaning.proofs.Slot.{sound-apart, dimensions-positive}
 use Rattle.meaning.proofs.Placed.{Placed, placed-has, placed-below, head-placed}
 use Rattle.meaning.proofs.WalkRead.{settled-above}
 use Rattle.meaning.proofs.Stores.{Exact, wordIn, picture-exact, words-equal, field-cases}
-use Rattle.meaning.proofs.Changed.{wordsBy, standing-by, by-coordinate, by-link, picture-place, placed-word}
+use Rattle.meaning.proofs.Changed.{wordsBy, standing-by, by-link, picture-place, placed-word}
 use Rattle.meaning.proofs.SweepRow.{head-link-below, head-link-at, head-link-above, dimension-falls, path-shifts}
 use Rattle.meaning.proofs.SweepStores.{nextFree-behind, Dropping, exact-dropped, dropFront-header, dropFront-first, dropFront-path-head}
 use Rattle.meaning.proofs.SweepStores.{dropFront-path-position, dropFront-other, dropFront-taken, dropFront-position, dropFront-head}
@@ -55,28 +55,16 @@ unfolding places
 unowing-places b D row h = ((refl, refl), unowing-after b D headNode 0 row refl h)
 
 -- words before the links depend on the node alone
-before-links : (b D value : ℕ) (live : Bool) (p q : Place) → p .node .key ≡ q .node .key → (j : ℕ) → j < fieldsBeforeCoordinates + D →
+before-links : (b D value : ℕ) (live : Bool) (p q : Place) → p .node .key ≡ q .node .key → (j : ℕ) → j < fieldsBeforeLinks →
     getD (wordsBy b D value live false false p) j 0 ≡ getD (wordsBy b D value live false false q) j 0
 unfolding wordsBy
-before-links b D value live p q e j h = at (decLt j fieldsBeforeCoordinates)
-  where
-    first : (j : ℕ) → j < 6 → getD (wordsBy b D value live false false p) j 0 ≡ getD (wordsBy b D value live false false q) j 0
-    first zero h = e
-    first (suc zero) h = refl
-    first (suc (suc zero)) h = refl
-    first (suc (suc (suc zero))) h = refl
-    first (suc (suc (suc (suc zero)))) h = refl
-    first (suc (suc (suc (suc (suc zero))))) h = refl
-    first (suc (suc (suc (suc (suc (suc j)))))) h = absurd (omega arith)
-
-    at : Dec (j < 6) → getD (wordsBy b D value live false false p) j 0 ≡ getD (wordsBy b D value live false false q) j 0
-    at (yes l) = first j l
-    at (no l) =
-        let there : j ≡ fieldsBeforeCoordinates + (j - fieldsBeforeCoordinates) = omega arith in
-        subst (λ i. getD (wordsBy b D value live false false p) i 0 ≡ getD (wordsBy b D value live false false q) i 0) (sym there)
-        (by-coordinate b D value live false false p (j - fieldsBeforeCoordinates) (omega arith)
-        ∙ ap (λ k. coordinate b D k (j - fieldsBeforeCoordinates)) e
-        ∙ sym (by-coordinate b D value live false false q (j - fieldsBeforeCoordinates) (omega arith)))
+before-links b D value live p q e zero h = e
+before-links b D value live p q e (suc zero) h = refl
+before-links b D value live p q e (suc (suc zero)) h = refl
+before-links b D value live p q e (suc (suc (suc zero))) h = refl
+before-links b D value live p q e (suc (suc (suc (suc zero)))) h = refl
+before-links b D value live p q e (suc (suc (suc (suc (suc zero))))) h = refl
+before-links b D value live p q e (suc (suc (suc (suc (suc (suc j)))))) h = absurd (omega arith)
 
 -- a standing cell's words
 unowing-word : (s : State) → Sound s → All (λ x. x .owes ≡ false) (s .row) → {x : ℕ} {p : Place} → Placed s x p → (j : ℕ) →
@@ -90,9 +78,9 @@ unowing-word s v unowing {x} {p} here j h =
 
 -- its links are settled
 unowing-link : (s : State) → Sound s → All (λ x. x .owes ≡ false) (s .row) → {x : ℕ} {p : Place} → Placed s x p → (d : ℕ) → d < s .settings .dimensions →
-    wordIn (s .settings .dimensions) (picture s) x (linkField (s .settings .dimensions) d) ≡ settledLink (s .settings .base) (s .settings .dimensions) p d
+    wordIn (s .settings .dimensions) (picture s) x (linkField d) ≡ settledLink (s .settings .base) (s .settings .dimensions) p d
 unowing-link s v unowing {x} {p} here d h =
-    unowing-word s v unowing here (linkField (s .settings .dimensions) d) (omega arith)
+    unowing-word s v unowing here (linkField d) (omega arith)
     ∙ by-link (s .settings .base) (s .settings .dimensions) (p .node .value) (p .node .live) false false p d h
 
 settled-below : (b D : ℕ) (p : Place) (d : ℕ) → d < p .dimension → settledLink b D p d ≡ 0
@@ -145,11 +133,6 @@ header-settings s t e (suc zero) h = ap (λ r. r .largest) e
 header-settings s t e (suc (suc zero)) h = ap (λ r. r .cells) e
 header-settings s t e (suc (suc (suc zero))) h = ap (λ r. r .base) e
 header-settings s t e (suc (suc (suc (suc i)))) h = absurd (omega arith)
-
--- a word of a cell is one before the links, or a link
-word-cases : (P : ℕ → Type 0) (D : ℕ) → ((j : ℕ) → j < fieldsBeforeCoordinates + D → P j) → ((d : ℕ) → d < D → P (linkField D d)) → (j : ℕ) →
-    j < cellWords D → P j
-word-cases P D before link j h = field-cases P D (λ i l. before i (omega arith)) (λ d l. before (fieldsBeforeCoordinates + d) (omega arith)) link j h
 
 -- The front dropped
 
@@ -330,26 +313,26 @@ module _ (s : State) (front : List Node) (x : Node) (later : List Node) (v : Sou
   unowing-later : All (λ y. y .owes ≡ false) (x ∷ later)
   unowing-later = all-right (λ y. y .owes ≡ false) front (x ∷ later) unowing
 
-  position-before : (j : ℕ) → j < fieldsBeforeCoordinates + s .settings .dimensions → Dropped (x .cell) j
+  position-before : (j : ℕ) → j < fieldsBeforeLinks → Dropped (x .cell) j
   position-before j h =
       unowing-word (dropped s front x later) w unowing-later placed-after j (omega arith)
       ∙ before-links (s .settings .base) (s .settings .dimensions) (x .value) (x .live) (placeAfter s x later) (placeBefore s front x later) refl j h
       ∙ sym (unowing-word (fronted s front x later) v unowing placed-before j (omega arith))
       ∙ sym (dropFront-position exact pathBefore dropping j (omega arith) (λ d l u e. omega arith))
 
-  position-link : (d : ℕ) → d < s .settings .dimensions → Dropped (x .cell) (linkField (s .settings .dimensions) d)
+  position-link : (d : ℕ) → d < s .settings .dimensions → Dropped (x .cell) (linkField d)
   position-link d h =
       unowing-link (dropped s front x later) w unowing-later placed-after d h ∙ at (decLt d (zeros s x)) (decLt d (reached s front x))
     where
       kept : ((i : ℕ) → zeros s x ≤ i → i < reached s front x → d ≡ i → ⊥) →
           settledLink (s .settings .base) (s .settings .dimensions) (placeBefore s front x later) d
-          ≡ wordIn (s .settings .dimensions) (written s front x later) (x .cell) (linkField (s .settings .dimensions) d)
+          ≡ wordIn (s .settings .dimensions) (written s front x later) (x .cell) (linkField d)
       kept other =
           sym (unowing-link (fronted s front x later) v unowing placed-before d h)
-          ∙ sym (dropFront-position exact pathBefore dropping (linkField (s .settings .dimensions) d) (omega arith) (λ i l u e. other i l u (omega arith)))
+          ∙ sym (dropFront-position exact pathBefore dropping (linkField d) (omega arith) (λ i l u e. other i l u (omega arith)))
 
       at : Dec (d < zeros s x) → Dec (d < reached s front x) → settledLink (s .settings .base) (s .settings .dimensions) (placeAfter s x later) d
-          ≡ wordIn (s .settings .dimensions) (written s front x later) (x .cell) (linkField (s .settings .dimensions) d)
+          ≡ wordIn (s .settings .dimensions) (written s front x later) (x .cell) (linkField d)
       at (yes l) more =
           let falls = dropping .falls in
           settled-below (s .settings .base) (s .settings .dimensions) (placeAfter s x later) d l
@@ -369,14 +352,14 @@ module _ (s : State) (front : List Node) (x : Node) (later : List Node) (v : Sou
 
   -- The head
 
-  head-before : (j : ℕ) → j < fieldsBeforeCoordinates + s .settings .dimensions → Dropped 0 j
+  head-before : (j : ℕ) → j < fieldsBeforeLinks → Dropped 0 j
   head-before j h =
       unowing-word (dropped s front x later) w unowing-later (head-placed (dropped s front x later)) j (omega arith)
       ∙ before-links (s .settings .base) (s .settings .dimensions) 0 false (headPlace (x ∷ later)) (headPlace (front ++ x ∷ later)) refl j h
       ∙ sym (unowing-word (fronted s front x later) v unowing (head-placed (fronted s front x later)) j (omega arith))
       ∙ sym (dropFront-head exact pathBefore dropping j (omega arith))
 
-  head-link : (d : ℕ) → d < s .settings .dimensions → Dropped 0 (linkField (s .settings .dimensions) d)
+  head-link : (d : ℕ) → d < s .settings .dimensions → Dropped 0 (linkField d)
   head-link d h =
       unowing-link (dropped s front x later) w unowing-later (head-placed (dropped s front x later)) d h
       ∙ settled-above b D (headPlace (x ∷ later)) d (omega arith)
@@ -388,14 +371,14 @@ module _ (s : State) (front : List Node) (x : Node) (later : List Node) (v : Sou
       D : ℕ
       D = s .settings .dimensions
 
-      at : Dec (d < zeros s x) → Dec (d ≡ zeros s x) → firstSharing b D 0 d (x ∷ later) ≡ wordIn D (written s front x later) 0 (linkField D d)
+      at : Dec (d < zeros s x) → Dec (d ≡ zeros s x) → firstSharing b D 0 d (x ∷ later) ≡ wordIn D (written s front x later) 0 (linkField d)
       at (yes l) more =
           head-link-below b D pos front x later (v .ascends) d l
           ∙ sym (settled-above b D (headPlace (front ++ x ∷ later)) d (omega arith))
           ∙ sym (unowing-link (fronted s front x later) v unowing (head-placed (fronted s front x later)) d h)
-          ∙ sym (dropFront-head exact pathBefore dropping (linkField D d) (omega arith))
+          ∙ sym (dropFront-head exact pathBefore dropping (linkField d) (omega arith))
       at (no l) (yes e) =
-          subst (λ i. firstSharing b D 0 i (x ∷ later) ≡ wordIn D (written s front x later) 0 (linkField D i)) (sym e)
+          subst (λ i. firstSharing b D 0 i (x ∷ later) ≡ wordIn D (written s front x later) 0 (linkField i)) (sym e)
           (head-link-at b D pos front x later (v .ascends) ∙ sym (dropFront-head-at exact pathBefore dropping))
       at (no l) (no ne) =
           let above : zeros s x < d = lt-of-le-ne (omega arith) (λ e. ne (sym e)) in
@@ -407,8 +390,8 @@ module _ (s : State) (front : List Node) (x : Node) (later : List Node) (v : Sou
   cell-dropped y j h k = at (ℕ-discrete y 0) (ℕ-discrete y (x .cell)) (decLt 0 (occurrences y (map (λ z. z .cell) front)))
     where
       at : Dec (y ≡ 0) → Dec (y ≡ x .cell) → Dec (0 < occurrences y (map (λ z. z .cell) front)) → Dropped y j
-      at (yes e) other freed = subst (λ c. Dropped c j) (sym e) (word-cases (Dropped 0) (s .settings .dimensions) head-before head-link j k)
-      at (no ne) (yes e) freed = subst (λ c. Dropped c j) (sym e) (word-cases (Dropped (x .cell)) (s .settings .dimensions) position-before position-link j k)
+      at (yes e) other freed = subst (λ c. Dropped c j) (sym e) (field-cases (Dropped 0) (s .settings .dimensions) head-before head-link j k)
+      at (no ne) (yes e) freed = subst (λ c. Dropped c j) (sym e) (field-cases (Dropped (x .cell)) (s .settings .dimensions) position-before position-link j k)
       at (no ne) (no other) (yes freed) = freed-dropped y j h k freed
       at (no ne) (no other) (no kept) = other-dropped y j h k ne other (occurrences-none y (map (λ z. z .cell) front) (omega arith))
 

@@ -2,16 +2,16 @@
 -- as it was. All of the front share at least as much with the head as x does, and all after x at most as much: so the head's links below
 -- what it shares with x stay, that one leads to x, and the higher ones lead nowhere. And x shares more than d with the cell on its path at
 -- d, so the first later node that shares just d with x is the first that shares just d with that cell.
-use mathlib.Core.Path.{_≡_, refl, sym, _∙_, subst, subst₂}
+use mathlib.Core.Path.{_≡_, refl, sym, subst, subst₂}
 use mathlib.Core.List.{List, [], _∷_, _++_}
-use Prim.Native.Nat.{ℕ, _^_, _≤_, _<_}
+use Prim.Native.Nat.{ℕ, _≤_, _<_}
 use native.Mathlib.Omega.{arith}
 use lib.Seq.{append-snoc}
 use Rattle.lists.proofs.All.{All, all-map}
-use Rattle.meaning.specs.Keys.{coordinate, shared}
+use Rattle.meaning.specs.Keys.{shared}
 use Rattle.meaning.specs.Row.{Node, headNode, firstSharing, Place}
 use Rattle.meaning.proofs.AscendingRow.{Asc}
-use Rattle.meaning.proofs.Keys.{ultra, coordinate-head, shared-past, shared-stop}
+use Rattle.meaning.proofs.Keys.{ultra}
 use Rattle.meaning.proofs.Places.{asc-left, asc-smaller, asc-larger, lastFrom, asc-right}
 use Rattle.meaning.proofs.Parent.{dimensionAfter, Apart, ParentPlace, asc-last, last-least, apart-left, sharing-skips, sharing-hits}
 use Rattle.meaning.proofs.Parent.{sharing-alike, sharing-above}
@@ -64,12 +64,3 @@ path-shifts b D pos deep front x later d asc apart h =
         (all-map (λ y k. let shares = at .shares in let u = parent-shares b D pos deep d x later p at (y .key) (omega arith) in
         (λ e. omega arith, λ e. omega arith))
         later (asc-larger 0 front x later asc))
-
--- Leading zeros: what a key shares with the head, coordinate by coordinate
-
-module _ (b D : ℕ) (pos : 0 < b) (key : ℕ) (below : key < b ^ D) where
-  pub zeros-past : (d : ℕ) → d < D → d ≤ shared b D 0 key → coordinate b D key d ≡ 0 → d < shared b D 0 key
-  zeros-past d h l e = shared-past b D 0 key d pos (omega arith) below h l (coordinate-head b D d ∙ sym e)
-
-  pub zeros-stop : (d : ℕ) → d ≤ shared b D 0 key → (coordinate b D key d ≡ 0 → ⊥) → shared b D 0 key ≡ d
-  zeros-stop d l ne = shared-stop b D 0 key d l (λ e. ne (sym e ∙ coordinate-head b D d))

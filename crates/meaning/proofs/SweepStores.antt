@@ -28,86 +28,86 @@ use Rattle.meaning.proofs.Path.{onward-length, onward-front, onward-bac
 
 -- the words after one link is taken
 abbrev takenLink : ℕ → List ℕ → ℕ → List ℕ → ℕ → List ℕ
-takenLink D ws x path d = store D ws x (linkField D d) (wordIn D ws (getD path d 0) (linkField D d))
+takenLink D ws x path d = store D ws x (linkField d) (wordIn D ws (getD path d 0) (linkField d))
 
 pub exact-taken : {D C : ℕ} {ws : List ℕ} → Exact D C ws → (x : ℕ) (path : List ℕ) (d k : ℕ) → Exact D C (takeLinks D ws x path d k)
 unfolding takeLinks
 exact-taken exact x path d zero = exact
 exact-taken {D} {C} {ws} exact x path d (suc k) =
-    exact-taken (exact-set exact (wordIndex D x (linkField D d)) (wordIn D ws (getD path d 0) (linkField D d))) x path (suc d) k
+    exact-taken (exact-set exact (wordIndex D x (linkField d)) (wordIn D ws (getD path d 0) (linkField d))) x path (suc d) k
 
 pub takeLinks-below : (D : ℕ) (ws : List ℕ) (x : ℕ) (path : List ℕ) (d k i : ℕ) → i < headerWords + D → getD (takeLinks D ws x path d k) i 0 ≡ getD ws i 0
 unfolding takeLinks
 takeLinks-below D ws x path d zero i h = refl
 takeLinks-below D ws x path d (suc k) i h =
-    takeLinks-below D (takenLink D ws x path d) x path (suc d) k i h ∙ store-below D ws x (linkField D d) (wordIn D ws (getD path d 0) (linkField D d)) i h
+    takeLinks-below D (takenLink D ws x path d) x path (suc d) k i h ∙ store-below D ws x (linkField d) (wordIn D ws (getD path d 0) (linkField d)) i h
 
 -- every word that is none of those links
 pub takeLinks-other : (D : ℕ) (ws : List ℕ) (x : ℕ) (path : List ℕ) (d k : ℕ) → d + k ≤ D → (y j : ℕ) → j < cellWords D →
-    (y ≡ x → (i : ℕ) → d ≤ i → i < d + k → j ≡ linkField D i → ⊥) → wordIn D (takeLinks D ws x path d k) y j ≡ wordIn D ws y j
+    (y ≡ x → (i : ℕ) → d ≤ i → i < d + k → j ≡ linkField i → ⊥) → wordIn D (takeLinks D ws x path d k) y j ≡ wordIn D ws y j
 unfolding takeLinks
 takeLinks-other D ws x path d zero fit y j h other = refl
 takeLinks-other D ws x path d (suc k) fit y j h other =
     takeLinks-other D (takenLink D ws x path d) x path (suc d) k (omega arith) y j h (λ e i l u. other e i (omega arith) (omega arith))
-    ∙ store-other D ws x (linkField D d) (wordIn D ws (getD path d 0) (linkField D d)) y j (omega arith) h (λ e. other e d (omega arith) (omega arith))
+    ∙ store-other D ws x (linkField d) (wordIn D ws (getD path d 0) (linkField d)) y j (omega arith) h (λ e. other e d (omega arith) (omega arith))
 
 -- link i of x is what link i of the path's cell i was: when it is read, only lower links have changed
 pub takeLinks-taken : {D C : ℕ} {ws : List ℕ} → Exact D C ws → (x : ℕ) (path : List ℕ) (d k : ℕ) → x < C → d + k ≤ D → (i : ℕ) → d ≤ i → i < d + k →
-    wordIn D (takeLinks D ws x path d k) x (linkField D i) ≡ wordIn D ws (getD path i 0) (linkField D i)
+    wordIn D (takeLinks D ws x path d k) x (linkField i) ≡ wordIn D ws (getD path i 0) (linkField i)
 unfolding takeLinks
 takeLinks-taken exact x path d zero here fit i h l = absurd (omega arith)
 takeLinks-taken {D} {C} {ws} exact x path d (suc k) here fit i h l =
-    at (ℕ-discrete d i) (takeLinks-taken (exact-set exact (wordIndex D x (linkField D d)) value) x path (suc d) k here (omega arith) i)
+    at (ℕ-discrete d i) (takeLinks-taken (exact-set exact (wordIndex D x (linkField d)) value) x path (suc d) k here (omega arith) i)
   where
     value : ℕ
-    value = wordIn D ws (getD path d 0) (linkField D d)
+    value = wordIn D ws (getD path d 0) (linkField d)
 
     taken : List ℕ
     taken = takenLink D ws x path d
 
-    at : Dec (d ≡ i) → (suc d ≤ i → i < suc d + k → wordIn D (takeLinks D taken x path (suc d) k) x (linkField D i)
-        ≡ wordIn D taken (getD path i 0) (linkField D i)) →
-        wordIn D (takeLinks D taken x path (suc d) k) x (linkField D i) ≡ wordIn D ws (getD path i 0) (linkField D i)
+    at : Dec (d ≡ i) → (suc d ≤ i → i < suc d + k → wordIn D (takeLinks D taken x path (suc d) k) x (linkField i)
+        ≡ wordIn D taken (getD path i 0) (linkField i)) →
+        wordIn D (takeLinks D taken x path (suc d) k) x (linkField i) ≡ wordIn D ws (getD path i 0) (linkField i)
     at (yes e) more =
-        subst (λ m. wordIn D (takeLinks D taken x path (suc d) k) x (linkField D m) ≡ wordIn D ws (getD path m 0) (linkField D m)) e
-        (takeLinks-other D taken x path (suc d) k (omega arith) x (linkField D d) (omega arith) (λ q m u v f. omega arith)
-        ∙ store-same exact x (linkField D d) value here (omega arith))
+        subst (λ m. wordIn D (takeLinks D taken x path (suc d) k) x (linkField m) ≡ wordIn D ws (getD path m 0) (linkField m)) e
+        (takeLinks-other D taken x path (suc d) k (omega arith) x (linkField d) (omega arith) (λ q m u v f. omega arith)
+        ∙ store-same exact x (linkField d) value here (omega arith))
     at (no ne) more =
         more (lt-of-le-ne h ne) (omega arith)
-        ∙ store-other D ws x (linkField D d) value (getD path i 0) (linkField D i) (omega arith) (omega arith) (λ q f. ne (omega arith))
+        ∙ store-other D ws x (linkField d) value (getD path i 0) (linkField i) (omega arith) (omega arith) (λ q f. ne (omega arith))
 
 -- The head's links
 
 pub exact-relinked : {D C : ℕ} {ws : List ℕ} → Exact D C ws → (x z : ℕ) → Exact D C (relinkHead D ws x z)
 unfolding relinkHead
-exact-relinked {D} exact x z = exact-sets exact (wordIndex D 0 (linkField D z)) (x ∷ replicate (D - suc z) 0)
+exact-relinked {D} exact x z = exact-sets exact (wordIndex D 0 (linkField z)) (x ∷ replicate (D - suc z) 0)
 
 pub relinkHead-below : (D : ℕ) (ws : List ℕ) (x z i : ℕ) → i < headerWords + D → getD (relinkHead D ws x z) i 0 ≡ getD ws i 0
 unfolding relinkHead
-relinkHead-below D ws x z i h = cell-sets-below D ws 0 (linkField D z) (x ∷ replicate (D - suc z) 0) i h
+relinkHead-below D ws x z i h = cell-sets-below D ws 0 (linkField z) (x ∷ replicate (D - suc z) 0) i h
 
 pub relinkHead-cell : (D : ℕ) (ws : List ℕ) (x z : ℕ) → z < D → (y j : ℕ) → j < cellWords D → (y ≡ 0 → ⊥) → wordIn D (relinkHead D ws x z) y j ≡ wordIn D ws y j
 unfolding relinkHead
 relinkHead-cell D ws x z h y j k ne =
-    cell-sets-other D ws 0 (linkField D z) (x ∷ replicate (D - suc z) 0) (omega (arith, length-replicate {A = ℕ} (D - suc z) 0)) y j k ne
+    cell-sets-other D ws 0 (linkField z) (x ∷ replicate (D - suc z) 0) (omega (arith, length-replicate {A = ℕ} (D - suc z) 0)) y j k ne
 
-pub relinkHead-before : (D : ℕ) (ws : List ℕ) (x z j : ℕ) → j < linkField D z → wordIn D (relinkHead D ws x z) 0 j ≡ wordIn D ws 0 j
+pub relinkHead-before : (D : ℕ) (ws : List ℕ) (x z j : ℕ) → j < linkField z → wordIn D (relinkHead D ws x z) 0 j ≡ wordIn D ws 0 j
 unfolding relinkHead
-relinkHead-before D ws x z j h = cell-sets-before D ws 0 (linkField D z) (x ∷ replicate (D - suc z) 0) j h
+relinkHead-before D ws x z j h = cell-sets-before D ws 0 (linkField z) (x ∷ replicate (D - suc z) 0) j h
 
 module _ {D C : ℕ} {ws : List ℕ} (exact : Exact D C ws) (some : 0 < C) (x z : ℕ) (inside : z < D) where
-  relinked : (k : ℕ) → k < D - z → wordIn D (relinkHead D ws x z) 0 (linkField D z + k) ≡ getD (x ∷ replicate (D - suc z) 0) k 0
+  relinked : (k : ℕ) → k < D - z → wordIn D (relinkHead D ws x z) 0 (linkField z + k) ≡ getD (x ∷ replicate (D - suc z) 0) k 0
   unfolding relinkHead
   relinked k h =
       let size = length-replicate {A = ℕ} (D - suc z) 0 in
-      cell-sets-inside exact 0 (linkField D z) (x ∷ replicate (D - suc z) 0) some (omega arith) k (omega arith)
+      cell-sets-inside exact 0 (linkField z) (x ∷ replicate (D - suc z) 0) some (omega arith) k (omega arith)
 
-  pub relinkHead-at : wordIn D (relinkHead D ws x z) 0 (linkField D z) ≡ x
-  relinkHead-at = ap (λ j. wordIn D (relinkHead D ws x z) 0 j) (sym (add-zero (linkField D z))) ∙ relinked 0 (omega arith)
+  pub relinkHead-at : wordIn D (relinkHead D ws x z) 0 (linkField z) ≡ x
+  relinkHead-at = ap (λ j. wordIn D (relinkHead D ws x z) 0 j) (sym (add-zero (linkField z))) ∙ relinked 0 (omega arith)
 
-  pub relinkHead-above : (d : ℕ) → z < d → d < D → wordIn D (relinkHead D ws x z) 0 (linkField D d) ≡ 0
+  pub relinkHead-above : (d : ℕ) → z < d → d < D → wordIn D (relinkHead D ws x z) 0 (linkField d) ≡ 0
   relinkHead-above d h k =
-      let there : linkField D d ≡ linkField D z + suc (d - suc z) = omega arith in
+      let there : linkField d ≡ linkField z + suc (d - suc z) = omega arith in
       ap (λ j. wordIn D (relinkHead D ws x z) 0 j) there ∙ relinked (suc (d - suc z)) (omega arith)
       ∙ getD-replicate {A = ℕ} (D - suc z) (d - suc z) 0 0 (omega arith)
 
@@ -288,14 +288,14 @@ module _ {D C : ℕ} {ws : List ℕ} (exact : Exact D C ws) {x number z : ℕ} {
       let standing = drop .standing in
       dropped-word x j h (drop .apart) ∙ relinkHead-cell D taken x z (drop .inside) x j h (λ e. omega arith)
 
-  pub dropFront-taken : (d : ℕ) → z ≤ d → d < number → wordIn D (dropFront D ws x number path z between) x (linkField D d)
-      ≡ wordIn D ws (getD path d 0) (linkField D d)
+  pub dropFront-taken : (d : ℕ) → z ≤ d → d < number → wordIn D (dropFront D ws x number path z between) x (linkField d)
+      ≡ wordIn D ws (getD path d 0) (linkField d)
   dropFront-taken d h k =
       let least = drop .least in
-      position-word (linkField D d) (omega arith)
+      position-word (linkField d) (omega arith)
       ∙ takeLinks-taken exact x path z (number - z) (drop .cell) (omega arith) d h (omega arith)
 
-  pub dropFront-position : (j : ℕ) → j < cellWords D → ((d : ℕ) → z ≤ d → d < number → j ≡ linkField D d → ⊥) →
+  pub dropFront-position : (j : ℕ) → j < cellWords D → ((d : ℕ) → z ≤ d → d < number → j ≡ linkField d → ⊥) →
       wordIn D (dropFront D ws x number path z between) x j ≡ wordIn D ws x j
   dropFront-position j h other =
       let falls = drop .falls in
@@ -306,7 +306,7 @@ module _ {D C : ℕ} {ws : List ℕ} (exact : Exact D C ws) {x number z : ℕ} {
   head-word : (j : ℕ) → j < cellWords D → wordIn D (dropFront D ws x number path z between) 0 j ≡ wordIn D relinkedWords 0 j
   head-word j h = dropped-word 0 j h (all-map (λ c r e. let above = r .0 in omega arith) between (drop .range))
 
-  pub dropFront-head : (j : ℕ) → j < linkField D z → wordIn D (dropFront D ws x number path z between) 0 j ≡ wordIn D ws 0 j
+  pub dropFront-head : (j : ℕ) → j < linkField z → wordIn D (dropFront D ws x number path z between) 0 j ≡ wordIn D ws 0 j
   dropFront-head j h =
       let inside = drop .inside in
       let falls = drop .falls in
@@ -316,16 +316,16 @@ module _ {D C : ℕ} {ws : List ℕ} (exact : Exact D C ws) {x number z : ℕ} {
       ∙ relinkHead-before D taken x z j h
       ∙ takeLinks-other D ws x path z (number - z) (omega arith) 0 j (omega arith) (λ e. absurd (omega arith))
 
-  pub dropFront-head-at : wordIn D (dropFront D ws x number path z between) 0 (linkField D z) ≡ x
+  pub dropFront-head-at : wordIn D (dropFront D ws x number path z between) 0 (linkField z) ≡ x
   dropFront-head-at =
       let inside = drop .inside in
       let cell = drop .cell in
-      head-word (linkField D z) (omega arith) ∙ relinkHead-at exact-links (omega arith) x z inside
+      head-word (linkField z) (omega arith) ∙ relinkHead-at exact-links (omega arith) x z inside
 
-  pub dropFront-head-above : (d : ℕ) → z < d → d < D → wordIn D (dropFront D ws x number path z between) 0 (linkField D d) ≡ 0
+  pub dropFront-head-above : (d : ℕ) → z < d → d < D → wordIn D (dropFront D ws x number path z between) 0 (linkField d) ≡ 0
   dropFront-head-above d h k =
       let cell = drop .cell in
-      head-word (linkField D d) (omega arith) ∙ relinkHead-above exact-links (omega arith) x z (drop .inside) d h k
+      head-word (linkField d) (omega arith) ∙ relinkHead-above exact-links (omega arith) x z (drop .inside) d h k
 
   -- each freed cell
   pub dropFront-freed : (free : List ℕ) → firstFreeAt ws ≡ firstNumber free →

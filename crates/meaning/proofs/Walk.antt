@@ -22,6 +22,7 @@ use Rattle.meaning.specs.Operations.{looked}
 use Rattle.meaning.specs.Rule.{rule}
 use Rattle.meaning.specs.Words.{keyAt, dimensionsAt, baseAt}
 use Rattle.meaning.specs.Walk.{linkRead, stepAlong, stepAt, onFrom, trailFrom, trail, ends, walk}
+use Rattle.meaning.specs.Layer.Near.{Near, NearAlong}
 use Rattle.meaning.specs.declared.Step.{Step}
 use Rattle.meaning.specs.declared.Step.the-variants.{Go, Up, End}
 use Rattle.meaning.proofs.AscendingRow.{Asc}
@@ -32,7 +33,7 @@ use Rattle.meaning.proofs.Picture.{picture-dimensions, picture-base}
 use Rattle.meaning.proofs.Placed.{Own, placed-has, placed-other}
 use Rattle.meaning.proofs.SentencesShape.{places-placed, key-below}
 use Rattle.meaning.proofs.Rule.{met, rule-is-met}
-use Rattle.meaning.proofs.WalkRow.{met-all, met-distinct, NextOf, StopAt, next, RowTrail, rises, moves, wants, reaches, row-trail-ends}
+use Rattle.meaning.proofs.WalkRow.{met-all, met-distinct, NextOf, StopAt, next, RowTrail, rises, moves, wants, reaches, row-trail-ends, row-trail-shares}
 use Rattle.meaning.proofs.WalkRow.{row-trail-meets, row-trail-bounded}
 use Rattle.meaning.proofs.WalkRead.{Read, settled-above, places-read, row-key-read}
 use Rattle.meaning.proofs.WalkSteps.{trail-first, trail-enough}
@@ -76,7 +77,7 @@ module _ (ws : List ℕ) (b D k : ℕ) (is-D : dimensionsAt ws ≡ D) (is-b : ba
       ≡ cond (ltb (coordinate b D (p .node .key) d) (coordinate b D k d)) (stepAlong (linkRead ws (p .node .cell) d))
       (cond (eqb (coordinate b D (p .node .key) d) (coordinate b D k d)) (cond (eqb (suc d) D) End Up) End)
   unfolding stepAt
-  place-step p r d l = rw (stands p r .read .coordinate d l, is-D, is-b) refl
+  place-step p r d l = rw (stands p r .read .key, is-D, is-b) refl
 
   -- up, as long as they share the coordinate at hand; ..
   place-up : (p : Place) → R p → (d : ℕ) → d < shared b D (p .node .key) k → suc d < D → stepAt ws k (p .node .cell) d ≡ Up
@@ -168,6 +169,20 @@ placed-stands {s} v here =
       fits = key-below v here;
     }
 
+module _ {s : State} (v : Sound s) {k : ℕ} where
+  row-near : {p : Place} {d : ℕ} {steps : List Step} → Own s p → RowTrail (s .settings .base) (s .settings .dimensions) k (Own s) p d steps →
+      Near (s .settings .base) (s .settings .dimensions) k (keyAt (picture s) (p .node .cell)) d
+  row-near {p} here t =
+      let at = placed-stands v here in
+      rw (at .read .key) (at .fits, row-trail-shares t)
+
+  row-trail-near : {p : Place} {d : ℕ} {steps : List Step} → Own s p → RowTrail (s .settings .base) (s .settings .dimensions) k (Own s) p d steps →
+      NearAlong (s .settings .base) (s .settings .dimensions) k (keyAt (picture s)) (p .node .cell) d steps
+  row-trail-near here (rises t) = (row-near here (rises t), row-trail-near here t)
+  row-trail-near here (moves h up e to t) = (row-near here (moves h up e to t), row-trail-near (to .holds) t)
+  row-trail-near here (wants h up e stop) = (row-near here (wants h up e stop), tt)
+  row-trail-near here (reaches h e) = (row-near here (reaches h e), tt)
+
 keys-of-cells : (ws : List ℕ) (row : List Node) → All (λ x. keyAt ws (x .cell) ≡ x .key) row → map (keyAt ws) (map (λ x. x .cell) row) ≡ map (λ x. x .key) row
 keys-of-cells ws [] a = refl
 keys-of-cells ws (x ∷ row) a = ap₂ _∷_ (a .0) (keys-of-cells ws row (a .1))
@@ -188,6 +203,10 @@ module _ (s : State) (v : Sound s) (k : ℕ) (least : 1 ≤ k) (most : k ≤ s .
 
   pub trail-ends : ends (trail (picture s) k) ≡ true
   trail-ends = row-trail-ends row-trail
+
+  pub trail-near : NearAlong (s .settings .base) (s .settings .dimensions) k (keyAt (picture s)) 0 0 (trail (picture s) k)
+  unfolding places
+  trail-near = row-trail-near v (places-placed v .0) row-trail
 
   -- more steps than D * b go nowhere else
   pub trail-more : (fuel : ℕ) → s .settings .dimensions * s .settings .base ≤ fuel → trailFrom fuel (picture s) k 0 0 ≡ trail (picture s) k

@@ -9,58 +9,44 @@ use native.Mathlib.Nat.{zero-add}
 use native.Mathlib.Decide.{decLe}
 use native.Mathlib.Omega.{arith}
 use lib.Dec.{eqb, leb, ltb}
-use lib.ListN.{length, getD, List·getD-append}
+use lib.ListN.{length, getD}
 use lib.Seq.{getD-append-add}
 use borrow.Author.Tests.{lt-ltb, le-leb, eq-eqb, leb-true, ltb-true}
-use Rattle.settings.specs.Numbers.{fieldsBeforeCoordinates, cellWords}
+use Rattle.settings.specs.Numbers.{fieldsBeforeLinks, cellWords}
 use Rattle.lists.specs.Lists.{numbersFrom}
 use Rattle.lists.proofs.Numbers.{made-at}
 use Rattle.lists.proofs.All.{All, all-map, all-zip}
 use Rattle.lists.proofs.Tests.{both, and-both}
-use Rattle.meaning.specs.Keys.{coordinates, coordinate, shared}
+use Rattle.meaning.specs.Keys.{shared}
 use Rattle.meaning.specs.Row.{Node, headNode, firstOf, firstSharing, Place, headPlace, placesAfter, places, settledLink, owed, low, high}
 use Rattle.meaning.specs.Row.{between, link, placeOf}
 use Rattle.meaning.specs.State.{State}
 use Rattle.meaning.specs.Picture.{standingWords, wordsOf, picture, mark}
-use Rattle.meaning.specs.Words.{wordAt, keyAt, owedAt, lowAt, highAt, coordinateAt, linkAt, valueAt, markAt}
+use Rattle.meaning.specs.Words.{wordAt, keyAt, owedAt, lowAt, highAt, linkAt, linkField, valueAt, markAt}
 use Rattle.meaning.specs.Walk.{linkRead}
 use Rattle.meaning.proofs.AgainstSlips.{owed-link-is-read-there}
-use Rattle.meaning.proofs.Keys.{coordinates-length}
 use Rattle.meaning.proofs.State.{Debt, Sound}
 use Rattle.meaning.proofs.StateCells.{row-range}
-use Rattle.meaning.proofs.Picture.{picture-word, place-found, picture-dimensions}
+use Rattle.meaning.proofs.Picture.{picture-word, place-found}
 use Rattle.meaning.proofs.Places.{places-nodes, row-of-places}
 
 -- Words by place.
 
--- A standing cell's words are six, then the coordinates of its key, then D links.
-module _ (six : List ℕ) (are : length six ≡ fieldsBeforeCoordinates) (b D key : ℕ) (to : ℕ → ℕ) (d : ℕ) (h : d < D) where
-  pub words-coordinate : getD (six ++ (coordinates b D key ++ map to (numbersFrom 0 D))) (fieldsBeforeCoordinates + d) 0 ≡ coordinate b D key d
-  words-coordinate =
-      ap (λ n. getD (six ++ (coordinates b D key ++ map to (numbersFrom 0 D))) (n + d) 0) (sym are)
-      ∙ getD-append-add six (coordinates b D key ++ map to (numbersFrom 0 D)) d 0
-      ∙ List·getD-append (coordinates b D key) (map to (numbersFrom 0 D)) 0 d (omega (arith, coordinates-length b D key))
-
-  pub words-link : getD (six ++ (coordinates b D key ++ map to (numbersFrom 0 D))) (fieldsBeforeCoordinates + D + d) 0 ≡ to d
-  words-link =
-      let size = coordinates-length b D key in
-      let there : fieldsBeforeCoordinates + D + d ≡ length six + (length (coordinates b D key) + d) = omega arith in
-      ap (λ n. getD (six ++ (coordinates b D key ++ map to (numbersFrom 0 D))) n 0) there
-      ∙ getD-append-add six (coordinates b D key ++ map to (numbersFrom 0 D)) (length (coordinates b D key) + d) 0
-      ∙ getD-append-add (coordinates b D key) (map to (numbersFrom 0 D)) d 0
-      ∙ made-at to 0 D d 0 h
-      ∙ ap to (zero-add d)
+-- A standing cell's words are six, then D links.
+pub words-link :
+    (six : List ℕ) → length six ≡ fieldsBeforeLinks → (D : ℕ) (to : ℕ → ℕ) (d : ℕ) → d < D → getD (six ++ map to (numbersFrom 0 D)) (linkField d) 0 ≡ to d
+words-link six are D to d h =
+    ap (λ n. getD (six ++ map to (numbersFrom 0 D)) (n + d) 0) (sym are)
+    ∙ getD-append-add six (map to (numbersFrom 0 D)) d 0
+    ∙ made-at to 0 D d 0 h
+    ∙ ap to (zero-add d)
 
 abbrev sixWords : ℕ → ℕ → Place → List ℕ
 sixWords b D p = p .node .key ∷ p .node .value ∷ mark (p .node .live) ∷ owed p ∷ low p ∷ high b D p ∷ []
 
-pub standing-coordinate : (b D : ℕ) (p : Place) (d : ℕ) → d < D → getD (standingWords b D p) (fieldsBeforeCoordinates + d) 0 ≡ coordinate b D (p .node .key) d
+pub standing-link : (b D : ℕ) (p : Place) (d : ℕ) → d < D → getD (standingWords b D p) (linkField d) 0 ≡ link b D p d
 unfolding standingWords
-standing-coordinate b D p d h = words-coordinate (sixWords b D p) refl b D (p .node .key) (link b D p) d h
-
-pub standing-link : (b D : ℕ) (p : Place) (d : ℕ) → d < D → getD (standingWords b D p) (fieldsBeforeCoordinates + D + d) 0 ≡ link b D p d
-unfolding standingWords
-standing-link b D p d h = words-link (sixWords b D p) refl b D (p .node .key) (link b D p) d h
+standing-link b D p d h = words-link (sixWords b D p) refl D (link b D p) d h
 
 -- The words of a standing cell are those of its place.
 pub record Held (ws : List ℕ) (b D : ℕ) (p : Place) : Type 0 where
@@ -70,7 +56,6 @@ pub record Held (ws : List ℕ) (b D : ℕ) (p : Place) : Type 0 where
   pub owed : owedAt ws (p .node .cell) ≡ owed p
   pub low : lowAt ws (p .node .cell) ≡ low p
   pub high : highAt ws (p .node .cell) ≡ high b D p
-  pub coordinate : (d : ℕ) → d < D → coordinateAt ws (p .node .cell) d ≡ coordinate b D (p .node .key) d
   pub link : (d : ℕ) → d < D → linkAt ws (p .node .cell) d ≡ link b D p d
 
 -- what holds of the head and of each node of the row holds of the node of each place
@@ -101,10 +86,7 @@ module _ (s : State) where
         owed = word 3 (omega arith);
         low = word 4 (omega arith);
         high = word 5 (omega arith);
-        coordinate = λ d l. word (fieldsBeforeCoordinates + d) (omega arith) ∙ standing-coordinate b D p d l;
-        link = λ d l.
-            ap (λ n. wordAt (picture s) (p .node .cell) (fieldsBeforeCoordinates + n + d)) (picture-dimensions s)
-            ∙ word (fieldsBeforeCoordinates + D + d) (omega arith) ∙ standing-link b D p d l;
+        link = λ d l. word (linkField d) (omega arith) ∙ standing-link b D p d l;
       }
 
   pub places-held : Sound s → All (Held (picture s) (s .settings .base) (s .settings .dimensions))
@@ -252,7 +234,7 @@ link-read-at ws b D p held after debt pos d h l = go (p .node .owes) refl (p .la
 
 -- what the walk reads of a standing cell
 pub record Read (ws : List ℕ) (b D : ℕ) (p : Place) : Type 0 where
-  pub coordinate : (d : ℕ) → d < D → coordinateAt ws (p .node .cell) d ≡ coordinate b D (p .node .key) d
+  pub key : keyAt ws (p .node .cell) ≡ p .node .key
   pub link : (d : ℕ) → p .dimension ≤ d → d < D → linkRead ws (p .node .cell) d ≡ settledLink b D p d
 
 module _ (ws : List ℕ) (b D : ℕ) where
@@ -261,7 +243,7 @@ module _ (ws : List ℕ) (b D : ℕ) where
   unfolding placesAfter
   reads-after a e [] held debts pos = tt
   reads-after a e (x ∷ row) held debts pos = (
-    record { coordinate = held .0 .coordinate; link = link-read-at ws b D _ (held .0) (held .1) (debts .0) (pos .1) },
+    record { key = held .0 .key; link = link-read-at ws b D _ (held .0) (held .1) (debts .0) (pos .1) },
     reads-after x (shared b D (a .key) (x .key)) row (held .1) (debts .1) (pos .1),
   )
 
@@ -269,7 +251,7 @@ module _ (ws : List ℕ) (b D : ℕ) where
       All (λ x. 0 < x .cell) row → All (Read ws b D) (places b D row)
   unfolding places
   reads row held debts pos = (
-    record { coordinate = held .0 .coordinate; link = link-read-at ws b D (headPlace row) (held .0) (held .1) (debts .0) pos },
+    record { key = held .0 .key; link = link-read-at ws b D (headPlace row) (held .0) (held .1) (debts .0) pos },
     reads-after headNode 0 row (held .1) (debts .1) pos,
   )
 

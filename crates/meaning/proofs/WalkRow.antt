@@ -191,6 +191,13 @@ module _ {b D k : ℕ} {R : Place → Type 0} where
   row-trail-ends (wants h up e stop) = refl
   row-trail-ends (reaches h e) = refl
 
+  -- the coordinates before the one at hand are shared by cell and k
+  pub row-trail-shares : {p : Place} {d : ℕ} {steps : List Step} → RowTrail b D k R p d steps → d ≤ shared b D (p .node .key) k
+  row-trail-shares (rises t) = let more = row-trail-shares t in omega arith
+  row-trail-shares (moves h up e to t) = omega arith
+  row-trail-shares (wants h up e stop) = omega arith
+  row-trail-shares (reaches h e) = omega arith
+
   -- it goes to the nodes met
   pub row-trail-meets : {p : Place} {d : ℕ} {steps : List Step} → RowTrail b D k R p d steps → Asc (p .node .key) (p .later) →
       goneTo steps ≡ map (λ x. x .cell) (met b D k (p .node .key) (p .later))

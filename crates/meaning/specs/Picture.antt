@@ -7,7 +7,7 @@ use lib.Dec.{eqb, ltb}
 use lib.ListN.{replicate}
 use Rattle.settings.specs.Numbers.{cellWords}
 use Rattle.lists.specs.Lists.{numbersFrom, firstNumber}
-use Rattle.meaning.specs.Keys.{coordinates, shared}
+use Rattle.meaning.specs.Keys.{shared}
 use Rattle.meaning.specs.Row.{Node, headNode, Place, places, placeOf, owed, low, high, link}
 use Rattle.meaning.specs.State.{State, positionKey}
 use Rattle.meaning.specs.Words.{liveMark, deadMark}
@@ -20,7 +20,7 @@ mark live = cond live liveMark deadMark
 unfoldable pub standingWords : ℕ → ℕ → Place → List ℕ
 standingWords b D x =
     x .node .key ∷ x .node .value ∷ mark (x .node .live) ∷ owed x ∷ low x ∷ high b D x
-    ∷ (coordinates b D (x .node .key) ++ map (link b D x) (numbersFrom 0 D))
+    ∷ map (link b D x) (numbersFrom 0 D)
 
 -- the cell that follows c in the chain, or 0
 unfoldable pub nextFree : ℕ → List ℕ → ℕ

@@ -9,14 +9,11 @@ use Rattle.settings.specs.Numbers.{leastDimensions, mostDimensions, leastLarges
 use Rattle.settings.specs.Base.{IsBase}
 use Rattle.lists.specs.Lists.{occurrences}
 use Rattle.lists.specs.Compared.{agreed}
-use Rattle.meaning.specs.Keys.{coordinates, coordinate}
+use Rattle.meaning.specs.Keys.{coordinates}
 use Rattle.meaning.specs.Words.{wordAt, keyAt, valueAt, markAt, owedAt, lowAt, highAt, coordinateAt, linkAt, dimensionsAt, largestAt, cellsAt}
 use Rattle.meaning.specs.Words.{baseAt, positionAt, firstFreeAt, freeMark, liveMark, deadMark, pathAt}
 
--- coordinate d of a cell, and the leading coordinates that two cells share
-abbrev pub digitAt : List ℕ → ℕ → ℕ → ℕ
-digitAt ws x d = coordinate (baseAt ws) (dimensionsAt ws) (keyAt ws x) d
-
+-- the leading coordinates that two cells share
 abbrev pub sharedAt : List ℕ → ℕ → ℕ → ℕ
 sharedAt ws x y =
     agreed (coordinates (baseAt ws) (dimensionsAt ws) (keyAt ws x)) (coordinates (baseAt ws) (dimensionsAt ws) (keyAt ws y))
@@ -52,7 +49,7 @@ pub data Dimension (ws : List ℕ) : ℕ → ℕ → Type 0 where
 pub record LargerAt (ws : List ℕ) (x d y : ℕ) : Type 0 where
   pub standing : Standing ws y
   pub shares : sharedAt ws x y ≡ d
-  pub larger : digitAt ws x d < digitAt ws y d
+  pub larger : coordinateAt ws x d < coordinateAt ws y d
 
 -- How cells hang together 3: y is what link d of x is in the settled shape.
 pub data Settled (ws : List ℕ) (x d : ℕ) : ℕ → Type 0 where
@@ -124,10 +121,8 @@ pub record AList (ws : List ℕ) : Type 0 where
   pub free-chain : FreeChain ws
   -- Debts 4: a cell that owes nothing has owed, low and high 0.
   pub owes-nothing : (x : ℕ) → Standing ws x → owedAt ws x ≡ 0 → (lowAt ws x ≡ 0) × (highAt ws x ≡ 0)
-  -- How cells hang together 1: no two standing cells have the same key,
+  -- How cells hang together 1: no two standing cells have the same key.
   pub distinct : (x y : ℕ) → Standing ws x → Standing ws y → keyAt ws x ≡ keyAt ws y → x ≡ y
-  -- .. and each has its key's coordinates.
-  pub coordinate-words : (x d : ℕ) → Standing ws x → d < dimensionsAt ws → coordinateAt ws x d ≡ digitAt ws x d
   -- Debts 2 and 3: only so may a cell owe.
   pub debts : (n : ℕ) → Standing ws n → 0 < owedAt ws n → MayOwe ws n
   -- Debts 3: every other link is settled.

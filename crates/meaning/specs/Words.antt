@@ -2,7 +2,8 @@
 use mathlib.Core.List.{List}
 use Prim.Native.Nat.{ℕ, _+_, _*_, _-_}
 use lib.ListN.{getD}
-use Rattle.settings.specs.Numbers.{headerWords, fieldsBeforeCoordinates, cellWords}
+use Rattle.settings.specs.Numbers.{headerWords, fieldsBeforeLinks, cellWords}
+use Rattle.meaning.specs.Keys.{coordinate}
 
 -- words 0 to 4: D, K, C, b, the first free cell
 abbrev pub dimensionsAt : List ℕ → ℕ
@@ -55,11 +56,8 @@ lowField = 4
 abbrev pub highField : ℕ
 highField = 5
 
-abbrev pub coordinateField : ℕ → ℕ
-coordinateField d = fieldsBeforeCoordinates + d
-
-abbrev pub linkField : ℕ → ℕ → ℕ
-linkField D d = fieldsBeforeCoordinates + D + d
+abbrev pub linkField : ℕ → ℕ
+linkField d = fieldsBeforeLinks + d
 
 abbrev pub keyAt : List ℕ → ℕ → ℕ
 keyAt ws x = wordAt ws x keyField
@@ -79,11 +77,12 @@ lowAt ws x = wordAt ws x lowField
 abbrev pub highAt : List ℕ → ℕ → ℕ
 highAt ws x = wordAt ws x highField
 
+-- coordinate d of a cell: its key's
 abbrev pub coordinateAt : List ℕ → ℕ → ℕ → ℕ
-coordinateAt ws x d = wordAt ws x (coordinateField d)
+coordinateAt ws x d = coordinate (baseAt ws) (dimensionsAt ws) (keyAt ws x) d
 
 abbrev pub linkAt : List ℕ → ℕ → ℕ → ℕ
-linkAt ws x d = wordAt ws x (linkField (dimensionsAt ws) d)
+linkAt ws x d = wordAt ws x (linkField d)
 
 -- the marks
 abbrev pub freeMark : ℕ

@@ -4,9 +4,9 @@ use mathlib.Core.List.{List}
 use mathlib.Core.Logic.{_⊎_}
 use Prim.Native.Nat.{ℕ, _+_, _≤_, _<_}
 use lib.ListN.{getD}
-use Rattle.settings.specs.Numbers.{headerWords, fieldsBeforeCoordinates, cellWords}
-use Rattle.meaning.specs.Keys.{coordinate, shared}
-use Rattle.meaning.specs.Words.{wordAt, keyAt, valueAt, markAt, owedAt, lowAt, highAt, coordinateAt, linkAt, cellsAt, positionAt, dimensionsAt}
+use Rattle.settings.specs.Numbers.{headerWords, fieldsBeforeLinks, cellWords}
+use Rattle.meaning.specs.Keys.{shared}
+use Rattle.meaning.specs.Words.{wordAt, keyAt, valueAt, markAt, owedAt, lowAt, highAt, linkAt, cellsAt, positionAt, dimensionsAt}
 use Rattle.meaning.specs.Words.{baseAt, firstFreeAt, linkField, freeMark, liveMark, deadMark, pathAt, valueField, markField}
 use Rattle.meaning.specs.Operations.{Slot}
 use Rattle.meaning.specs.Sentences.{Free, Standing, NextSmaller, Settled}
@@ -31,15 +31,15 @@ pub record Finished (ws us : List ℕ) (n : ℕ) : Type 0 where
   pub high : highAt us n ≡ 0
   -- and every other word is as before: of header and path, and of every cell
   pub below : (i : ℕ) → i < headerWords + dimensionsAt ws → getD us i 0 ≡ getD ws i 0
-  pub other : (x j : ℕ) → j < cellWords (dimensionsAt ws) → (x ≡ n → 3 ≤ j → j < fieldsBeforeCoordinates → ⊥) →
-      ((d : ℕ) → lowAt ws n ≤ d → d < highAt ws n → j ≡ linkField (dimensionsAt ws) d → (x ≡ n → ⊥) × (x ≡ owedAt ws n → ⊥)) → wordAt us x j ≡ wordAt ws x j
+  pub other : (x j : ℕ) → j < cellWords (dimensionsAt ws) → (x ≡ n → 3 ≤ j → j < fieldsBeforeLinks → ⊥) →
+      ((d : ℕ) → lowAt ws n ≤ d → d < highAt ws n → j ≡ linkField d → (x ≡ n → ⊥) × (x ≡ owedAt ws n → ⊥)) → wordAt us x j ≡ wordAt ws x j
 
 -- Word j of cell x is none that finishing cell n changes: if n owes, none of its owed, low and high, and no link low to high-1 of n or of
 -- its owed cell.
 abbrev pub Unmoved : List ℕ → ℕ → ℕ → ℕ → Type 0
 Unmoved ws n x j =
-    0 < owedAt ws n → (x ≡ n → 3 ≤ j → j < fieldsBeforeCoordinates → ⊥) ×
-    ((d : ℕ) → lowAt ws n ≤ d → d < highAt ws n → j ≡ linkField (dimensionsAt ws) d → (x ≡ n → ⊥) × (x ≡ owedAt ws n → ⊥))
+    0 < owedAt ws n → (x ≡ n → 3 ≤ j → j < fieldsBeforeLinks → ⊥) ×
+    ((d : ℕ) → lowAt ws n ≤ d → d < highAt ws n → j ≡ linkField d → (x ≡ n → ⊥) × (x ≡ owedAt ws n → ⊥))
 
 -- The operations 2: a key k above the position changes no word of path
 abbrev pub PathKept : List ℕ → List ℕ → ℕ → Type 0
@@ -53,7 +53,6 @@ pub record Inserted (ws us : List ℕ) (k v : ℕ) (t : Slot) : Type 0 where
   pub key : keyAt us (t .n) ≡ k
   pub value : valueAt us (t .n) ≡ v
   pub live : markAt us (t .n) ≡ liveMark
-  pub coordinates : (d : ℕ) → d < dimensionsAt ws → coordinateAt us (t .n) d ≡ coordinate (baseAt ws) (dimensionsAt ws) k d
   -- it hangs by link p from its parent in the new settled shape
   pub standing : Standing ws (t .parent)
   pub settled : Settled us (t .parent) (t .p) (t .n)
@@ -80,7 +79,7 @@ pub record Inserted (ws us : List ℕ) (k v : ℕ) (t : Slot) : Type 0 where
   pub c-cleared : (d : ℕ) → lowAt ws (t .c) ≤ d → d < highAt ws (t .c) → linkAt us (owedAt ws (t .c)) d ≡ 0
   -- every other word of the header and of the cells is as before
   pub header : (i : ℕ) → i < 4 → getD us i 0 ≡ getD ws i 0
-  pub other : (x j : ℕ) → x < cellsAt ws → j < cellWords (dimensionsAt ws) → (x ≡ t .n → ⊥) → (x ≡ t .parent → j ≡ linkField (dimensionsAt ws) (t .p) → ⊥) →
+  pub other : (x j : ℕ) → x < cellsAt ws → j < cellWords (dimensionsAt ws) → (x ≡ t .n → ⊥) → (x ≡ t .parent → j ≡ linkField (t .p) → ⊥) →
       Unmoved ws (t .parent) x j → Unmoved ws (t .c) x j → wordAt us x j ≡ wordAt ws x j
   -- if the key is at or below the position's, the position becomes the standing cell of next smaller key, and only so
   pub path-kept : PathKept ws us k

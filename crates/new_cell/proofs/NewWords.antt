@@ -12,12 +12,9 @@ use lib.ListN.{length, set, replicate, length-set, length-replicate}
 use lib.Seq.{sets}
 use borrow.Author.Tests.{eq-eqb, ne-eqb, lt-ltb, le-ltb}
 use borrow.Rule.Slice.PartMut.{midOf, putMid, mid-len}
-use Rattle.settings.specs.Numbers.{fieldsBeforeCoordinates}
 use Rattle.settings.specs.declared.Settings.{Settings}
-use Rattle.meaning.specs.Keys.{coordinates}
 use Rattle.meaning.specs.Words.{wordIndex, linkField}
 use Rattle.meaning.specs.Layer.Stores.{store, newWords, newLinks}
-use Rattle.meaning.proofs.Keys.{coordinates-length}
 use Rattle.words.specs.Shaped.{Shaped}
 use Rattle.words.proofs.Shaped.{part-inside, part-written}
 use Rattle.search.specs.declared.Found.{Found}
@@ -73,43 +70,38 @@ newLinks-length D q c = at (eqb c 0)
     at false = length-set (replicate D 0) q c ∙ length-replicate {A = ℕ} D 0
 
 -- the part from `start` to `end` that holds the links of cell n
-module _ {ws : List ℕ} {s : Settings} (h : Shaped ws s) {n : ℕ} (cell : n < s .cells) {start end first : ℕ}
-    (field : first ≡ linkField (s .dimensions) 0) (from : start ≡ wordIndex (s .dimensions) n first) (to : end ≡ start + s .dimensions) where
+module _ {ws : List ℕ} {s : Settings} (h : Shaped ws s) {n : ℕ} (cell : n < s .cells) {start end : ℕ}
+    (from : start ≡ wordIndex (s .dimensions) n (linkField 0)) (to : end ≡ start + s .dimensions) where
   pub links-inside : end ≤ length ws
-  links-inside = omega (arith, part-inside h cell (linkField (s .dimensions) 0) (s .dimensions) (omega arith))
+  links-inside = omega (arith, part-inside h cell (linkField 0) (s .dimensions) (omega arith))
 
   pub links-long : length (midOf start (end - start) ws) ≡ s .dimensions
   links-long = omega (arith, mid-len start end ws links-inside)
 
   pub links-written : (q c : ℕ) {ys : List ℕ} → ys ≡ newLinks (length (midOf start (end - start) ws)) q c →
-      putMid start (end - start) ws ys ≡ sets ws (wordIndex (s .dimensions) n (linkField (s .dimensions) 0)) (newLinks (s .dimensions) q c)
+      putMid start (end - start) ws ys ≡ sets ws (wordIndex (s .dimensions) n (linkField 0)) (newLinks (s .dimensions) q c)
   links-written q c is =
       let D = s .dimensions in
       let same = is ∙ ap (λ m. newLinks m q c) links-long in
-      rw same (part-written ws (newLinks D q c) D n (linkField D 0) D (omega arith) to links-inside (newLinks-length D q c))
+      rw same (part-written ws (newLinks D q c) D n (linkField 0) D from to links-inside (newLinks-length D q c))
 
 -- A cell
 
--- the three parts are the definition's words: without a c there is no debt either
-new-words : (b D n key value : ℕ) (f : Found) → (f .c ≡ 0 → f .q ≡ 0) →
-    fieldWords key value f ++ (coordinates b D key ++ newLinks D (f .q) (f .c)) ≡ newWords b D key value (slotOf n f)
+-- the two parts are the definition's words: without a c there is no debt either
+new-words : (D n key value : ℕ) (f : Found) → (f .c ≡ 0 → f .q ≡ 0) →
+    fieldWords key value f ++ newLinks D (f .q) (f .c) ≡ newWords D key value (slotOf n f)
 unfolding newWords
-new-words b D n key value f none = at (ℕ-discrete (f .c) 0)
+new-words D n key value f none = at (ℕ-discrete (f .c) 0)
   where
-    at : Dec (f .c ≡ 0) → fieldWords key value f ++ (coordinates b D key ++ newLinks D (f .q) (f .c)) ≡ newWords b D key value (slotOf n f)
+    at : Dec (f .c ≡ 0) → fieldWords key value f ++ newLinks D (f .q) (f .c) ≡ newWords D key value (slotOf n f)
     at (yes z) =
         let settled : ltb (f .p) (f .q) ≡ false = le-ltb (f .p) (f .q) (omega (arith, none z)) in
         rw (settled, eq-eqb (f .c) 0 z) refl
     at (no ne) = rw (ne-eqb (f .c) 0 ne) refl
 
-pub cell-written : (b D : ℕ) (ws : List ℕ) (n key value : ℕ) (f : Found) → (f .c ≡ 0 → f .q ≡ 0) →
-    sets (sets (sets ws (wordIndex D n 0) (fieldWords key value f)) (wordIndex D n fieldsBeforeCoordinates) (coordinates b D key))
-    (wordIndex D n (linkField D 0)) (newLinks D (f .q) (f .c))
-    ≡ sets ws (wordIndex D n 0) (newWords b D key value (slotOf n f))
-cell-written b D ws n key value f none =
-    let node = fieldWords key value f in
-    let links = newLinks D (f .q) (f .c) in
-    sets-both (sets ws (wordIndex D n 0) node) (coordinates b D key) links (wordIndex D n fieldsBeforeCoordinates) (wordIndex D n (linkField D 0))
-    (omega (arith, coordinates-length b D key))
-    ∙ sets-both ws node (coordinates b D key ++ links) (wordIndex D n 0) (wordIndex D n fieldsBeforeCoordinates) (omega arith)
-    ∙ ap (sets ws (wordIndex D n 0)) (new-words b D n key value f none)
+pub cell-written : (D : ℕ) (ws : List ℕ) (n key value : ℕ) (f : Found) → (f .c ≡ 0 → f .q ≡ 0) →
+    sets (sets ws (wordIndex D n 0) (fieldWords key value f)) (wordIndex D n (linkField 0)) (newLinks D (f .q) (f .c))
+    ≡ sets ws (wordIndex D n 0) (newWords D key value (slotOf n f))
+cell-written D ws n key value f none =
+    sets-both ws (fieldWords key value f) (newLinks D (f .q) (f .c)) (wordIndex D n 0) (wordIndex D n (linkField 0)) (omega arith)
+    ∙ ap (sets ws (wordIndex D n 0)) (new-words D n key value f none)

@@ -18,7 +18,7 @@ pub record Fits (s : Settings) (n : ℕ) (f : Found) : Type 0 where
   pub link : f .q < s .dimensions
   pub none : f .c ≡ 0 → f .q ≡ 0
 
--- the six words of a new cell before its coordinates: live; it owes c from p to q if p is below q
+-- the six words of a new cell before its links: live; it owes c from p to q if p is below q
 abbrev pub fieldWords : ℕ → ℕ → Found → List ℕ
 fieldWords key value f =
     key ∷ value ∷ 1 ∷ cond (ltb (f .p) (f .q)) (f .c) 0 ∷ cond (ltb (f .p) (f .q)) (f .p) 0 ∷ cond (ltb (f .p) (f .q)) (f .q) 0 ∷ []

@@ -1,11 +1,9 @@
-// The words of a new cell: its six fields before the coordinates, with what it owes; its key's coordinates; its links.
+// The words of a new cell: its six fields before the links, with what it owes; its links.
 ghost use mathlib.Core.Path.{_≡_};
 ghost use mathlib.Core.List.{[], _∷_};
 ghost use Prim.Native.Nat.{_<_};
 ghost use lib.ListN.{length};
 ghost use lib.Seq.{sets};
-ghost use Rattle.settings.specs.Numbers.{fieldsBeforeCoordinates};
-ghost use Rattle.meaning.specs.Keys.{coordinates};
 ghost use Rattle.meaning.specs.Words.{wordIndex, linkField};
 ghost use Rattle.meaning.specs.Layer.Stores.{newWords, newLinks};
 ghost use Rattle.words.specs.Shaped.{Shaped};
@@ -35,7 +33,7 @@ fn write_debt(list: &mut [u32], s: Settings, n: u32, owed: u32, low: u32, high: 
     words::store(list, s, n, words::HIGH, high);
 }
 
-// The words of new cell n before its coordinates: live, its debt if p is below q.
+// The words of new cell n before its links: live, its debt if p is below q.
 fn write_fields(list: &mut [u32], s: Settings, n: u32, f: Found, key: u32, value: u32)
     requires { ⌜ Shaped (now list) s × (n < s .cells) ⌝ }
     ensures { λ r. ⌜ (now (list .exit) ≡ sets (now (list .entry)) (wordIndex (s .dimensions) n 0) (fieldWords key value f)) × Shaped (now (list .exit)) s ⌝ }
@@ -50,32 +48,21 @@ fn write_fields(list: &mut [u32], s: Settings, n: u32, f: Found, key: u32, value
     write_debt(list, s, n, 0, 0, 0);
 }
 
-// The coordinates of cell n become the key's.
-fn put_coordinates(list: &mut [u32], s: Settings, n: u32, key: u32)
-    requires { ⌜ Shaped (now list) s × ((n < s .cells) × (0 < s .base)) ⌝ }
-    ensures { λ r. ⌜ (now (list .exit) ≡ sets (now (list .entry)) (wordIndex (s .dimensions) n fieldsBeforeCoordinates) (coordinates (s .base) (s .dimensions) key)) × Shaped (now (list .exit)) s ⌝ }
-{
-    let start = words::word_index(s, n, words::COORDINATES);
-    let end = start + s.dimensions as usize;
-    words::write_coordinates(&mut list[start..end], key, s.base);
-}
-
 // The links of cell n become those of a new cell.
 fn put_links(list: &mut [u32], s: Settings, n: u32, q: u32, c: u32)
     requires { ⌜ Shaped (now list) s × ((n < s .cells) × ((c ≡ 0 → ⊥) → q < s .dimensions)) ⌝ }
-    ensures { λ r. ⌜ (now (list .exit) ≡ sets (now (list .entry)) (wordIndex (s .dimensions) n (linkField (s .dimensions) 0)) (newLinks (s .dimensions) q c)) × Shaped (now (list .exit)) s ⌝ }
+    ensures { λ r. ⌜ (now (list .exit) ≡ sets (now (list .entry)) (wordIndex (s .dimensions) n (linkField 0)) (newLinks (s .dimensions) q c)) × Shaped (now (list .exit)) s ⌝ }
 {
-    let start = words::word_index(s, n, words::link_field(s, 0));
+    let start = words::word_index(s, n, words::LINKS);
     let end = start + s.dimensions as usize;
     write_links(&mut list[start..end], q, c);
 }
 
 // Cell n gets the words of a new cell in the slot that was found.
 pub fn write_cell(list: &mut [u32], s: Settings, n: u32, f: Found, key: u32, value: u32)
-    requires { ⌜ Shaped (now list) s × ((0 < s .base) × Fits s n f) ⌝ }
-    ensures { λ r. ⌜ (now (list .exit) ≡ sets (now (list .entry)) (wordIndex (s .dimensions) n 0) (newWords (s .base) (s .dimensions) key value (slotOf n f))) × Shaped (now (list .exit)) s ⌝ }
+    requires { ⌜ Shaped (now list) s × Fits s n f ⌝ }
+    ensures { λ r. ⌜ (now (list .exit) ≡ sets (now (list .entry)) (wordIndex (s .dimensions) n 0) (newWords (s .dimensions) key value (slotOf n f))) × Shaped (now (list .exit)) s ⌝ }
 {
     write_fields(list, s, n, f, key, value);
-    put_coordinates(list, s, n, key);
     put_links(list, s, n, f.q, f.c);
 }

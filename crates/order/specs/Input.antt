@@ -1,7 +1,7 @@
 -- What the lines of the input do to the order program's list: The order program 1.
 use mathlib.Core.Path.{_≡_}
 use mathlib.Core.Bool.{true}
-use mathlib.Core.List.{List, [], _∷_}
+use mathlib.Core.List.{List}
 use Prim.Native.Nat.{ℕ}
 use lib.ListN.{length, take}
 use Rattle.text.specs.Lines.{Handed}

@@ -7,7 +7,7 @@
 //     T                            take
 //     S                            sweep
 //
-// The list has D = 8, K = 4,294,967,295 and C = 512, in an array of 11,277 words. The input comes in parts of any size, and each answer is
+// The list has D = 8, K = 4,294,967,295 and C = 512, in an array of 7,181 words. The input comes in parts of any size, and each answer is
 // written as soon as its line has been read, by one write. A read or a write that fails ends the program with a message on standard error;
 // what was answered until then has been written, and a line begun at a read that fails is not answered.
 //

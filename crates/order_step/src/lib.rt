@@ -1,7 +1,6 @@
 // One line of the order program on the words of its list, which it keeps to itself and need not check again and again: 10 for a line that is not
 // readable, before the list is called; else the operation
 // that the line asks for. And the bytes that are printed for it.
-ghost use mathlib.Core.Path.{_≡_};
 ghost use Prim.Native.Nat.{_≤_};
 ghost use lib.ListN.{length};
 ghost use Rattle.text.specs.Lines.{line, tooLong};

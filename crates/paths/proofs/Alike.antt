@@ -3,16 +3,16 @@
 use mathlib.Core.Path.{_≡_, refl, sym, ap, ap₂, _∙_}
 use mathlib.Core.Bool.{cond, _&&_, not}
 use mathlib.Core.List.{List, _∷_}
-use Prim.Native.Nat.{ℕ, zero, suc, _+_, _*_, _<_}
+use Prim.Native.Nat.{ℕ, zero, suc, _*_, _<_}
 use native.Mathlib.Omega.{arith}
 use lib.Dec.{eqb}
 use lib.ListN.{length, getD}
 use lib.Seq.{length-sets}
-use Rattle.settings.specs.Numbers.{headerWords, fieldsBeforeCoordinates, cellWords}
+use Rattle.settings.specs.Numbers.{headerWords, cellWords}
 use Rattle.settings.specs.declared.Settings.{Settings}
 use Rattle.meaning.specs.Row.{between}
 use Rattle.meaning.specs.Reading.{settingsAt}
-use Rattle.meaning.specs.Words.{wordAt, owedAt, lowAt, highAt, linkAt, dimensionsAt, baseAt}
+use Rattle.meaning.specs.Words.{wordAt, owedAt, lowAt, highAt, linkAt, linkField, dimensionsAt, baseAt}
 use Rattle.meaning.specs.Walk.{linkRead, stepAt, onFrom, trailFrom, trail}
 use Rattle.meaning.specs.Layer.Paths.{NextCell, nextFrom}
 use Rattle.meaning.specs.Layer.Stores.{store, writePath}
@@ -53,17 +53,11 @@ module _ {ws : List ℕ} {s : Settings} (h : Shaped ws s) (x v : ℕ) where
       let after : getD (store D ws x 1 v) 0 0 ≡ D = store-below D ws x 1 v 0 (omega arith) ∙ shaped-dimensions h in
       rw (after, shaped-dimensions h) (store-other D ws x 1 v y j (omega arith) l (λ e. other))
 
-  value-link : (y d : ℕ) → d < s .dimensions → linkAt (store (s .dimensions) ws x 1 v) y d ≡ linkAt ws y d
-  value-link y d l =
-      let D = s .dimensions in
-      ap (λ n. wordAt (store D ws x 1 v) y (fieldsBeforeCoordinates + n + d)) (store-below D ws x 1 v 0 (omega arith))
-      ∙ value-word y (fieldsBeforeCoordinates + dimensionsAt ws + d) (omega (arith, shaped-dimensions h)) (λ e. omega arith)
-
   -- links are read as before, ..
   pub value-linkRead : (y d : ℕ) → d < s .dimensions → linkRead (store (s .dimensions) ws x 1 v) y d ≡ linkRead ws y d
   value-linkRead y d l =
       linkRead-alike (store (s .dimensions) ws x 1 v) ws y d (value-word y 3 (omega arith) (λ e. omega arith)) (value-word y 4 (omega arith) (λ e. omega arith))
-      (value-word y 5 (omega arith) (λ e. omega arith)) (λ z. value-link z d l)
+      (value-word y 5 (omega arith) (λ e. omega arith)) (λ z. value-word z (linkField d) (omega arith) (λ e. omega arith))
 
   -- .. so the next cell of a path is the same
   pub value-next : (path : List ℕ) → nextFrom (store (s .dimensions) ws x 1 v) path (s .dimensions) ≡ nextFrom ws path (s .dimensions)
@@ -95,17 +89,13 @@ path-alike ws path long =
     }
 
 module _ {ws vs : List ℕ} (a : Alike ws vs) where
-  alike-link : (x d : ℕ) → linkAt ws x d ≡ linkAt vs x d
-  alike-link x d =
-      ap (λ n. wordAt ws x (fieldsBeforeCoordinates + n + d)) (a .header 0 (omega arith)) ∙ a .cells x (fieldsBeforeCoordinates + dimensionsAt vs + d)
-
   alike-linkRead : (x d : ℕ) → linkRead ws x d ≡ linkRead vs x d
-  alike-linkRead x d = linkRead-alike ws vs x d (a .cells x 3) (a .cells x 4) (a .cells x 5) (λ y. alike-link y d)
+  alike-linkRead x d = linkRead-alike ws vs x d (a .cells x 3) (a .cells x 4) (a .cells x 5) (λ y. a .cells y (linkField d))
 
   alike-step : (k x d : ℕ) → stepAt ws k x d ≡ stepAt vs k x d
   unfolding stepAt
   alike-step k x d =
-      rw (← a .cells x (fieldsBeforeCoordinates + d), ← alike-linkRead x d, ← a .header 3 (omega arith), ← a .header 0 (omega arith)) refl
+      rw (← a .cells x 0, ← alike-linkRead x d, ← a .header 3 (omega arith), ← a .header 0 (omega arith)) refl
 
   alike-trail-from : (fuel k x d : ℕ) → trailFrom fuel ws k x d ≡ trailFrom fuel vs k x d
   unfolding trailFrom

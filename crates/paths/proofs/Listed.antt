@@ -2,9 +2,8 @@
 -- is one of the list's, walks end, and the walk for a standing key builds the path of its cell. It is so too where the words of path
 -- are not yet those of the state.
 use mathlib.Core.Path.{_≡_, sym, ap, _∙_, subst}
-use mathlib.Core.Bool.{true}
 use mathlib.Core.List.{List, _∷_}
-use Prim.Native.Nat.{ℕ, _<_}
+use Prim.Native.Nat.{ℕ, _^_, _<_}
 use native.Mathlib.Omega.{arith}
 use lib.ListN.{getD, replicate}
 use Rattle.settings.specs.declared.Settings.{Settings}
@@ -12,20 +11,22 @@ use Rattle.meaning.specs.Row.{headNode, Place}
 use Rattle.meaning.specs.State.{State, keyOf}
 use Rattle.meaning.specs.Picture.{path, picture}
 use Rattle.meaning.specs.Words.{keyAt, dimensionsAt}
-use Rattle.meaning.specs.Walk.{trail, ends}
+use Rattle.meaning.specs.Walk.{trail}
+use Rattle.meaning.specs.Layer.Near.{NearAlong}
 use Rattle.meaning.specs.Layer.Paths.{pathFor, pathOver}
 use Rattle.meaning.specs.Layer.Listed.{Listed}
 use Rattle.meaning.proofs.State.{Sound, valid-sound, base-positive}
 use Rattle.meaning.proofs.Picture.{path-length, picture-dimensions}
-use Rattle.meaning.proofs.Walk.{trail-ends}
+use Rattle.meaning.proofs.Walk.{trail-ends, trail-near}
 use Rattle.meaning.proofs.Stores.{path-sets-header}
 use Rattle.meaning.proofs.Placed.{Placed, placed-keyOf, placed-below, placed-most, placed-above, place-key, occurs-placed}
+use Rattle.meaning.proofs.SentencesShape.{key-below}
 use Rattle.meaning.proofs.CellsWithin.{owed-within, linkRead-within}
 use Rattle.meaning.proofs.Path.{path-head}
 use Rattle.meaning.proofs.PathWalk.{path-of-cell}
-use Rattle.words.proofs.Listed.{picture-shaped, on-listed}
+use Rattle.words.proofs.Listed.{picture-shaped, power-fits, on-listed}
 use Rattle.paths.specs.declared.Path.{Path}
-use Rattle.paths.specs.Paths.{pathOf, Formed, Walkable, StandsIn, CellPath}
+use Rattle.paths.specs.Paths.{pathOf, Formed, Walkable, WalkEnds, StandsIn, CellPath}
 use Rattle.paths.proofs.Alike.{Alike, path-alike, alike-walkable, alike-trail}
 
 pub picture-walkable : (t : State) → Sound t → Walkable (picture t) (t .settings)
@@ -57,6 +58,9 @@ module _ {ws : List ℕ} {s : Settings} {x : ℕ} {t : State} (h : StandsIn ws s
   pub stands-base : 0 < s .base
   stands-base = subst (λ u. 0 < u .base) (h .settings) (base-positive t stands-sound)
 
+  pub stands-power : s .base ^ s .dimensions < 2 ^ 64
+  stands-power = subst (λ u. u .base ^ u .dimensions < 2 ^ 64) (h .settings) (power-fits t stands-sound)
+
   pub stands-below : x < s .cells
   stands-below = subst (λ u. x < u .cells) (h .settings) (placed-below stands-sound (stands-placed .1))
 
@@ -70,13 +74,24 @@ module _ {ws : List ℕ} {s : Settings} {x : ℕ} {t : State} (h : StandsIn ws s
     key-is : k ≡ stands-placed .0 .node .key
     key-is = key ∙ stands-alike .cells x 0 ∙ place-key stands-sound (stands-placed .1)
 
-    -- the walk for the cell's key ends, ..
-    pub stands-ends : ends (trail ws k) ≡ true
+    -- the key has D coordinates, ..
+    pub stands-fits : k < s .base ^ s .dimensions
+    stands-fits = rw key-is (subst (λ u. stands-placed .0 .node .key < u .base ^ u .dimensions) (h .settings) (key-below stands-sound (stands-placed .1)))
+
+    -- .. the walk for it ends, ..
+    pub stands-ends : WalkEnds ws s k
     stands-ends =
         let v = stands-sound in
         let here = stands-placed .1 in
-        rw (alike-trail stands-alike k, key-is)
-        (trail-ends t v (stands-placed .0 .node .key) (placed-above v here (omega arith)) (placed-most v here))
+        let key = stands-placed .0 .node .key in
+        record {
+          ended = rw (alike-trail stands-alike k, key-is) (trail-ends t v key (placed-above v here (omega arith)) (placed-most v here));
+          near =
+              rw (alike-trail stands-alike k, key-is)
+              (subst (λ keys. NearAlong (s .base) (s .dimensions) key keys 0 0 (trail (picture t) key)) (λ i x. sym (stands-alike .cells x 0) i)
+              (subst (λ u. NearAlong (u .base) (u .dimensions) key (keyAt (picture t)) 0 0 (trail (picture t) key)) (h .settings)
+              (trail-near t v key (placed-above v here (omega arith)) (placed-most v here))));
+        }
 
     -- .. and builds its path
     stands-path :

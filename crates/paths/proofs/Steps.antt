@@ -1,18 +1,17 @@
 -- The walk that builds a path: what is known of it under way, and that a step keeps it.
 use mathlib.Core.Path.{_≡_, sym, ap, _∙_}
-use mathlib.Core.Bool.{true}
 use mathlib.Core.List.{List, _∷_}
 use Prim.Native.Nat.{ℕ, _+_}
 use native.Mathlib.Numerals.{add-one}
 use lib.ListN.{replicate}
 use Rattle.settings.specs.declared.Settings.{Settings}
-use Rattle.meaning.specs.Walk.{stepAt, onFrom, trail, ends}
+use Rattle.meaning.specs.Walk.{stepAt, onFrom, trail}
 use Rattle.meaning.specs.Layer.Paths.{onward, pathOver}
 use Rattle.meaning.specs.declared.Step.{Step}
 use Rattle.meaning.specs.declared.Step.the-variants.{Go, Up, End}
 use Rattle.words.proofs.Walking.{trailAt, Walking, walking-start, walked, walking-go, walking-up}
 use Rattle.paths.specs.declared.Path.{Path}
-use Rattle.paths.specs.Paths.{pathOf, Formed, Walkable}
+use Rattle.paths.specs.Paths.{pathOf, Formed, Walkable, WalkEnds}
 
 -- The walk for k has come to cell x and coordinate d with path p, of which the trail from there makes the whole path.
 pub record Building (ws : List ℕ) (s : Settings) (k : ℕ) (p : Path) (x d : ℕ) : Type 0 where
@@ -21,11 +20,11 @@ pub record Building (ws : List ℕ) (s : Settings) (k : ℕ) (p : Path) (x d : �
   pub formed : Formed (s .dimensions) p
 
 module _ {ws : List ℕ} {s : Settings} (h : Walkable ws s) {k : ℕ} {p : Path} where
-  pub building-start : ends (trail ws k) ≡ true → pathOf p ≡ replicate (s .dimensions) 0 → Formed (s .dimensions) p → Building ws s k p 0 0
+  pub building-start : WalkEnds ws s k → pathOf p ≡ replicate (s .dimensions) 0 → Formed (s .dimensions) p → Building ws s k p 0 0
   unfolding trail
   building-start e is f =
       record {
-        walking = walking-start (h .shaped) (h .head) e;
+        walking = walking-start (h .shaped) (h .head) (e .ended) (e .near);
         built = ap (λ path. pathOver (s .dimensions) path 0 (trail ws k)) (sym is);
         formed = f;
       }

@@ -10,8 +10,9 @@ use Rattle.lists.specs.Lists.{occurrences}
 use Rattle.meaning.specs.Row.{headNode}
 use Rattle.meaning.specs.State.{State, keyOf, valid}
 use Rattle.meaning.specs.Picture.{path, picture}
-use Rattle.meaning.specs.Words.{owedAt}
-use Rattle.meaning.specs.Walk.{linkRead}
+use Rattle.meaning.specs.Words.{keyAt, owedAt}
+use Rattle.meaning.specs.Walk.{linkRead, trail, ends}
+use Rattle.meaning.specs.Layer.Near.{NearAlong}
 use Rattle.meaning.specs.Layer.Paths.{pathFor, onward, nextFrom}
 use Rattle.meaning.specs.Layer.Stores.{writePath}
 use Rattle.words.specs.Shaped.{Shaped}
@@ -39,6 +40,11 @@ pub record Walkable (ws : List ℕ) (s : Settings) : Type 0 where
   pub head : 0 < s .cells
   pub owed : (x : ℕ) → x < s .cells → owedAt ws x < s .cells
   pub links : (x d : ℕ) → x < s .cells → d < s .dimensions → linkRead ws x d < s .cells
+
+-- The walk for k comes to its end, and each cell that it meets shares with k the coordinates before the one at hand.
+pub record WalkEnds (ws : List ℕ) (s : Settings) (k : ℕ) : Type 0 where
+  pub ended : ends (trail ws k) ≡ true
+  pub near : NearAlong (s .base) (s .dimensions) k (keyAt ws) 0 0 (trail ws k)
 
 -- What `next` answers from path p: the next cell, the number of the link that leads to it, and, where there is a next cell, its path.
 pub record NextIs (ws : List ℕ) (s : Settings) (p : Path) (r : Reached) : Type 0 where

@@ -2,18 +2,17 @@
 // position as the words have it, the path of any standing cell, and the next standing cell in key order from a path (the deletion stack
 // of the MDList paper).
 ghost use mathlib.Core.Path.{_≡_};
-ghost use mathlib.Core.Bool.{true};
 ghost use Prim.Native.Nat.{_≤_, _<_};
 ghost use lib.ListN.{getD, take, drop, replicate};
 ghost use Rattle.settings.specs.Numbers.{headerWords, mostDimensions};
-ghost use Rattle.meaning.specs.Keys.{coordinates};
 ghost use Rattle.meaning.specs.Words.{owedAt};
-ghost use Rattle.meaning.specs.Walk.{linkRead, trail, ends};
+ghost use Rattle.meaning.specs.Walk.{linkRead, trail};
 ghost use Rattle.meaning.specs.Layer.Paths.{pathOver};
 ghost use Rattle.meaning.specs.Layer.Paths as definitions;
 ghost use Rattle.meaning.specs.Layer.Stores.{writePath};
 ghost use Rattle.words.specs.Shaped.{Shaped};
-ghost use Rattle.paths.specs.Paths.{pathOf, Formed, PathIn, Walkable, NextIs, StandsInSome, CellPath};
+ghost use Rattle.words.specs.Sought.{Sought};
+ghost use Rattle.paths.specs.Paths.{pathOf, Formed, PathIn, Walkable, WalkEnds, NextIs, StandsInSome, CellPath};
 use meaning::Step;
 use settings::Settings;
 
@@ -81,9 +80,9 @@ pub fn write_path(list: &mut [u32], s: Settings, path: Path)
     }
 }
 
-// The path of the standing cell with key k, along the walk for k; `sought` holds k's coordinates.
-fn path_along(list: &[u32], s: Settings, sought: &[u32], k: u32) -> Path
-    requires { ⌜ Walkable (now list) s × ((now sought ≡ coordinates (s .base) (s .dimensions) k) × (ends (trail (now list) k) ≡ true)) ⌝ }
+// The path of the standing cell with key k, along the walk for k; `starts` tells where k's blocks start.
+fn path_along(list: &[u32], s: Settings, starts: &[u64], powers: &[u64], k: u32) -> Path
+    requires { ⌜ Walkable (now list) s × (Sought s k (now starts) (now powers) × WalkEnds (now list) s k) ⌝ }
     ensures { λ r. ⌜ (pathOf r ≡ pathOver (s .dimensions) (replicate (s .dimensions) 0) 0 (trail (now (list .entry)) k))
         × Formed (s .dimensions) r ⌝ }
 {
@@ -91,7 +90,7 @@ fn path_along(list: &[u32], s: Settings, sought: &[u32], k: u32) -> Path
     let mut at: u32 = 0;
     let mut d: u32 = 0;
     loop {
-        let next = words::step(list, s, sought, k, at, d);
+        let next = words::step(list, s, starts, powers, k, at, d);
         match next {
             Step::Go(y) => {
                 path = onward(path, d, y);
@@ -116,9 +115,9 @@ pub fn path_of(list: &[u32], s: Settings, x: u32) -> Path
         return head_path(s);
     }
     let k = words::word(list, s, x, words::KEY);
-    let sought = words::coordinates_of(k, s);
-    let n = s.dimensions as usize;
-    path_along(list, s, &sought[..n], k)
+    let powers = s.powers();
+    let starts = words::block_starts(k, s, &powers.of);
+    path_along(list, s, &starts, &powers.of, k)
 }
 
 // Link d of cell d of a path, owed links read through.

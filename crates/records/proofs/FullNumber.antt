@@ -1,14 +1,13 @@
 -- The full number: there is one number that is congruent and near enough to the last, and the wrapped difference finds it.
 use mathlib.Core.Path.{_≡_, refl, sym, subst, _∙_, ap}
 use mathlib.Core.Logic.{_↔_}
-use mathlib.Core.Bool.{Bool, true, false, cond, _&&_, and-false}
+use mathlib.Core.Bool.{and-false}
 use Prim.Native.Nat.{ℕ, _+_, _-_, _%_, _≤_, _<_}
 use native.Mathlib.Omega.{arith}
 use native.Mathlib.Decide.{decLe}
 use lib.Dec.{leb}
 use borrow.Author.Tests.{le-leb, lt-leb}
 use Rattle.records.specs.FullNumber.{numbersPerRound, mostFull, Full, roundOn, roundBack, fullNumber}
-use Rattle.records.specs.declared.full_number.FullNumber.{FullNumber}
 use Rattle.records.specs.declared.full_number.FullNumber.the-variants.{Fits, Outside}
 
 -- two numbers that are both the full number are the same

@@ -1,6 +1,6 @@
 -- The reading of a record byte by byte notes what the record's fields say: the bytes of a field take its place on as far as its digits do, and
 -- from place to place the five fields are gone through.
-use mathlib.Core.Path.{_≡_, refl, sym, _∙_, ap}
+use mathlib.Core.Path.{_≡_, refl, _∙_}
 use mathlib.Core.Bool.{Bool, true, false, cond, _&&_}
 use mathlib.Core.List.{List, [], _∷_}
 use Prim.Native.Nat.{ℕ}
@@ -9,7 +9,6 @@ use Rattle.text.specs.Fields.{decimalFrom, isNumber}
 use Rattle.text.specs.Answers.{digitOn, digitsOn, endedAt, numberOf}
 use Rattle.text.specs.declared.fields.Begun.{Begun}
 use Rattle.text.specs.declared.fields.Begun.the-variants.{NoDigit}
-use Rattle.text.specs.declared.fields.Numeral.{Numeral}
 use Rattle.text.specs.declared.fields.Numeral.the-variants.{Value, Unreadable}
 use Rattle.text.proofs.Numerals.{number-by-digits, number-within}
 use Rattle.entries.specs.Entries.{leastClass, mostClass, leastUnit, mostUnit, leastSerial, mostSerial, isClass, isUnit, isSerial, entryOf, entry}

@@ -2,7 +2,7 @@
 use mathlib.Core.Path.{_≡_}
 use mathlib.Core.Bool.{cond, _&&_}
 use Prim.Native.Nat.{ℕ, _+_, _-_, _%_, _≤_}
-use lib.Dec.{leb, ltb}
+use lib.Dec.{leb}
 use Rattle.records.specs.declared.full_number.FullNumber.{FullNumber}
 use Rattle.records.specs.declared.full_number.FullNumber.the-variants.{Fits, Outside}
 

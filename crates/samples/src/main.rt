@@ -9,43 +9,43 @@ ghost use lib.ListN.{length, take};
 ghost use Rattle.report.specs.Report.{checkedBytes};
 ghost use Rattle.samples.specs.Printed.{edgeText, rowText};
 
-const MOST_WORDS: usize = 155670;
+const MOST_WORDS: usize = 90134;
 
 // D, K, C and the number of words lent.
 const EDGES: [[u32; 4]; 28] = [
     // D, from 2 to 16
-    [1, 15, 8, 70],
-    [2, 15, 8, 87],
-    [16, 15, 8, 325],
-    [17, 15, 8, 342],
+    [1, 15, 8, 62],
+    [2, 15, 8, 71],
+    [16, 15, 8, 197],
+    [17, 15, 8, 206],
     // K, from 1 up
-    [2, 0, 8, 87],
-    [2, 1, 8, 87],
-    [2, 4294967295, 8, 87],
-    [16, 4294967295, 8, 325],
+    [2, 0, 8, 71],
+    [2, 1, 8, 71],
+    [2, 4294967295, 8, 71],
+    [16, 4294967295, 8, 197],
     // C, from 3 to 4096
-    [2, 15, 2, 27],
-    [2, 15, 3, 37],
-    [2, 15, 4096, 40967],
-    [2, 15, 4097, 40977],
+    [2, 15, 2, 23],
+    [2, 15, 3, 31],
+    [2, 15, 4096, 32775],
+    [2, 15, 4097, 32783],
     // lengths: one short, exact, one long and 0; the smallest and the largest list; the order program's
-    [2, 15, 8, 86],
-    [2, 15, 8, 88],
+    [2, 15, 8, 70],
+    [2, 15, 8, 72],
     [2, 15, 8, 0],
-    [2, 15, 3, 36],
-    [2, 15, 3, 38],
-    [16, 4294967295, 4096, 155669],
-    [16, 4294967295, 4096, 155670],
-    [8, 4294967295, 512, 11276],
-    [8, 4294967295, 512, 11277],
-    [8, 4294967295, 512, 11278],
-    [15, 4294967295, 3, 128],
+    [2, 15, 3, 30],
+    [2, 15, 3, 32],
+    [16, 4294967295, 4096, 90133],
+    [16, 4294967295, 4096, 90134],
+    [8, 4294967295, 512, 7180],
+    [8, 4294967295, 512, 7181],
+    [8, 4294967295, 512, 7182],
+    [15, 4294967295, 3, 83],
     // a number out of range and another length: the first refusal that applies
     [1, 15, 8, 0],
-    [2, 0, 8, 86],
-    [2, 15, 2, 26],
-    // numbers far out of range: with this C the length, cut to 32 bits, would be the 87 words lent
-    [2, 15, 2147483656, 87],
+    [2, 0, 8, 70],
+    [2, 15, 2, 22],
+    // numbers far out of range: with this C the length, cut to 32 bits, would be the 71 words lent
+    [2, 15, 2147483656, 71],
     [4294967295, 4294967295, 4294967295, 0],
 ];
 

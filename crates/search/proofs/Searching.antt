@@ -9,6 +9,7 @@ use native.Mathlib.Omega.{arith}
 use lib.ListN.{length}
 use Rattle.settings.specs.declared.Settings.{Settings}
 use Rattle.settings.proofs.Numbers.{base-at-most}
+use Rattle.meaning.specs.Words.{keyAt}
 use Rattle.meaning.specs.Walk.{stepAt, trail, ends, walk}
 use Rattle.meaning.specs.declared.Rest.{Rest}
 use Rattle.meaning.specs.declared.Step.{Step}
@@ -16,7 +17,8 @@ use Rattle.meaning.specs.declared.Step.the-variants.{Go, Up, End}
 use Rattle.meaning.specs.Layer.Resting.{atHead, restOver, rest}
 use Rattle.meaning.specs.Layer.Listed.{Listed}
 use Rattle.meaning.proofs.State.{base-of}
-use Rattle.meaning.proofs.Walk.{trail-ends, walk-bounded}
+use Rattle.meaning.specs.Layer.Near.{NearAlong}
+use Rattle.meaning.proofs.Walk.{trail-ends, trail-near, walk-bounded}
 use Rattle.meaning.proofs.WalkStop.{rest-looked, rest-walk}
 use Rattle.words.proofs.Listed.{on-listed, listed-shaped, listed-cells, listed-link}
 use Rattle.words.proofs.Walking.{trailAt, Walking, walking-start, walked, walking-go, walking-up}
@@ -30,7 +32,10 @@ pub searching-start : {ws : List ℕ} {s : Settings} → Listed ws s → (k : �
 unfolding rest trail
 searching-start h k least most =
     let ended = on-listed (λ t l u. k ≤ u .largest → ends (trail l k) ≡ true) (λ t v m. trail-ends t v k least m) h most in
-    record { walking = walking-start (listed-shaped h) (omega (arith, listed-cells h)) ended; rested = refl }
+    let near =
+    on-listed (λ t l u. k ≤ u .largest → NearAlong (u .base) (u .dimensions) k (keyAt l) 0 0 (trail l k)) (λ t v m. trail-near t v k least m) h most
+    in
+    record { walking = walking-start (listed-shaped h) (omega (arith, listed-cells h)) ended near; rested = refl }
 
 module _ {ws : List ℕ} {s : Settings} (h : Listed ws s) {k : ℕ} {r : Rest} (w : Searching ws s k r) where
   -- the cells gone to are at most D(b-1), which is at most 16 * 65,535

@@ -3,10 +3,10 @@
 // insert asks for the standing cell of next smaller key; that way is no part of the walk.
 ghost use mathlib.Core.Path.{_≡_};
 ghost use Prim.Native.Nat.{suc, _≤_, _<_};
-ghost use Rattle.meaning.specs.Keys.{coordinates};
 ghost use Rattle.meaning.specs.Lower.{lowerFrom};
 ghost use Rattle.meaning.specs.Layer.Resting.{rest};
 ghost use Rattle.meaning.specs.Layer.Listed.{Listed};
+ghost use Rattle.words.specs.Sought.{Sought};
 ghost use Rattle.search.specs.Found.{Searched, SoughtSome};
 use meaning::Rest;
 use meaning::Step;
@@ -26,9 +26,9 @@ pub struct Found {
     pub looked: u32,
 }
 
-// Where the walk for k comes to rest; `sought` holds k's coordinates.
-fn rest_of(list: &[u32], s: Settings, sought: &[u32], k: u32) -> Rest
-    requires { ⌜ Listed (now list) s × ((1 ≤ k) × ((k ≤ s .largest) × (now sought ≡ coordinates (s .base) (s .dimensions) k))) ⌝ }
+// Where the walk for k comes to rest; `starts` tells where k's blocks start.
+fn rest_of(list: &[u32], s: Settings, starts: &[u64], powers: &[u64], k: u32) -> Rest
+    requires { ⌜ Listed (now list) s × ((1 ≤ k) × ((k ≤ s .largest) × Sought s k (now starts) (now powers))) ⌝ }
     ensures { λ r. ⌜ r ≡ rest (now (list .entry)) k ⌝ }
 {
     let mut from: u32 = 0;
@@ -37,7 +37,7 @@ fn rest_of(list: &[u32], s: Settings, sought: &[u32], k: u32) -> Rest
     let mut d: u32 = 0;
     let mut looked: u32 = 0;
     loop {
-        let next = words::step(list, s, sought, k, at, d);
+        let next = words::step(list, s, starts, powers, k, at, d);
         match next {
             Step::Go(y) => {
                 from = at;
@@ -80,9 +80,9 @@ pub fn search(list: &[u32], s: Settings, k: u32) -> Found
     requires { ⌜ Listed (now list) s × ((1 ≤ k) × (k ≤ s .largest)) ⌝ }
     ensures { λ r. ⌜ Searched (now (list .entry)) k r ⌝ }
 {
-    let sought = words::coordinates_of(k, s);
-    let n = s.dimensions as usize;
-    let r = rest_of(list, s, &sought[..n], k);
+    let powers = s.powers();
+    let starts = words::block_starts(k, s, &powers.of);
+    let r = rest_of(list, s, &starts, &powers.of, k);
     let key = words::word(list, s, r.at, words::KEY);
     if key < k {
         return Found {

@@ -5,7 +5,7 @@ use Prim.Native.Nat.{ℕ, zero, suc, _+_, _*_, _-_, _≤_, _<_}
 use native.Mathlib.Nat.{add-zero, zero-add, add-suc, suc-add, zero-mul, suc-mul, mul-le-mul-right, add-sub-cancel-left}
 use native.Mathlib.Numerals.{add-one}
 use native.Mathlib.Omega.{arith}
-use lib.ListN.{length, take, drop, set, length-append, length-drop, length-replicate, replicate-append-replicate, take-append-drop, drop-of-length-le}
+use lib.ListN.{length, take, drop, set, length-append, length-drop, length-replicate, take-append-drop, drop-of-length-le}
 use lib.Seq.{drop-drop, sets, sets-eq, take-at, drop-at, length-take-le}
 use borrow.Rule.Slice.PartMut.{midOf, putMid, mid-len}
 use Rattle.settings.specs.Numbers.{headerWords, cellWords, lengthOf}
@@ -17,9 +17,6 @@ use Rattle.set_up.specs.Fresh.{zeros, freshFirst, freshMark, cellOf, fre
 
 length-zeros : (n : ℕ) → length (zeros n) ≡ n
 length-zeros n = length-replicate n 0
-
-pub zeros-both : (m n : ℕ) → zeros m ++ zeros n ≡ zeros (m + n)
-zeros-both m n = replicate-append-replicate m n 0
 
 -- A part
 

@@ -1,24 +1,22 @@
 -- The words that the code writes are the picture of a fresh list: of the head every test leads to 0, and the free cell x is followed by
 -- x + 1, except the last.
-use mathlib.Core.Path.{_≡_, refl, ap, _∙_}
+use mathlib.Core.Path.{_≡_, refl}
 use mathlib.Core.Bool.{Bool, true, false, cond}
 use mathlib.Core.List.{List, [], map, flatMap}
-use Prim.Native.Nat.{ℕ, zero, suc, _+_, _*_, _-_, _≤_, _<_}
-use native.Mathlib.Nat.{add-suc, suc-add, zero-div, zero-mod}
-use native.Mathlib.Numerals.{add-one}
+use Prim.Native.Nat.{ℕ, zero, suc, _+_, _-_, _≤_, _<_}
+use native.Mathlib.Nat.{add-suc, suc-add}
 use native.Mathlib.Omega.{arith}
 use lib.Dec.{eqb, leb, ltb, eqb·zero-suc, eqb·suc-zero}
 use borrow.Author.Tests.{eqb-true, eqb-false, eq-eqb, ne-eqb}
 use Rattle.settings.specs.Numbers.{cellWords, baseOf}
 use Rattle.settings.specs.Checked.{settingsOf}
 use Rattle.lists.specs.Lists.{numbersFrom, firstNumber}
-use Rattle.meaning.specs.Keys.{coordinates, shared}
+use Rattle.meaning.specs.Keys.{shared}
 use Rattle.meaning.specs.Row.{headPlace, firstSharing, link, placesAfter, places, placeOf}
 use Rattle.meaning.specs.State.{positionKey}
 use Rattle.meaning.specs.Picture.{standingWords, nextFree, freeWords, wordsOf, firstWith, pathWord, path, cellPictures, picture}
 use Rattle.meaning.specs.Operations.{fresh}
 use Rattle.set_up.specs.Fresh.{zeros, freshFirst, freshMark, freshCell, freshCells, freshList}
-use Rattle.set_up.proofs.Drawing.{zeros-both}
 
 either-zero : (t : Bool) → _≡_ {A = ℕ} (cond t 0 0) 0
 either-zero true = refl
@@ -31,11 +29,6 @@ map-zeros f all i (suc n) = rw (all i, map-zeros f all (suc i) n) refl
 
 -- The head
 
-head-coordinates : (b D : ℕ) → coordinates b D 0 ≡ zeros D
-unfolding coordinates
-head-coordinates b zero = refl
-head-coordinates b (suc D) = rw (zero-div b, zero-mod b, head-coordinates b D) (zeros-both D 1 ∙ ap zeros (add-one D))
-
 head-link : (b D d : ℕ) → link b D (headPlace []) d ≡ 0
 unfolding link firstSharing
 head-link b D d = either-zero (leb 0 d)
@@ -43,8 +36,8 @@ head-link b D d = either-zero (leb 0 d)
 head-words : (b D C : ℕ) → standingWords b D (headPlace []) ≡ freshCell D C 0
 unfolding standingWords freshCell freshFirst freshMark
 head-words b D C =
-    let n : cellWords D - 3 ≡ suc (suc (suc (D + D))) = omega arith in
-    rw (head-coordinates b D, map-zeros (link b D (headPlace [])) (head-link b D) 0 D, zeros-both D D, n) refl
+    let n : cellWords D - 3 ≡ suc (suc (suc D)) = omega arith in
+    rw (map-zeros (link b D (headPlace [])) (head-link b D) 0 D, n) refl
 
 -- The free cells
 

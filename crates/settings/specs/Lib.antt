@@ -2,3 +2,4 @@
 pub mod Numbers
 pub mod Base
 pub mod Checked
+pub mod Levels

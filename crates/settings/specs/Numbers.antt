@@ -44,12 +44,12 @@ baseOf D K = firstAbove (K + 1) D K 0
 abbrev pub headerWords : ℕ
 headerWords = 5
 
--- the words of a cell: six fields, D coordinates, D links
-abbrev pub fieldsBeforeCoordinates : ℕ
-fieldsBeforeCoordinates = 6
+-- the words of a cell: six fields, D links
+abbrev pub fieldsBeforeLinks : ℕ
+fieldsBeforeLinks = 6
 
 abbrev pub cellWords : ℕ → ℕ
-cellWords D = fieldsBeforeCoordinates + 2 * D
+cellWords D = fieldsBeforeLinks + D
 
 -- the exact length: header, path, cells
 abbrev pub lengthOf : ℕ → ℕ → ℕ

@@ -2,12 +2,13 @@
 // list's words (docs/REFERENCE.md, *Numbers* and *The words*).
 ghost use mathlib.Core.Path.{_≡_};
 ghost use mathlib.Core.Bool.{true};
-ghost use Prim.Native.Nat.{ℕ, _^_, _≤_, _<_};
+ghost use Prim.Native.Nat.{_^_, _≤_, _<_};
 ghost use lib.Dec.{ltb};
 ghost use Rattle.settings.specs.Numbers.{leastDimensions, mostDimensions, leastLargest, mostLargest, mostCells};
 ghost use Rattle.settings.specs.Numbers.{inRange, baseOf, cellWords, lengthOf};
 ghost use Rattle.settings.specs.Checked.{checkedOf};
 ghost use Rattle.settings.specs.Base.{IsBase, isBase};
+ghost use Rattle.settings.specs.Levels.{PowersOf};
 
 pub struct Settings {
     pub dimensions: u32,
@@ -20,6 +21,11 @@ pub struct Settings {
 pub enum Checked {
     Accepted(Settings),
     OutOfRange,
+}
+
+// The powers of b by which the blocks of keys are told, worked out once a call: at level d, b to the power D - d.
+pub struct Powers {
+    pub of: [u64; 17],
 }
 
 impl Settings {
@@ -36,10 +42,10 @@ impl Settings {
 
     pub const MOST_CELLS: u32 = 4096;
 
-    // The words before the path, and those of a cell before its coordinates (*The words 1*); `length` and `cell_words` tie them.
+    // The words before the path, and those of a cell before its links (*The words 1*); `length` and `cell_words` tie them.
     pub const HEADER_WORDS: usize = 5;
 
-    pub const FIELDS_BEFORE_COORDINATES: u32 = 6;
+    pub const FIELDS_BEFORE_LINKS: u32 = 6;
 
     // The bases for the largest K of all and D = 2 to 16 (*Numbers 4*).
     const FULL_BASES: [u32; 15] = [65536, 1626, 256, 85, 41, 24, 16, 12, 10, 8, 7, 6, 5, 5, 4];
@@ -146,7 +152,7 @@ impl Settings {
     pub fn cell_words(d: u32) -> usize
         ensures { λ r. ⌜ r ≡ cellWords d ⌝ }
     {
-        Self::FIELDS_BEFORE_COORDINATES as usize + 2 * d as usize
+        Self::FIELDS_BEFORE_LINKS as usize + d as usize
     }
 
     // How many words a list with these settings has.
@@ -156,5 +162,21 @@ impl Settings {
     {
         let c = self.cells as usize;
         Self::HEADER_WORDS + self.dimensions as usize + c * Self::cell_words(self.dimensions)
+    }
+
+    // The powers of b, from level D down.
+    pub fn powers(self) -> Powers
+        requires { ⌜ (self .dimensions ≤ mostDimensions) × ((0 < self .base) × (self .base ^ self .dimensions < 2 ^ 64)) ⌝ }
+        ensures { λ r. ⌜ PowersOf self (r .of) ⌝ }
+    {
+        let mut of = [1u64; 17];
+        let b = self.base as u64;
+        let mut d = self.dimensions as usize;
+        while 0 < d {
+            let next = of[d] * b;
+            d -= 1;
+            of[d] = next;
+        }
+        Powers { of }
     }
 }

@@ -6,7 +6,6 @@ ghost use Rattle.meaning.specs.Refusals.{Meets};
 ghost use Rattle.meaning.specs.Operations.{sweepOut};
 ghost use Rattle.meaning.specs.Layer.SweepStores.{finishAll};
 ghost use Rattle.meaning.specs.Layer.Listed.{Listed};
-ghost use Rattle.words.specs.Shaped.{Shaped};
 ghost use Rattle.free_between.specs.Between.{SweptTo, Paid};
 use free_between::Target;
 use meaning::Answer;

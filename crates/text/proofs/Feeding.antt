@@ -1,6 +1,6 @@
 -- The feed hands on the lines of its input, however the input is cut into parts: what is known of the line begun is `handed` of its
 -- bytes, and each byte keeps that so.
-use mathlib.Core.Path.{_≡_, refl, sym, _∙_, ap}
+use mathlib.Core.Path.{_≡_, refl, _∙_, ap}
 use mathlib.Core.Bool.{Bool, true, false, cond}
 use mathlib.Core.List.{List, [], _∷_, _++_, map, flatten, append-assoc}
 use Prim.Native.Nat.{ℕ}

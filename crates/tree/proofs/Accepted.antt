@@ -26,7 +26,7 @@ use Rattle.meaning.proofs.Placed.{held-picture}
 use Rattle.tree.specs.Tree.{headRight, headerRight, atHead, chainRight, seenAll, accepts}
 use Rattle.tree.proofs.AcceptedTests.{Header, header-right, Head, head-right}
 use Rattle.tree.proofs.AcceptedRun.{Run, head-run}
-use Rattle.tree.proofs.AcceptedKeys.{head-keyed, rowIn, Rising, rising, row-asc}
+use Rattle.tree.proofs.AcceptedKeys.{rowIn, Rising, rising, row-asc}
 use Rattle.tree.proofs.AcceptedWords.{StandingWords, standing-places}
 use Rattle.tree.proofs.AcceptedPath.{Occurs, position-met, path-right, position-key, dead-met, values-met, keys-met}
 use Rattle.tree.proofs.AcceptedChain.{chainCells, chain-length, chain-free, chain-first, free-mark, free-positive, chain-distinct, free-held}
@@ -71,7 +71,7 @@ module _ (ws : List ℕ) (k : Checked ws) where
 
   rises : Rising ws 0 (k .run .met)
   unfolding atHead
-  rises = rising ws (k .header) (atHead ws) (k .run .met) (head-keyed ws (k .header) (k .head)) (k .run .trace) levels
+  rises = rising ws (k .header) (atHead ws) (k .run .met) (k .run .trace) levels
 
   standing : All (StandingWords ws (baseAt ws) (dimensionsAt ws)) (places (baseAt ws) (dimensionsAt ws) (rowIn ws (k .run .met)))
   standing = standing-places ws (k .header) (k .head) (k .run .met) (k .run .trace) (k .run .links) rises (k .run .cells) levels (k .run .linked)

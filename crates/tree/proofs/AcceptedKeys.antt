@@ -1,95 +1,22 @@
--- The keys of the cells met. Coordinate words that write a key are its coordinates; so a cell that is right after the one read before
--- has the larger key, and shares with it as many coordinates as the number says by which it was met. In a row that rises so, the cell
--- that link d leads to is the first that shares exactly d coordinates.
-use mathlib.Core.Path.{_≡_, refl, sym, _∙_, ap}
-use mathlib.Core.Bool.{true}
+-- The keys of the cells met. A cell that is right after the one read before has the larger key, and shares with it as many coordinates as the
+-- number says by which it was met. In a row that rises so, the cell that link d leads to is the first that shares exactly d coordinates.
+use mathlib.Core.Path.{_≡_, refl, sym, _∙_}
 use mathlib.Core.List.{List, [], _∷_, map}
-use Prim.Native.Nat.{ℕ, suc, _+_, _*_, _^_, _≤_, _<_, min}
-use native.Mathlib.Nat.{mul-le-mul-right}
+use Prim.Native.Nat.{ℕ, _≤_, _<_, min}
 use native.Mathlib.Decide.{ℕ-discrete, decLt}
 use native.Mathlib.Omega.{arith}
-use lib.Dec.{eqb}
-use lib.ListN.{length, getD, drop, length-take, length-drop}
-use lib.Seq.{getD-take, getD-drop}
-use borrow.Author.Tests.{eqb-true}
-use Rattle.settings.specs.Numbers.{fieldsBeforeCoordinates, cellWords}
 use Rattle.lists.proofs.All.{All}
-use Rattle.lists.proofs.Tests.{both}
-use Rattle.meaning.specs.Keys.{coordinate, shared}
+use Rattle.meaning.specs.Keys.{shared}
 use Rattle.meaning.specs.Row.{Node, firstSharing}
-use Rattle.meaning.specs.Words.{wordIndex, keyAt, coordinateAt, dimensionsAt, cellsAt, baseAt}
+use Rattle.meaning.specs.Words.{keyAt, dimensionsAt, baseAt}
 use Rattle.meaning.proofs.AscendingRow.{Asc}
-use Rattle.meaning.proofs.Keys.{shared-same, ultra, coordinate-head, coordinate-other, coordinate-larger, shared-stop}
+use Rattle.meaning.proofs.Keys.{shared-same, ultra}
+use Rattle.meaning.proofs.Blocks.{shared-by-blocks}
 use Rattle.meaning.proofs.Parent.{sharing-skips, sharing-hits, sharing-above}
 use Rattle.meaning.proofs.ConverseRow.{nodeIn}
 use Rattle.tree.specs.declared.Seen.{Seen}
-use Rattle.tree.specs.Tree.{written, coordinateWords, allBelow, writesKey}
-use Rattle.tree.proofs.Written.{allBelow-all, written-coordinates}
-use Rattle.tree.proofs.AcceptedTests.{Header, Head}
+use Rattle.tree.proofs.AcceptedTests.{Header}
 use Rattle.tree.proofs.AcceptedRun.{Met, next, next-past, next-here, next-none, seen, Trace}
-
--- Coordinate words
-
--- the words of a cell are words of the buffer
-pub cell-fits : (ws : List ℕ) → Header ws → (c j : ℕ) → c < cellsAt ws → j ≤ cellWords (dimensionsAt ws) → wordIndex (dimensionsAt ws) c j ≤ length ws
-cell-fits ws header c j h l =
-    let w = cellWords (dimensionsAt ws) in
-    let m : suc c * w ≤ cellsAt ws * w = mul-le-mul-right w h in
-    omega (arith, header .size)
-
--- the coordinate words of a cell are its key's coordinates
-pub record Keyed (ws : List ℕ) (x : ℕ) : Type 0 where
-  pub below : keyAt ws x < baseAt ws ^ dimensionsAt ws
-  pub coordinate : (d : ℕ) → d < dimensionsAt ws → coordinateAt ws x d ≡ coordinate (baseAt ws) (dimensionsAt ws) (keyAt ws x) d
-
-coordinate-word : (ws : List ℕ) (c d : ℕ) → d < dimensionsAt ws → coordinateAt ws c d ≡ getD (coordinateWords ws c) d 0
-coordinate-word ws c d l =
-    ap (λ i. getD ws i 0)
-    (let there : wordIndex (dimensionsAt ws) c (fieldsBeforeCoordinates + d) ≡ wordIndex (dimensionsAt ws) c fieldsBeforeCoordinates + d =
-    omega arith in there)
-    ∙ sym (getD-drop (wordIndex (dimensionsAt ws) c fieldsBeforeCoordinates) ws d 0)
-    ∙ sym (getD-take (dimensionsAt ws) (drop (wordIndex (dimensionsAt ws) c fieldsBeforeCoordinates) ws) d 0 l)
-
-coordinate-words-length : (ws : List ℕ) → Header ws → (c : ℕ) → c < cellsAt ws → length (coordinateWords ws c) ≡ dimensionsAt ws
-coordinate-words-length ws header c inside =
-    let D = dimensionsAt ws in
-    let from = wordIndex D c fieldsBeforeCoordinates in
-    let fits : wordIndex D c (fieldsBeforeCoordinates + D) ≤ length ws = cell-fits ws header c (fieldsBeforeCoordinates + D) inside (omega arith) in
-    length-take D (drop from ws) ∙ omega (arith, length-drop from ws)
-
-pub cell-keyed : (ws : List ℕ) → Header ws → (c : ℕ) → c < cellsAt ws → writesKey ws c ≡ true → Keyed ws c
-unfolding writesKey
-cell-keyed ws header c inside e =
-    let b = baseAt ws in
-    let words = coordinateWords ws c in
-    let t = both (allBelow b words) (eqb (written b 0 words) (keyAt ws c)) e in
-    let k = written-coordinates b (dimensionsAt ws) (keyAt ws c) words (coordinate-words-length ws header c inside) (allBelow-all b words (t .0))
-    (eqb-true (written b 0 words) (keyAt ws c) (t .1)) in
-    record { below = k .1; coordinate = λ d l. coordinate-word ws c d l ∙ ap (λ xs. getD xs d 0) (sym (k .0)) }
-
-pub head-keyed : (ws : List ℕ) → Header ws → Head ws → Keyed ws 0
-head-keyed ws header head =
-    let b = baseAt ws in
-    let D = dimensionsAt ws in
-    record {
-      below = let k = head .key in let h = header .base .above in omega arith;
-      coordinate = λ d l. head .coordinate d l ∙ sym (ap (λ k. coordinate b D k d) (head .key) ∙ coordinate-head b D d);
-    }
-
--- keys whose coordinates are equal below e, and at e the second's is larger
-first-other : (b D x y e : ℕ) → 0 < b → e < D → x < b ^ D → y < b ^ D → ((d : ℕ) → d < e → coordinate b D y d ≡ coordinate b D x d) →
-    coordinate b D x e < coordinate b D y e → (x < y) × (shared b D x y ≡ e)
-first-other b D x y e pos inside hx hy same less = (coordinate-larger b D x y e pos hx hy (omega (arith, is)) less, is)
-  where
-    ne : x ≡ y → ⊥
-    ne q = omega (arith, less, ap (λ k. coordinate b D k e) q)
-
-    is : shared b D x y ≡ e
-    is = go (decLt (shared b D x y) e)
-      where
-        go : Dec (shared b D x y < e) → shared b D x y ≡ e
-        go (yes h) = absurd (coordinate-other b D x y pos hx hy ne (sym (same (shared b D x y) h)))
-        go (no h) = shared-stop b D x y e (omega (arith, h)) (λ q. omega (arith, less, q))
 
 -- The row
 
@@ -106,21 +33,15 @@ pub row-asc : (ws : List ℕ) (x : ℕ) (met : List Met) → Rising ws x met →
 row-asc ws x [] r = tt
 row-asc ws x (m ∷ met) r = (r .0 .0, row-asc ws (m .cell) met (r .1))
 
-pub rising : (ws : List ℕ) → Header ws → (s : Seen) (met : List Met) → Keyed ws (s .last) → Trace ws s met →
-    All (λ m. m .linkNumber < dimensionsAt ws) met → Rising ws (s .last) met
-rising ws header s [] keyed t levels = tt
-rising ws header s (m ∷ met) keyed t levels =
-    let b = baseAt ws in
-    let D = dimensionsAt ws in
-    let x = s .last in
-    let y = m .cell in
-    let e = m .linkNumber in
-    let own = cell-keyed ws header y (t .0 .inside) (t .0 .writes) in
-    let less : coordinate b D (keyAt ws x) e < coordinate b D (keyAt ws y) e =
-    (let p = keyed .coordinate e (levels .0) in let q = own .coordinate e (levels .0) in let h = t .0 .larger in omega arith) in (
-      first-other b D (keyAt ws x) (keyAt ws y) e (header .positive) (levels .0) (keyed .below) (own .below)
-          (λ d l. let k : d < D = (let i = levels .0 in omega arith) in sym (own .coordinate d k) ∙ t .0 .same d l ∙ keyed .coordinate d k) less,
-      rising ws header (seen ws m s) met own (t .1) (levels .1),
+pub rising : (ws : List ℕ) → Header ws → (s : Seen) (met : List Met) → Trace ws s met → All (λ m. m .linkNumber < dimensionsAt ws) met →
+    Rising ws (s .last) met
+rising ws header s [] t levels = tt
+rising ws header s (m ∷ met) t levels =
+    let below = header .base .above in
+    let most = t .0 .key in (
+      shared-by-blocks (baseAt ws) (dimensionsAt ws) (keyAt ws (s .last)) (keyAt ws (m .cell)) (m .linkNumber) (header .positive) (omega arith) (levels .0)
+          .1 (t .0 .from, t .0 .to),
+      rising ws header (seen ws m s) met (t .1) (levels .1),
     )
 
 -- The first that shares d coordinates

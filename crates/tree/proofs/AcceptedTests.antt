@@ -14,10 +14,10 @@ use Rattle.settings.specs.Base.{IsBase}
 use Rattle.settings.proofs.Numbers.{Ranges, ranges, is-base}
 use Rattle.lists.proofs.All.{All}
 use Rattle.lists.proofs.Tests.{both}
-use Rattle.meaning.specs.Words.{wordAt, keyAt, valueAt, markAt, owedAt, lowAt, highAt, coordinateAt, linkAt, dimensionsAt, largestAt, cellsAt, baseAt}
-use Rattle.meaning.specs.Words.{positionAt}
+use Rattle.meaning.specs.Keys.{blockStart}
+use Rattle.meaning.specs.Words.{wordAt, keyAt, valueAt, markAt, owedAt, lowAt, highAt, linkAt, dimensionsAt, largestAt, cellsAt, baseAt, positionAt}
 use Rattle.tree.specs.declared.Seen.{Seen}
-use Rattle.tree.specs.Tree.{allFrom, writesKey, follows, nodeRight, dueTo, linksBelow, debtRight, agreedAt, cellAloneRight, cellRight}
+use Rattle.tree.specs.Tree.{allFrom, follows, nodeRight, dueTo, linksBelow, debtRight, agreedAt, cellAloneRight, cellRight}
 use Rattle.tree.specs.Tree.{pathRight, headRight, freeRight, headerRight}
 
 -- Tests of several parts
@@ -63,9 +63,9 @@ pub record DebtTested (ws : List ℕ) (x y e : ℕ) : Type 0 where
 pub record Right (ws : List ℕ) (s : Seen) (y e : ℕ) : Type 0 where
   pub left : 0 < s .left
   pub inside : y < cellsAt ws
-  pub same : (d : ℕ) → d < e → coordinateAt ws y d ≡ coordinateAt ws (s .last) d
-  pub larger : coordinateAt ws (s .last) e < coordinateAt ws y e
-  pub writes : writesKey ws y ≡ true
+  -- the cell read before is not before y's block of level e, but before that of level e + 1
+  pub from : blockStart (baseAt ws) (dimensionsAt ws) (keyAt ws y) e ≤ keyAt ws (s .last)
+  pub to : keyAt ws (s .last) < blockStart (baseAt ws) (dimensionsAt ws) (keyAt ws y) (suc e)
   pub key : keyAt ws y ≤ largestAt ws
   pub node : ((markAt ws y ≡ 2) × (valueAt ws y ≡ 0)) ⊎ ((markAt ws y ≡ 1) × (s .reached ≡ true))
   pub below : (d : ℕ) → d < e → (linkAt ws y d ≡ 0) ⊎ (dueTo ws (s .last) d ≡ true)
@@ -123,23 +123,23 @@ pub cell-right : (ws : List ℕ) (y e : ℕ) (s : Seen) → cellRight ws y e s �
 unfolding cellRight follows
 cell-right ws y e s h =
     let x = s .last in
-    let alike : ℕ → Bool = λ d. eqb (coordinateAt ws y d) (coordinateAt ws x d) in
+    let k = keyAt ws x in
+    let start : ℕ → ℕ = λ d. blockStart (baseAt ws) (dimensionsAt ws) (keyAt ws y) d in
     let p = both (cellAloneRight ws y e s) (pathRight ws y e s) h in
-    let t = joined-all (ltb 0 (s .left) ∷ ltb y (cellsAt ws) ∷ follows ws x y e ∷ writesKey ws y ∷ nodeRight ws y (s .reached) ∷
+    let t = joined-all (ltb 0 (s .left) ∷ ltb y (cellsAt ws) ∷ follows ws x y e ∷ nodeRight ws y (s .reached) ∷
     linksBelow ws x y e ∷ debtRight ws x y e ∷ []) (p .0) in
-    let f = both (allFrom alike 0 e) (ltb (coordinateAt ws x e) (coordinateAt ws y e)) (t .1 .1 .0) in
-    let node = node-right ws y (s .reached) (t .1 .1 .1 .1 .0) in
+    let f = both (leb (start e) k) (ltb k (start (suc e))) (t .1 .1 .0) in
+    let node = node-right ws y (s .reached) (t .1 .1 .1 .0) in
     record {
       left = ltb-true 0 (s .left) (t .0);
       inside = ltb-true y (cellsAt ws) (t .1 .0);
-      same = λ d l. eqb-true (coordinateAt ws y d) (coordinateAt ws x d) (all-from alike 0 e d (f .0) (omega arith) (omega arith));
-      larger = ltb-true (coordinateAt ws x e) (coordinateAt ws y e) (f .1);
-      writes = t .1 .1 .1 .0;
+      from = leb-true (start e) k (f .0);
+      to = ltb-true k (start (suc e)) (f .1);
       key = node .0;
       node = node .1;
-      below = below-right ws x y e (t .1 .1 .1 .1 .1 .0);
-      unowing = unowing-right ws x y e (t .1 .1 .1 .1 .1 .1 .0);
-      owing = owing-right ws x y e (t .1 .1 .1 .1 .1 .1 .0);
+      below = below-right ws x y e (t .1 .1 .1 .1 .0);
+      unowing = unowing-right ws x y e (t .1 .1 .1 .1 .1 .0);
+      owing = owing-right ws x y e (t .1 .1 .1 .1 .1 .0);
       path = λ u q. eqb-true (agreedAt ws y e (s .agreed)) (dimensionsAt ws) (rw (u, eq-eqb y (positionAt ws) q) at (p .1));
     }
 
@@ -173,13 +173,12 @@ pub record Head (ws : List ℕ) : Type 0 where
   pub owed : owedAt ws 0 ≡ 0
   pub low : lowAt ws 0 ≡ 0
   pub high : highAt ws 0 ≡ 0
-  pub coordinate : (d : ℕ) → d < dimensionsAt ws → coordinateAt ws 0 d ≡ 0
 
 pub head-right : (ws : List ℕ) → headRight ws ≡ true → Head ws
 unfolding headRight
 head-right ws h =
     let t = joined-all (eqb (keyAt ws 0) 0 ∷ eqb (valueAt ws 0) 0 ∷ eqb (markAt ws 0) 2 ∷ eqb (owedAt ws 0) 0 ∷ eqb (lowAt ws 0) 0 ∷
-    eqb (highAt ws 0) 0 ∷ allFrom (λ d. eqb (coordinateAt ws 0 d) 0) 0 (dimensionsAt ws) ∷ []) h in
+    eqb (highAt ws 0) 0 ∷ []) h in
     record {
       key = eqb-true (keyAt ws 0) 0 (t .0);
       value = eqb-true (valueAt ws 0) 0 (t .1 .0);
@@ -187,8 +186,6 @@ head-right ws h =
       owed = eqb-true (owedAt ws 0) 0 (t .1 .1 .1 .0);
       low = eqb-true (lowAt ws 0) 0 (t .1 .1 .1 .1 .0);
       high = eqb-true (highAt ws 0) 0 (t .1 .1 .1 .1 .1 .0);
-      coordinate = λ d l. eqb-true (coordinateAt ws 0 d) 0 (all-from (λ i. eqb (coordinateAt ws 0 i) 0) 0 (dimensionsAt ws) d (t .1 .1 .1 .1 .1 .1 .0)
-          (omega arith) (omega arith));
     }
 
 -- A free cell

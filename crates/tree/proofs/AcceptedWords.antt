@@ -16,7 +16,6 @@ use Rattle.meaning.specs.Row.{headNode, firstSharing, Place, headPlace, placesA
 use Rattle.meaning.specs.Picture.{mark}
 use Rattle.meaning.specs.Words.{keyAt, valueAt, markAt, owedAt, lowAt, highAt, linkAt, dimensionsAt, baseAt}
 use Rattle.meaning.specs.Walk.{linkRead}
-use Rattle.meaning.proofs.Keys.{coordinate-head}
 use Rattle.meaning.proofs.State.{Debt}
 use Rattle.meaning.proofs.WalkRead.{Held, link-tested, read-own, read-owed, read-unowing, between-facts}
 use Rattle.meaning.proofs.ConverseRow.{nodeIn}
@@ -24,7 +23,7 @@ use Rattle.tree.specs.declared.Seen.{Seen}
 use Rattle.tree.specs.Tree.{dueTo, atHead}
 use Rattle.tree.proofs.AcceptedTests.{DebtTested, Right, Header, Head}
 use Rattle.tree.proofs.AcceptedRun.{Met, next, next-here, next-none, Linked, Links, seen, Trace}
-use Rattle.tree.proofs.AcceptedKeys.{cell-keyed, rowIn, Rising, sharing-is-next}
+use Rattle.tree.proofs.AcceptedKeys.{rowIn, Rising, sharing-is-next}
 
 -- Links read through what is owed
 
@@ -258,7 +257,6 @@ standing-after ws header s ea (m ∷ met) trace links rises cells levels before 
       owed = debt-owed ws (s .last) ea (m .cell) (m .linkNumber) dim (rises .0 .1) met owes;
       low = debt-low ws (s .last) ea (m .cell) (m .linkNumber) dim (rises .0 .1) met owes;
       high = debt-high ws (s .last) ea (m .cell) (m .linkNumber) dim (rises .0 .1) met (rises .1) owes;
-      coordinate = cell-keyed ws header (m .cell) (trace .0 .inside) (trace .0 .writes) .coordinate;
       link = λ d l. link-word ws (header .positive) s ea m met (trace .0) before before-owes rises (links .0) owes d l dim (rises .0 .1);
     };
     debt = debt-allowed ws (s .last) ea (m .cell) (m .linkNumber) dim (rises .0 .1) (seen ws m s) met refl (trace .1) (rises .1) owes;
@@ -293,7 +291,6 @@ standing-head ws pos head met rises linked =
         owed = head .owed;
         low = head .low;
         high = head .high;
-        coordinate = λ d l. head .coordinate d l ∙ sym (coordinate-head b D d);
         link = λ d l.
             rw (le-leb 0 d (omega arith))
             (sym (read-unowing ws 0 d (head .owed))

@@ -20,9 +20,9 @@ use Rattle.meaning.specs.Row.{Node, headNode, Place, headPlace, placeOf, places
 use Rattle.meaning.specs.State.{State, positionKey}
 use Rattle.meaning.specs.Picture.{picture}
 use Rattle.meaning.specs.Reading.{read, isList}
-use Rattle.meaning.specs.Words.{wordAt, keyAt, valueAt, markAt, owedAt, lowAt, highAt, coordinateAt, dimensionsAt, cellsAt, baseAt, positionAt}
+use Rattle.meaning.specs.Words.{wordAt, keyAt, valueAt, markAt, owedAt, lowAt, highAt, dimensionsAt, cellsAt, baseAt, positionAt}
 use Rattle.meaning.proofs.AscendingRow.{Asc, asc-weaken}
-use Rattle.meaning.proofs.Keys.{shared-same, coordinate-head}
+use Rattle.meaning.proofs.Keys.{shared-same}
 use Rattle.meaning.proofs.State.{Sound, base-positive, base-above, base-of}
 use Rattle.meaning.proofs.StateCells.{free-distinct, free-range, free-length}
 use Rattle.meaning.proofs.Picture.{picture-length, picture-free, free-found}
@@ -159,9 +159,7 @@ head-right ws key row shown =
     (and-then (eq-eqb (markAt ws 0) 2 (held .mark))
     (and-then (eq-eqb (owedAt ws 0) 0 (held .owed))
     (and-then (eq-eqb (lowAt ws 0) 0 (held .low))
-    (and-then (eq-eqb (highAt ws 0) 0 (held .high))
-    (all-from (λ d. eqb (coordinateAt ws 0 d) 0) 0 (dimensionsAt ws)
-    (λ d h l. eq-eqb (coordinateAt ws 0 d) 0 (held .coordinate d (omega arith) ∙ coordinate-head (baseAt ws) (dimensionsAt ws) d))))))))
+    (eq-eqb (highAt ws 0) 0 (held .high))))))
 
 -- All standing cells
 

@@ -12,18 +12,17 @@ use lib.ListN.{length}
 use borrow.Author.Tests.{lt-ltb, le-leb, lt-leb, eq-eqb, ne-eqb}
 use Rattle.lists.proofs.All.{All}
 use Rattle.lists.proofs.Tests.{and-both}
-use Rattle.meaning.specs.Keys.{coordinates, shared}
+use Rattle.meaning.specs.Keys.{blockStart, shared}
 use Rattle.meaning.specs.Row.{Node, firstOf, firstSharing, Place, settledLink, between, link}
 use Rattle.meaning.specs.Picture.{mark}
-use Rattle.meaning.specs.Words.{keyAt, valueAt, markAt, owedAt, lowAt, highAt, coordinateAt, linkAt, dimensionsAt, largestAt, cellsAt, baseAt, positionAt}
+use Rattle.meaning.specs.Words.{keyAt, valueAt, markAt, owedAt, lowAt, highAt, linkAt, dimensionsAt, largestAt, cellsAt, baseAt, positionAt}
 use Rattle.meaning.proofs.AscendingRow.{Asc}
-use Rattle.meaning.proofs.Keys.{shared-same, shared-le, shared-less, coordinate-same, coordinate-less, coordinate-inside}
+use Rattle.meaning.proofs.Keys.{shared-same, shared-le, shared-less}
+use Rattle.meaning.proofs.Blocks.{shared-by-blocks}
 use Rattle.meaning.proofs.State.{Debt}
 use Rattle.meaning.proofs.WalkRead.{Held, between-is, between-not, linkOwing, link-tested}
 use Rattle.meaning.proofs.Parent.{sharing-hits, sharing-above}
-use Rattle.tree.specs.Tree.{allFrom, written, coordinateWords, allBelow, writesKey, follows, nodeRight, dueTo, linksBelow, debtRight, agreedAt}
-use Rattle.tree.specs.Tree.{agreedAfter, pathRight, cellRight, entered}
-use Rattle.tree.proofs.Written.{all-allBelow, coordinates-below, coordinates-write}
+use Rattle.tree.specs.Tree.{allFrom, follows, nodeRight, dueTo, linksBelow, debtRight, agreedAt, agreedAfter, pathRight, cellRight, entered}
 use Rattle.tree.proofs.CompleteOrder.{placeAfter, agreedWith, agreed-up-to, seenAt, seenBefore}
 use Rattle.tree.proofs.CompletePath.{PlaceOnPath, agreed-is, position-here, position-apart}
 
@@ -47,7 +46,6 @@ or-right false t e = e
 -- What the words and the row say of a standing cell, with the position's key.
 pub record Shown (ws : List ℕ) (key : ℕ) (p : Place) : Type 0 where
   pub held : Held ws (baseAt ws) (dimensionsAt ws) p
-  pub coordinates : coordinateWords ws (p .node .cell) ≡ coordinates (baseAt ws) (dimensionsAt ws) (p .node .key)
   pub cell : p .node .cell < cellsAt ws
   pub most : p .node .key ≤ largestAt ws
   pub below : p .node .key < baseAt ws ^ dimensionsAt ws
@@ -57,19 +55,6 @@ pub record Shown (ws : List ℕ) (key : ℕ) (p : Place) : Type 0 where
   pub ascends : Asc (p .node .key) (p .later)
   pub later : All (λ z. (0 < z .cell) × (z .cell < cellsAt ws)) (p .later)
   pub path : PlaceOnPath ws (baseAt ws) key p
-
-writes-key : (ws : List ℕ) (key : ℕ) (p : Place) → 0 < baseAt ws → Shown ws key p → writesKey ws (p .node .cell) ≡ true
-unfolding writesKey
-writes-key ws key p pos shown =
-    let b = baseAt ws in
-    let D = dimensionsAt ws in
-    let c = p .node .cell in
-    and-then
-    (ap (allBelow b) (shown .coordinates) ∙ all-allBelow b (coordinates b D (p .node .key)) (coordinates-below b D (p .node .key) pos))
-    (eq-eqb (written b 0 (coordinateWords ws c)) (keyAt ws c)
-    (ap (written b 0) (shown .coordinates)
-    ∙ coordinates-write b D (p .node .key) pos (shown .below)
-    ∙ sym (shown .held .key)))
 
 -- key at most K, and live only where the position is before
 node-right : (ws : List ℕ) (key : ℕ) (p : Place) → Shown ws key p → (key ≤ p .before .key) ⊎ (p .node .key ≤ key) →
@@ -104,23 +89,20 @@ module _ (ws : List ℕ) (key : ℕ) (x : Node) (e : ℕ) (a : Node) (f : ℕ) (
   abbrev second : Place
   second = placeAfter (baseAt ws) (dimensionsAt ws) first y later
 
-  cell-follows : 0 < baseAt ws → Shown ws key first → Shown ws key second → follows ws (x .cell) (y .cell) (second .dimension) ≡ true
+  cell-follows : 0 < baseAt ws → 0 < dimensionsAt ws → Shown ws key first → Shown ws key second →
+      follows ws (x .cell) (y .cell) (second .dimension) ≡ true
   unfolding follows
-  cell-follows pos s t =
+  cell-follows pos some s t =
       let b = baseAt ws in
       let D = dimensionsAt ws in
       let n = shared b D (x .key) (y .key) in
       let rise = s .ascends .0 in
-      let less = coordinate-less b D (x .key) (y .key) pos (s .below) (t .below) rise in
-      let inside : n < D = coordinate-inside b D (y .key) n (omega arith) in
-      and-then
-      (all-from (λ d. eqb (coordinateAt ws (y .cell) d) (coordinateAt ws (x .cell) d)) 0 n (λ d h l.
-      eq-eqb (coordinateAt ws (y .cell) d) (coordinateAt ws (x .cell) d)
-      (t .held .coordinate d (omega arith)
-      ∙ sym (coordinate-same b D (x .key) (y .key) d (omega arith))
-      ∙ sym (s .held .coordinate d (omega arith)))))
-      (lt-ltb (coordinateAt ws (x .cell) n) (coordinateAt ws (y .cell) n)
-      (omega (arith, s .held .coordinate n inside, t .held .coordinate n inside)))
+      let inside : n < D = shared-less b D (x .key) (y .key) some (λ z. omega arith) in
+      let blocks = shared-by-blocks b D (x .key) (y .key) n pos (t .below) inside .0 (rise, refl) in
+      rw (s .held .key, t .held .key)
+      (and-then
+      (le-leb (blockStart b D (y .key) n) (x .key) (blocks .0))
+      (lt-ltb (x .key) (blockStart b D (y .key) (suc n)) (blocks .1)))
 
   -- a link below the dimension is 0 if x does not owe it
   link-below : (d : ℕ) → d < second .dimension → (x .owes && between e (second .dimension) d) ≡ false →
@@ -356,10 +338,9 @@ module _ (ws : List ℕ) (key : ℕ) (x : Node) (e : ℕ) (a : Node) (f : ℕ) (
       and-then
       (and-then (lt-ltb 0 (suc (length later) + free) (omega arith))
       (and-then (lt-ltb (y .cell) (cellsAt ws) (t .cell))
-      (and-then (cell-follows pos s t)
-      (and-then (writes-key ws key second pos t)
+      (and-then (cell-follows pos some s t)
       (and-then (node-right ws key second t gap)
-      (and-then (links-below s t) (debt-right pos some s t)))))))
+      (and-then (links-below s t) (debt-right pos some s t))))))
       (path-right free pos some t)
 
   pub enters-after : (free : ℕ) → 0 < baseAt ws → 0 < dimensionsAt ws → Shown ws key first → Shown ws key second →

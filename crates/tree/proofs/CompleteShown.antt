@@ -1,32 +1,24 @@
 -- What the words of the picture of a state in order say of each standing cell.
-use mathlib.Core.Path.{_≡_, refl, sym, _∙_, ap}
+use mathlib.Core.Path.{_≡_, refl, sym}
 use mathlib.Core.Bool.{true, false}
 use mathlib.Core.List.{List, [], _∷_, map}
 use mathlib.Core.Logic.{inl, inr}
-use Prim.Native.Nat.{ℕ, suc, _+_, _*_, _≤_, _<_}
-use native.Mathlib.Nat.{mul-le-mul-right}
+use Prim.Native.Nat.{ℕ, _≤_, _<_}
 use native.Mathlib.Decide.{ℕ-discrete}
 use native.Mathlib.Omega.{arith}
-use lib.ListN.{length, getD, take, drop, length-drop}
-use lib.Seq.{length-take-le, getD-take, getD-drop, ext-getD}
-use Rattle.settings.specs.Numbers.{fieldsBeforeCoordinates, cellWords}
 use Rattle.lists.specs.Lists.{occurrences}
 use Rattle.lists.proofs.Occurrences.{occurrences-past, distinct-left}
 use Rattle.lists.proofs.All.{All}
-use Rattle.meaning.specs.Keys.{coordinates}
 use Rattle.meaning.specs.Row.{Node, headNode, Place, places}
 use Rattle.meaning.specs.State.{State, positionKey, keyOf}
 use Rattle.meaning.specs.Picture.{picture}
-use Rattle.meaning.specs.Words.{wordIndex}
 use Rattle.meaning.proofs.AscendingRow.{Asc}
-use Rattle.meaning.proofs.Keys.{coordinates-length}
 use Rattle.meaning.proofs.State.{Debt, Sound, base-positive, base-above}
 use Rattle.meaning.proofs.StateCells.{cells-distinct, row-range}
-use Rattle.meaning.proofs.Picture.{picture-length, picture-path, places-later}
+use Rattle.meaning.proofs.Picture.{picture-path, places-later}
 use Rattle.meaning.proofs.Places.{keyOf-same, keyOf-other}
 use Rattle.meaning.proofs.WalkRead.{Held, all-places, places-held}
 use Rattle.meaning.proofs.SentencesRow.{places-ascend}
-use Rattle.tree.specs.Tree.{coordinateWords}
 use Rattle.tree.proofs.CompletePath.{Stands, PlaceOnPath, places-on-path}
 use Rattle.tree.proofs.CompleteCell.{Shown}
 
@@ -72,28 +64,6 @@ places-kept s v =
 -- The words
 
 module _ (s : State) (v : Sound s) where
-  coordinates-shown : (p : Place) → p .node .cell < s .settings .cells → Held (picture s) (s .settings .base) (s .settings .dimensions) p →
-      coordinateWords (picture s) (p .node .cell) ≡ coordinates (s .settings .base) (s .settings .dimensions) (p .node .key)
-  unfolding picture
-  coordinates-shown p h held =
-      let b = s .settings .base in
-      let D = s .settings .dimensions in
-      let C = s .settings .cells in
-      let c = p .node .cell in
-      let start = wordIndex D c fieldsBeforeCoordinates in
-      let room : suc c * cellWords D ≤ C * cellWords D = mul-le-mul-right (cellWords D) h in
-      let inside : start + D ≤ length (picture s) = omega (arith, picture-length s) in
-      let rest : D ≤ length (drop start (picture s)) = omega (arith, length-drop start (picture s)) in
-      let long = length-take-le D (drop start (picture s)) rest in
-      let number = coordinates-length b D (p .node .key) in
-      ext-getD 0 (take D (drop start (picture s))) (coordinates b D (p .node .key)) (long ∙ sym number)
-      (λ i l.
-      let less : i < D = omega arith in
-      let there : start + i ≡ wordIndex D c (fieldsBeforeCoordinates + i) = omega arith in
-      getD-take D (drop start (picture s)) i 0 less
-      ∙ getD-drop start (picture s) i 0
-      ∙ ap (λ n. getD (picture s) n 0) there ∙ held .coordinate i less)
-
   shown : (p : Place) → Held (picture s) (s .settings .base) (s .settings .dimensions) p → Kept s (p .node) →
       (p .node .owes ≡ true → Debt (s .settings .base) (s .settings .dimensions) p) → Asc (p .node .key) (p .later) →
       All (λ z. (0 < z .cell) × (z .cell < s .settings .cells)) (p .later) → PlaceOnPath (picture s) (s .settings .base) (positionKey s) p →
@@ -104,7 +74,6 @@ module _ (s : State) (v : Sound s) where
       let above = base-above s v in
       record {
         held = held;
-        coordinates = coordinates-shown p (kept .cell) held;
         cell = kept .cell;
         most = most;
         below = omega arith;

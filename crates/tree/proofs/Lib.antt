@@ -1,5 +1,4 @@
 -- The check's account on the words accepts exactly the lists.
-pub mod Written
 pub mod AcceptedTests
 pub mod AcceptedRun
 pub mod AcceptedKeys

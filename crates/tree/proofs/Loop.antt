@@ -14,7 +14,7 @@ use Rattle.meaning.specs.Words.{owedAt, lowAt, highAt, linkAt, dimensionsAt, ce
 use Rattle.meaning.specs.Walk.{linkRead}
 use Rattle.meaning.proofs.WalkRead.{between-is, between-below, read-unowing, read-above, read-through}
 use Rattle.tree.specs.declared.Seen.{Seen}
-use Rattle.tree.specs.Tree.{allFrom, follows, writesKey, nodeRight, dueTo, linksBelow, debtRight, pathRight, cellRight, wrong, entered}
+use Rattle.tree.specs.Tree.{allFrom, follows, nodeRight, dueTo, linksBelow, debtRight, pathRight, cellRight, wrong, entered}
 use Rattle.tree.specs.Pending.{Link, put, putFrom, putLinks, followed, followedAll}
 use Rattle.tree.specs.Loop.{aloneRight, metRight, met, hangsRight, linksNone, owesNothing, owesRight, Hung, plain, owed, verdict, noList, leftOver}
 use Rattle.tree.proofs.AcceptedTests.{all-from}
@@ -258,24 +258,23 @@ module _ (ws : List ℕ) {x e from : ℕ} (h : Hung ws x e from) (y : ℕ) (insi
 -- A cell is met
 
 -- the tests of a cell, those of its links and its debt last
-regroup : (a b c d e f g p : Bool) → (a && (b && (c && (d && (e && (f && g)))))) && p ≡ ((a && (b && (c && (d && e)))) && p) && (f && g)
-regroup true true true true true f g p = and-comm (f && g) p
+regroup : (a b c d e f p : Bool) → (a && (b && (c && (d && (e && f))))) && p ≡ ((a && (b && (c && d))) && p) && (e && f)
+regroup true true true true e f p = and-comm (e && f) p
   where
     and-comm : (s t : Bool) → s && t ≡ t && s
     and-comm true true = refl
     and-comm true false = refl
     and-comm false true = refl
     and-comm false false = refl
-regroup true true true true false f g p = refl
-regroup true true true false e f g p = refl
-regroup true true false d e f g p = refl
-regroup true false c d e f g p = refl
-regroup false b c d e f g p = refl
+regroup true true true false e f p = refl
+regroup true true false d e f p = refl
+regroup true false c d e f p = refl
+regroup false b c d e f p = refl
 
 cell-parts : (ws : List ℕ) (y e : ℕ) (s : Seen) → cellRight ws y e s ≡ metRight ws y e s && hangsRight ws (s .last) y e
 unfolding cellRight metRight
 cell-parts ws y e s =
-    regroup (ltb 0 (s .left)) (ltb y (cellsAt ws)) (follows ws (s .last) y e) (writesKey ws y) (nodeRight ws y (s .reached))
+    regroup (ltb 0 (s .left)) (ltb y (cellsAt ws)) (follows ws (s .last) y e) (nodeRight ws y (s .reached))
     (linksBelow ws (s .last) y e) (debtRight ws (s .last) y e) (pathRight ws y e s)
 
 entered-is : (ws : List ℕ) (y e : ℕ) (s : Seen) → entered ws y e s ≡ cond (metRight ws y e s && hangsRight ws (s .last) y e) (met ws y e s) (wrong s)

@@ -8,13 +8,13 @@ use Prim.Native.Nat.{ℕ, _-_, _<_}
 use lib.Dec.{eqb, ltb}
 use Rattle.meaning.specs.Words.{owedAt, lowAt, highAt, linkAt, dimensionsAt, cellsAt, positionAt}
 use Rattle.tree.specs.declared.Seen.{Seen}
-use Rattle.tree.specs.Tree.{allFrom, follows, writesKey, nodeRight, linksBelow, debtRight, agreedAfter, pathRight, wrong}
+use Rattle.tree.specs.Tree.{allFrom, follows, nodeRight, linksBelow, debtRight, agreedAfter, pathRight, wrong}
 use Rattle.tree.specs.Pending.{Link, putFrom, putLinks, followedAll}
 
 -- cell y, met by link e after what has been seen, is right but for its links and its debt
 abbrev pub aloneRight : List ℕ → ℕ → ℕ → Seen → Bool
 aloneRight ws y e s =
-    ltb 0 (s .left) && (ltb y (cellsAt ws) && (follows ws (s .last) y e && (writesKey ws y && nodeRight ws y (s .reached))))
+    ltb 0 (s .left) && (ltb y (cellsAt ws) && (follows ws (s .last) y e && nodeRight ws y (s .reached)))
 
 unfoldable pub metRight : List ℕ → ℕ → ℕ → Seen → Bool
 metRight ws y e s = aloneRight ws y e s && pathRight ws y e s

@@ -1,13 +1,14 @@
 -- The check for refusal 3 as a reading of the words, cell by cell, each child's own children in turn. The children of a cell are met by its
 -- links from D-1 down, so the cells are read in ascending order of keys, and each is compared with the one read before it.
 use mathlib.Core.Bool.{Bool, true, false, cond, _&&_, _||_, not}
-use mathlib.Core.List.{List, [], _∷_}
-use Prim.Native.Nat.{ℕ, zero, suc, _+_, _*_, _-_, _^_}
+use mathlib.Core.List.{List}
+use Prim.Native.Nat.{ℕ, zero, suc, _-_, _^_}
 use lib.Dec.{eqb, leb, ltb}
-use lib.ListN.{length, take, drop}
-use Rattle.settings.specs.Numbers.{fieldsBeforeCoordinates, cellWords, lengthOf, inRange}
+use lib.ListN.{length}
+use Rattle.settings.specs.Numbers.{cellWords, lengthOf, inRange}
+use Rattle.meaning.specs.Keys.{blockStart}
 use Rattle.meaning.specs.Row.{between}
-use Rattle.meaning.specs.Words.{wordIndex, wordAt, keyAt, valueAt, markAt, owedAt, lowAt, highAt, coordinateAt, linkAt, dimensionsAt, largestAt}
+use Rattle.meaning.specs.Words.{wordAt, keyAt, valueAt, markAt, owedAt, lowAt, highAt, linkAt, dimensionsAt, largestAt}
 use Rattle.meaning.specs.Words.{cellsAt, baseAt, firstFreeAt, liveMark, deadMark, pathAt, positionAt}
 use Rattle.meaning.specs.Walk.{linkRead}
 use Rattle.tree.specs.declared.Seen.{Seen}
@@ -17,27 +18,12 @@ unfoldable pub allFrom : (ℕ → Bool) → ℕ → ℕ → Bool
 allFrom test i zero = true
 allFrom test i (suc n) = test i && allFrom test (suc i) n
 
--- The number that coordinates write in base b, after a number already read.
-unfoldable pub written : ℕ → ℕ → List ℕ → ℕ
-written b n [] = n
-written b n (x ∷ xs) = written b (n * b + x) xs
-
--- the coordinate words of a cell
-abbrev pub coordinateWords : List ℕ → ℕ → List ℕ
-coordinateWords ws x = take (dimensionsAt ws) (drop (wordIndex (dimensionsAt ws) x fieldsBeforeCoordinates) ws)
-
-unfoldable pub allBelow : ℕ → List ℕ → Bool
-allBelow b [] = true
-allBelow b (x ∷ xs) = ltb x b && allBelow b xs
-
--- coordinate words that are a key's coordinates: each below b, and together they write the key
-unfoldable pub writesKey : List ℕ → ℕ → Bool
-writesKey ws x = allBelow (baseAt ws) (coordinateWords ws x) && eqb (written (baseAt ws) 0 (coordinateWords ws x)) (keyAt ws x)
-
--- cell y comes after cell x in key order and shares exactly e coordinates with it
+-- Cell y comes after cell x in key order and shares exactly e coordinates with it: x is before y's block of level e + 1, but not before that of
+-- level e.
 unfoldable pub follows : List ℕ → ℕ → ℕ → ℕ → Bool
 follows ws x y e =
-    allFrom (λ d. eqb (coordinateAt ws y d) (coordinateAt ws x d)) 0 e && ltb (coordinateAt ws x e) (coordinateAt ws y e)
+    leb (blockStart (baseAt ws) (dimensionsAt ws) (keyAt ws y) e) (keyAt ws x)
+    && ltb (keyAt ws x) (blockStart (baseAt ws) (dimensionsAt ws) (keyAt ws y) (suc e))
 
 -- key at most K; live or dead, dead as long as the position has not been read; a dead cell's value is 0
 unfoldable pub nodeRight : List ℕ → ℕ → Bool → Bool
@@ -88,10 +74,9 @@ cellAloneRight ws y e s =
     ltb 0 (s .left)
     && (ltb y (cellsAt ws)
     && (follows ws (s .last) y e
-    && (writesKey ws y
     && (nodeRight ws y (s .reached)
     && (linksBelow ws (s .last) y e
-    && debtRight ws (s .last) y e)))))
+    && debtRight ws (s .last) y e))))
 
 unfoldable pub cellRight : List ℕ → ℕ → ℕ → Seen → Bool
 cellRight ws y e s = cellAloneRight ws y e s && pathRight ws y e s
@@ -129,8 +114,7 @@ headRight ws =
     && (eqb (markAt ws 0) deadMark
     && (eqb (owedAt ws 0) 0
     && (eqb (lowAt ws 0) 0
-    && (eqb (highAt ws 0) 0
-    && allFrom (λ d. eqb (coordinateAt ws 0 d) 0) 0 (dimensionsAt ws))))))
+    && eqb (highAt ws 0) 0))))
 
 -- what has been seen at the head: where it is the position, all path words are 0
 unfoldable pub atHead : List ℕ → Seen

@@ -2,17 +2,17 @@
 -- they name is one of the list's.
 use mathlib.Core.Path.{_≡_, refl, subst₂}
 use mathlib.Core.List.{List}
-use Prim.Native.Nat.{ℕ, _≤_, _<_}
+use Prim.Native.Nat.{ℕ, _^_, _≤_, _<_}
 use native.Mathlib.Omega.{arith}
-use Rattle.settings.specs.Numbers.{mostDimensions}
 use Rattle.settings.specs.declared.Settings.{Settings}
+use Rattle.settings.proofs.Numbers.{base-power-fits}
 use Rattle.meaning.specs.State.{State}
 use Rattle.meaning.specs.Picture.{picture}
 use Rattle.meaning.specs.Reading.{settingsAt, read}
 use Rattle.meaning.specs.Words.{owedAt}
 use Rattle.meaning.specs.Walk.{linkRead}
 use Rattle.meaning.specs.Layer.Listed.{Listed}
-use Rattle.meaning.proofs.State.{Sound, base-positive}
+use Rattle.meaning.proofs.State.{Sound, base-of, base-positive, base-above}
 use Rattle.meaning.proofs.Picture.{picture-length}
 use Rattle.meaning.proofs.ReadBack.{list-is-picture, list-sound}
 use Rattle.meaning.proofs.CellsWithin.{owed-within, linkRead-within}
@@ -30,6 +30,9 @@ picture-shaped t v =
   where
     header : settingsAt (picture t) ≡ t .settings
     header = unfold picture in refl
+
+pub power-fits : (t : State) → Sound t → t .settings .base ^ t .settings .dimensions < 2 ^ 64
+power-fits t v = base-power-fits (v .ranges .dimensions-most) (v .ranges .largest-most) (v .ranges .largest-least) (base-of t v)
 
 -- its words are the picture of the state that they hold, which is in order
 pub record Pictured (ws : List ℕ) (s : Settings) : Type 0 where
@@ -56,9 +59,12 @@ listed-base = on-listed (λ t ws s. 0 < s .base) base-positive
 pub listed-cells : {ws : List ℕ} {s : Settings} → Listed ws s → 3 ≤ s .cells
 listed-cells = on-listed (λ t ws s. 3 ≤ s .cells) (λ t v. v .ranges .cells-least)
 
--- as many words as there are most dimensions hold a key's coordinates
-pub listed-sought : {ws : List ℕ} {s : Settings} → Listed ws s → {n : ℕ} → n ≡ mostDimensions → s .dimensions ≤ n
-listed-sought h e = omega (arith, listed-shaped h .dimensions-most)
+-- the powers of b fit, and the keys have D coordinates
+pub listed-power : {ws : List ℕ} {s : Settings} → Listed ws s → s .base ^ s .dimensions < 2 ^ 64
+listed-power = on-listed (λ t ws s. s .base ^ s .dimensions < 2 ^ 64) power-fits
+
+pub listed-fits : {ws : List ℕ} {s : Settings} → Listed ws s → {k : ℕ} → k ≤ s .largest → k < s .base ^ s .dimensions
+listed-fits h most = omega (arith, most, on-listed (λ t ws s. s .largest < s .base ^ s .dimensions) base-above h)
 
 -- the cell that is owed from, and the one to which a link leads as it is read
 pub listed-owed : {ws : List ℕ} {s : Settings} → Listed ws s → (x : ℕ) → x < s .cells → owedAt ws x < s .cells

@@ -1,27 +1,31 @@
 -- What the shape of a list's words gives: the words of a cell lie inside, the settings are the first words, and a word behind those may
--- be written without losing the shape. Then what links, steps and coordinates are in the code's terms.
+-- be written without losing the shape. Then what a step is in the code's terms, by keys and blocks.
 use mathlib.Core.Path.{_≡_, refl, sym, ap, _∙_}
-use mathlib.Core.Bool.{cond}
-use mathlib.Core.List.{List, [], _∷_, _++_, append-assoc, append-nil}
-use Prim.Native.Nat.{ℕ, suc, _+_, _-_, _/_, _%_, _≤_, _<_}
+use mathlib.Core.Bool.{true, cond}
+use mathlib.Core.List.{List, [], _∷_, append-assoc}
+use Prim.Native.Nat.{ℕ, suc, _+_, _-_, _%_, _^_, _≤_, _<_}
 use native.Mathlib.Nat.{suc-mul, mul-le-mul-right}
+use native.Mathlib.Decide.{ℕ-discrete}
 use native.Mathlib.Numerals.{add-one}
 use native.Mathlib.Omega.{arith}
 use lib.Dec.{eqb, ltb}
-use lib.ListN.{length, getD, take, drop, set, length-set, length-append, length-drop}
-use lib.Seq.{drop-cons, drop-drop, take-at, drop-set-lt, getD-set-same, getD-set-other, lt-length-set, drop-length, length-take-le, sets, sets-eq}
+use lib.ListN.{length, getD, take, drop, set, length-set}
+use lib.Seq.{drop-drop, getD-set-same, getD-set-other, sets, sets-eq}
 use borrow.Author.Tests.{lt-ltb, le-ltb, eq-eqb, ne-eqb}
-use borrow.Rule.Slice.PartMut.{midOf, putMid, mid-len}
-use Rattle.settings.specs.Numbers.{fieldsBeforeCoordinates, cellWords, lengthOf, mostDimensions, mostCells, headerWords}
+use borrow.Rule.Slice.PartMut.{midOf, putMid}
+use Rattle.settings.specs.Numbers.{fieldsBeforeLinks, cellWords, lengthOf, mostDimensions, mostCells, headerWords}
+use Rattle.settings.specs.Levels.{PowersOf}
 use Rattle.settings.specs.declared.Settings.{Settings}
 use Rattle.settings.proofs.Numbers.{cells-fit}
-use Rattle.meaning.specs.Keys.{coordinates}
-use Rattle.meaning.specs.Words.{wordIndex, wordAt, coordinateAt, linkAt, dimensionsAt, largestAt, cellsAt, baseAt, linkField, positionAt}
+use Rattle.settings.proofs.Levels.{power-some}
+use Rattle.meaning.specs.Keys.{coordinate, shared, blockStart}
+use Rattle.meaning.specs.Words.{wordIndex, wordAt, keyAt, dimensionsAt, largestAt, cellsAt, baseAt, positionAt}
 use Rattle.meaning.specs.Walk.{linkRead, stepAlong, stepAt}
 use Rattle.meaning.specs.Layer.Stores.{store}
 use Rattle.meaning.specs.declared.Step.the-variants.{Go, Up, End}
-use Rattle.meaning.proofs.Keys.{coordinates-length}
+use Rattle.meaning.proofs.Blocks.{block-before, block-inside, block-past}
 use Rattle.words.specs.Shaped.{Shaped, Within}
+use Rattle.words.specs.Sought.{Sought, Met}
 
 -- The settings are words 0 to 3
 
@@ -86,16 +90,10 @@ stores-shaped {s = s} h x j vs = sets-shaped h (wordIndex (s .dimensions) x j) v
 pub word-is : {ws : List ℕ} {s : Settings} → Shaped ws s → (x j : ℕ) {i : ℕ} → i ≡ wordIndex (s .dimensions) x j → getD ws i 0 ≡ wordAt ws x j
 word-is h x j e = rw (shaped-dimensions h, e) refl
 
-pub link-is : {ws : List ℕ} {s : Settings} → Shaped ws s → (x d : ℕ) → wordAt ws x (linkField (s .dimensions) d) ≡ linkAt ws x d
-link-is h x d = rw (shaped-dimensions h) refl
-
 pub position-is : {ws : List ℕ} {s : Settings} → Shaped ws s → getD ws (headerWords + s .dimensions - 1) 0 ≡ positionAt ws
 position-is h = rw (shaped-dimensions h) refl
 
-pub link-within : {s : Settings} {x d : ℕ} → x < s .cells → d < s .dimensions → Within s x (linkField (s .dimensions) d)
-link-within hx hd = record { cell = hx; field = omega arith }
-
-pub field-within : {s : Settings} {x j : ℕ} → x < s .cells → j < fieldsBeforeCoordinates → Within s x j
+pub field-within : {s : Settings} {x j : ℕ} → x < s .cells → j < fieldsBeforeLinks → Within s x j
 field-within hx hj = record { cell = hx; field = omega arith }
 
 -- Parts
@@ -108,11 +106,6 @@ part-words ws D x j n {start} {end} p q =
     let k : end - start ≡ n = omega arith in
     rw (k, p) refl
 
-pub part-coordinates :
-    (ws : List ℕ) (D x : ℕ) {start end : ℕ} → start ≡ wordIndex D x fieldsBeforeCoordinates → end ≡ start + D →
-    midOf start (end - start) ws ≡ take D (drop (wordIndex D x fieldsBeforeCoordinates) ws)
-part-coordinates ws D x = part-words ws D x fieldsBeforeCoordinates D
-
 -- the list with the part's words as they are after
 pub part-written :
     (ws ys : List ℕ) (D x j n : ℕ) {start end : ℕ} → start ≡ wordIndex D x j → end ≡ start + n → end ≤ length ws → length ys ≡ n →
@@ -122,82 +115,81 @@ part-written ws ys D x j n {start} {end} p q h long =
     rw (← p, drop-drop (end - start) start ws, k)
     (sym (sets-eq ys ws start (omega arith) ∙ append-assoc (take start ws) ys (drop (start + length ys) ws)))
 
--- Words filled
+-- One step, by the cell's key and k's block
 
--- One step, by the cell's coordinate and the sought one
+module _ {ws : List ℕ} {s : Settings} (h : Shaped ws s) (k x d : ℕ) {starts powers : List ℕ} (sought : Sought s k starts powers) (met : Met ws s k x d)
+    {own : ℕ} (here : own ≡ keyAt ws x) where
+  abbrev digit : ℕ → ℕ
+  digit key = coordinate (s .base) (s .dimensions) key d
 
-module _ {ws : List ℕ} {s : Settings} (h : Shaped ws s) (k x d : ℕ) {sought : List ℕ} (is : sought ≡ coordinates (s .base) (s .dimensions) k)
-    {own : ℕ} (here : own ≡ coordinateAt ws x d) where
   step-is :
       stepAt ws k x d
-      ≡ cond (ltb own (getD sought d 0)) (stepAlong (linkRead ws x d))
-      (cond (eqb own (getD sought d 0)) (cond (eqb (d + 1) (s .dimensions)) End Up) End)
+      ≡ cond (ltb (digit own) (digit k)) (stepAlong (linkRead ws x d)) (cond (eqb (digit own) (digit k)) (cond (eqb (d + 1) (s .dimensions)) End Up) End)
   unfolding stepAt
-  step-is = rw (is, here, shaped-dimensions h, shaped-base h, add-one d) refl
+  step-is = rw (here, shaped-dimensions h, shaped-base h, add-one d) refl
 
-  pub step-none : {y : ℕ} → own < getD sought d 0 → y ≡ linkRead ws x d → y ≡ 0 → stepAt ws k x d ≡ End
-  step-none below e none = step-is ∙ rw (lt-ltb own (getD sought d 0) below, ← e, eq-eqb _ 0 none) refl
+  start-is : getD starts d 0 ≡ blockStart (s .base) (s .dimensions) k (suc d)
+  start-is = sought .blocks .level d (met .inside)
 
-  pub step-go : {y : ℕ} → own < getD sought d 0 → y ≡ linkRead ws x d → (y ≡ 0 → ⊥) → stepAt ws k x d ≡ Go y
-  step-go below e some = step-is ∙ rw (lt-ltb own (getD sought d 0) below, ← e, ne-eqb _ 0 some) refl
+  size-is : getD powers (d + 1) 0 ≡ s .base ^ (s .dimensions - suc d)
+  size-is = rw (add-one d) (sought .sizes .level (suc d) (met .inside))
 
-  pub step-last : own ≡ getD sought d 0 → d + 1 ≡ s .dimensions → stepAt ws k x d ≡ End
-  step-last same last =
-      step-is ∙ rw (le-ltb own (getD sought d 0) (omega arith), eq-eqb own (getD sought d 0) same, eq-eqb (d + 1) (s .dimensions) last) refl
+  own-fits : own < s .base ^ s .dimensions
+  own-fits = rw here (met .fits)
 
-  pub step-up : own ≡ getD sought d 0 → (d + 1 ≡ s .dimensions → ⊥) → stepAt ws k x d ≡ Up
-  step-up same more =
-      step-is ∙ rw (le-ltb own (getD sought d 0) (omega arith), eq-eqb own (getD sought d 0) same, ne-eqb (d + 1) (s .dimensions) more) refl
+  own-shares : d ≤ shared (s .base) (s .dimensions) own k
+  own-shares = rw here (met .shares)
 
-  pub step-above : getD sought d 0 < own → stepAt ws k x d ≡ End
-  step-above above = step-is ∙ rw (le-ltb own (getD sought d 0) (omega arith), ne-eqb own (getD sought d 0) (λ e. omega arith)) refl
+  below : own < getD starts d 0 → ltb (digit own) (digit k) ≡ true
+  below less =
+      lt-ltb _ _
+      (block-before (s .base) (s .dimensions) own k d (sought .sizes .some) own-fits (sought .fits) (met .inside) own-shares (omega (arith, less, start-is)))
 
-pub sought-inside : (b D k : ℕ) {sought : List ℕ} {d : ℕ} → sought ≡ coordinates b D k → d < D → d < length sought
-sought-inside b D k e h = rw (e, coordinates-length b D k) h
+  pub step-none : {y : ℕ} → own < getD starts d 0 → y ≡ linkRead ws x d → y ≡ 0 → stepAt ws k x d ≡ End
+  step-none less e none = step-is ∙ rw (below less, ← e, eq-eqb _ 0 none) refl
 
--- Coordinates
+  pub step-go : {y : ℕ} → own < getD starts d 0 → y ≡ linkRead ws x d → (y ≡ 0 → ⊥) → stepAt ws k x d ≡ Go y
+  step-go less e some = step-is ∙ rw (below less, ← e, ne-eqb _ 0 some) refl
 
-pub coordinates-none : (b key : ℕ) (part : List ℕ) → coordinates b (length part) key ≡ coordinates b (length part) key ++ drop (length part) part
-coordinates-none b key part = rw (drop-length part, append-nil (coordinates b (length part) key)) refl
+  module _ (from : getD starts d 0 ≤ own) where
+    same : own - getD starts d 0 < getD powers (d + 1) 0 → digit own ≡ digit k
+    same less =
+        block-inside (s .base) (s .dimensions) own k d (sought .sizes .some) own-fits (sought .fits) (met .inside) own-shares (omega (arith, from, start-is))
+        (omega (arith, from, less, start-is, size-is))
 
--- the last coordinate not yet written, in its word
-pub coordinates-more :
-    (b rest : ℕ) (part : List ℕ) {i j : ℕ} → i ≡ suc j → j < length part →
-    coordinates b i rest ++ drop i part ≡ coordinates b j (rest / b) ++ drop j (set part j (rest % b))
-unfolding coordinates
-coordinates-more b rest part {i} {j} e h =
-    let v = rest % b in
-    rw (
-      e,
-      append-assoc (coordinates b j (rest / b)) (v ∷ []) (drop (suc j) part),
-      drop-cons (set part j v) j 0 (lt-length-set part j v h),
-      getD-set-same part j v 0 h,
-      drop-set-lt (suc j) part j v (omega arith),
-    )
-    refl
+    pub step-last : own - getD starts d 0 < getD powers (d + 1) 0 → d + 1 ≡ s .dimensions → stepAt ws k x d ≡ End
+    step-last less last =
+        let e = same less in
+        step-is ∙ rw (le-ltb (digit own) (digit k) (omega arith), eq-eqb (digit own) (digit k) e, eq-eqb (d + 1) (s .dimensions) last) refl
 
-pub coordinates-all : (b rest : ℕ) (part : List ℕ) {i : ℕ} → i ≡ 0 → coordinates b i rest ++ drop i part ≡ part
-unfolding coordinates
-coordinates-all b rest part e = rw e refl
+    pub step-up : own - getD starts d 0 < getD powers (d + 1) 0 → (d + 1 ≡ s .dimensions → ⊥) → stepAt ws k x d ≡ Up
+    step-up less more =
+        let e = same less in
+        step-is ∙ rw (le-ltb (digit own) (digit k) (omega arith), eq-eqb (digit own) (digit k) e, ne-eqb (d + 1) (s .dimensions) more) refl
 
--- the coordinates written over the first D of some words
-pub coordinates-first :
-    (b D key : ℕ) (l : List ℕ) {ys : List ℕ} → D ≤ length l → ys ≡ coordinates b (length (take D l)) key →
-    (take D (ys ++ drop D l) ≡ coordinates b D key) × (length (ys ++ drop D l) ≡ length l)
-coordinates-first b D key l {ys} h e =
-    let p : ys ≡ coordinates b D key = e ∙ ap (λ (n : ℕ). coordinates b n key) (length-take-le D l h) in
-    let n : length ys ≡ D = ap length p ∙ coordinates-length b D key in
-    (take-at ys (drop D l) D n ∙ p, omega (arith, length-append ys (drop D l), length-drop D l))
+    pub step-above : getD powers (d + 1) 0 ≤ own - getD starts d 0 → stepAt ws k x d ≡ End
+    step-above past =
+        let some : 0 < getD powers (d + 1) 0 = power-some (sought .sizes) (omega (arith, met .inside)) in
+        let above =
+        block-past (s .base) (s .dimensions) own k d (sought .sizes .some) own-fits (sought .fits) (met .inside) own-shares
+        (omega (arith, from, past, some, start-is, size-is))
+        in
+        step-is ∙ rw (le-ltb (digit own) (digit k) (omega arith), ne-eqb (digit own) (digit k) (λ e. omega arith)) refl
 
--- the coordinates written as cell x's
-pub coordinates-written :
-    {ws : List ℕ} {s : Settings} → Shaped ws s → (x key : ℕ) {ys : List ℕ} {start end : ℕ} → x < s .cells →
-    start ≡ wordIndex (s .dimensions) x fieldsBeforeCoordinates → end ≡ start + s .dimensions →
-    ys ≡ coordinates (s .base) (length (midOf start (end - start) ws)) key →
-    putMid start (end - start) ws ys ≡ sets ws (wordIndex (s .dimensions) x fieldsBeforeCoordinates) (coordinates (s .base) (s .dimensions) key)
-coordinates-written {ws} {s} h x key {ys} {start} {end} hx p q e =
-    let D = s .dimensions in
-    let inside : end ≤ length ws = omega (arith, part-inside h hx fieldsBeforeCoordinates D (omega arith)) in
-    let long : length (midOf start (end - start) ws) ≡ D = omega (arith, mid-len start end ws inside) in
-    let is : ys ≡ coordinates (s .base) D key = e ∙ ap (λ (n : ℕ). coordinates (s .base) n key) long in
-    rw is (part-written ws (coordinates (s .base) D key) D x fieldsBeforeCoordinates D p q inside (coordinates-length (s .base) D key))
+-- The starts of k's blocks
+
+-- those up to level d are written
+abbrev pub StartsTo : Settings → ℕ → List ℕ → ℕ → Type 0
+StartsTo s k starts n = (d : ℕ) → d < n → getD starts d 0 ≡ blockStart (s .base) (s .dimensions) k (suc d)
+
+pub starts-more :
+    {s : Settings} {powers : List ℕ} (p : PowersOf s powers) (k : ℕ) (starts : List ℕ) {n v : ℕ} → n < s .dimensions → n < length starts →
+    StartsTo s k starts n → v ≡ k - k % getD powers (n + 1) 0 → StartsTo s k (set starts n v) (n + 1)
+unfolding blockStart
+starts-more {s} {powers} p k starts {n} {v} inside long before e d less = go (ℕ-discrete d n)
+  where
+    go : Dec (d ≡ n) → getD (set starts n v) d 0 ≡ blockStart (s .base) (s .dimensions) k (suc d)
+    go (yes q) =
+        let power : getD powers (n + 1) 0 ≡ s .base ^ (s .dimensions - suc n) = rw (add-one n) (p .level (suc n) inside) in
+        rw q (getD-set-same starts n v 0 long ∙ e ∙ ap (λ m. k - k % m) power)
+    go (no ne) = getD-set-other starts n d v 0 ne ∙ before d (omega (arith, less, ne))

@@ -1,2 +1,3 @@
--- When words have the shape of a list: what the accessors ask.
+-- When words have the shape of a list: what the accessors ask; and what the walk's step asks.
 pub mod Shaped
+pub mod Sought

@@ -1,15 +1,15 @@
 // The words of a list, used in place: reading and writing a word of a cell, a cell's links read through what is owed, one step of the
-// walk, and a key's coordinates as words. What takes a list asks that its words have the shape of one (Shaped), and what writes a
+// walk, and a key's blocks. What takes a list asks that its words have the shape of one (Shaped), and what writes a
 // cell's word hands that on.
 ghost use mathlib.Core.Path.{_≡_};
-ghost use Prim.Native.Nat.{_<_, _≤_};
-ghost use lib.ListN.{length, take, replicate};
+ghost use Prim.Native.Nat.{_-_, _%_, _<_, _≤_};
 ghost use Rattle.settings.specs.Numbers.{mostDimensions, mostCells};
-ghost use Rattle.meaning.specs.Keys.{coordinates};
-ghost use Rattle.meaning.specs.Words.{wordIndex, wordAt, positionAt, owedAt, coordinateAt, linkField, linkAt};
+ghost use Rattle.settings.specs.Levels.{PowersOf};
+ghost use Rattle.meaning.specs.Words.{wordIndex, wordAt, positionAt, owedAt, linkField, linkAt};
 ghost use Rattle.meaning.specs.Walk.{linkRead, stepAt};
 ghost use Rattle.meaning.specs.Layer.Stores as stores;
 ghost use Rattle.words.specs.Shaped.{Shaped, Within};
+ghost use Rattle.words.specs.Sought.{StartsOf, Sought, Met};
 use meaning::Step;
 use settings::Settings;
 
@@ -32,7 +32,7 @@ pub const LOW: u32 = 4;
 
 pub const HIGH: u32 = 5;
 
-pub const COORDINATES: u32 = Settings::FIELDS_BEFORE_COORDINATES;
+pub const LINKS: u32 = Settings::FIELDS_BEFORE_LINKS;
 
 // The words 1: the marks.
 pub const FREE: u32 = 0;
@@ -79,36 +79,20 @@ pub fn position(list: &[u32], s: Settings) -> u32
     list[i]
 }
 
-// Where link d stands in a cell.
-pub fn link_field(s: Settings, d: u32) -> u32
-    requires { ⌜ (s .dimensions ≤ mostDimensions) × (d < s .dimensions) ⌝ }
-    ensures { λ r. ⌜ r ≡ linkField (s .dimensions) d ⌝ }
-{
-    COORDINATES + s.dimensions + d
-}
-
-// Coordinate d of cell x, as its word has it.
-pub fn coordinate(list: &[u32], s: Settings, x: u32, d: u32) -> u32
-    requires { ⌜ Shaped (now list) s × ((x < s .cells) × (d < s .dimensions)) ⌝ }
-    ensures { λ r. ⌜ r ≡ coordinateAt (now (list .entry)) x d ⌝ }
-{
-    word(list, s, x, COORDINATES + d)
-}
-
 // Link d of cell x, as its word has it.
 pub fn link(list: &[u32], s: Settings, x: u32, d: u32) -> u32
     requires { ⌜ Shaped (now list) s × ((x < s .cells) × (d < s .dimensions)) ⌝ }
     ensures { λ r. ⌜ r ≡ linkAt (now (list .entry)) x d ⌝ }
 {
-    word(list, s, x, link_field(s, d))
+    word(list, s, x, LINKS + d)
 }
 
 // Link d of cell x becomes v.
 pub fn store_link(list: &mut [u32], s: Settings, x: u32, d: u32, v: u32)
     requires { ⌜ Shaped (now list) s × ((x < s .cells) × (d < s .dimensions)) ⌝ }
-    ensures { λ r. ⌜ (now (list .exit) ≡ stores.store (s .dimensions) (now (list .entry)) x (linkField (s .dimensions) d) v) × Shaped (now (list .exit)) s ⌝ }
+    ensures { λ r. ⌜ (now (list .exit) ≡ stores.store (s .dimensions) (now (list .entry)) x (linkField d) v) × Shaped (now (list .exit)) s ⌝ }
 {
-    store(list, s, x, link_field(s, d), v);
+    store(list, s, x, LINKS + d, v);
 }
 
 // Link d of cell x, read from the owed cell where x owes it.
@@ -129,50 +113,58 @@ pub fn link_read(list: &[u32], s: Settings, x: u32, d: u32) -> u32
     link(list, s, owed, d)
 }
 
-// One step of the walk for k from cell x and coordinate d, where `sought` holds k's coordinates.
-pub fn step(list: &[u32], s: Settings, sought: &[u32], k: u32, x: u32, d: u32) -> Step
-    requires { ⌜ Shaped (now list) s × ((now sought ≡ coordinates (s .base) (s .dimensions) k) × ((x < s .cells) × ((d < s .dimensions) × (owedAt (now list) x < s .cells)))) ⌝ }
+// Where the block of a key starts whose level has this power of b.
+pub fn block_start(key: u32, power: u64) -> u64
+    requires { ⌜ 0 < power ⌝ }
+    ensures { λ r. ⌜ r ≡ key - key % power ⌝ }
+{
+    let k = key as u64;
+    k - k % power
+}
+
+// Where the blocks of k start: word d is for that of level d + 1, whose keys share coordinates 0 to d with k.
+pub fn block_starts(k: u32, s: Settings, powers: &[u64]) -> [u64; 16]
+    requires { ⌜ (s .dimensions ≤ mostDimensions) × PowersOf s (now powers) ⌝ }
+    ensures { λ r. ⌜ StartsOf s k r ⌝ }
+{
+    let mut starts = [0u64; 16];
+    let mut d: usize = 0;
+    while d < s.dimensions as usize {
+        starts[d] = block_start(k, powers[d + 1]);
+        d += 1;
+    }
+    starts
+}
+
+// One step of the walk for k from cell x and coordinate d. The cell shares the coordinates before d with k, so at d it is below k before
+// the start of k's next block, equal inside that block, and above it from its end on.
+pub fn step(
+    list: &[u32],
+    s: Settings,
+    starts: &[u64],
+    powers: &[u64],
+    k: u32,
+    x: u32,
+    d: u32,
+) -> Step
+    requires { ⌜ Shaped (now list) s × (Sought s k (now starts) (now powers) × Met (now list) s k x d) ⌝ }
     ensures { λ r. ⌜ r ≡ stepAt (now (list .entry)) k x d ⌝ }
 {
-    let own = coordinate(list, s, x, d);
-    let wanted = sought[d as usize];
-    if own < wanted {
+    let own = word(list, s, x, KEY) as u64;
+    let i = d as usize;
+    let start = starts[i];
+    if own < start {
         let y = link_read(list, s, x, d);
         if y == 0 {
             return Step::End;
         }
         return Step::Go(y);
     }
-    if own == wanted {
+    if own - start < powers[i + 1] {
         if d + 1 == s.dimensions {
             return Step::End;
         }
         return Step::Up;
     }
     Step::End
-}
-
-// The coordinates of a key in base b, as many as there are words for them: its digits, from the last up.
-pub fn write_coordinates(part: &mut [u32], key: u32, b: u32)
-    requires { ⌜ 0 < b ⌝ }
-    ensures { λ r. ⌜ now (part .exit) ≡ coordinates b (length (now (part .entry))) key ⌝ }
-{
-    let mut rest = key;
-    let mut i = part.len();
-    while 0 < i {
-        i -= 1;
-        part[i] = rest % b;
-        rest = rest / b;
-    }
-}
-
-// The D coordinates of a key, in the first of 16 words.
-pub fn coordinates_of(key: u32, s: Settings) -> [u32; 16]
-    requires { ⌜ (s .dimensions ≤ mostDimensions) × (0 < s .base) ⌝ }
-    ensures { λ r. ⌜ (take (s .dimensions) r ≡ coordinates (s .base) (s .dimensions) key) × (length r ≡ mostDimensions) ⌝ }
-{
-    let mut sought = [0u32; 16];
-    let d = s.dimensions as usize;
-    write_coordinates(&mut sought[..d], key, s.base);
-    sought
 }

@@ -133,13 +133,12 @@ fn some_cell(trace: &mut Trace, model: &Model) -> u32 {
     }
 }
 
-/// Each of the six words before the coordinates, some coordinate, and twice as often a link.
+/// Each of the six words before the links, and twice as often a link.
 fn some_field(trace: &mut Trace, settings: &Settings) -> usize {
     let d = trace.dice.below(settings.dimensions);
-    match trace.dice.below(BEFORE_COORDINATES + 3) {
-        field if field < BEFORE_COORDINATES => field,
-        BEFORE_COORDINATES => BEFORE_COORDINATES + d,
-        _ => BEFORE_COORDINATES + settings.dimensions + d,
+    match trace.dice.below(BEFORE_LINKS + 2) {
+        field if field < BEFORE_LINKS => field,
+        _ => BEFORE_LINKS + d,
     }
 }
 
@@ -220,8 +219,7 @@ fn draw_another(trace: &mut Trace, mut model: Model) {
         }
         3 => {
             let (from, cell) = (model.settings.word(0, 0), model.settings.cell_length());
-            let links = BEFORE_COORDINATES + model.settings.dimensions;
-            put_all(trace, &drawn, |index| index >= from && (index - from) % cell >= links);
+            put_all(trace, &drawn, |index| index >= from && (index - from) % cell >= BEFORE_LINKS);
         }
         _ => put_all(trace, &drawn, |_| false),
     }

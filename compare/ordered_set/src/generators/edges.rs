@@ -10,10 +10,10 @@ use crate::settings::{exact_length, Settings};
 pub const FOURTEEN_STEPS: &str = "N 6 60|N 5 50|N 9 90|F 6|T|T|N 2 20|T|T|N 6 61|T|T|S|N 5 51";
 
 /// A note that comes late, when all before it are dead.
-pub const LATE_NOTE: &str = "U 2 15 8 87|N 4 40|N 5 50|N 6 60|N 9 90|T|T|T|T|N 8 80";
+pub const LATE_NOTE: &str = "U 2 15 8 71|N 4 40|N 5 50|N 6 60|N 9 90|T|T|T|T|N 8 80";
 
 /// A late one with no key below it, so that the position is the head.
-pub const LATE_BEFORE_ALL: &str = "U 2 15 8 87|N 4 40|N 5 50|N 9 90|T|T|T|N 2 20";
+pub const LATE_BEFORE_ALL: &str = "U 2 15 8 71|N 4 40|N 5 50|N 9 90|T|T|T|N 2 20";
 
 /// What may come after a late note: a take, dead keys that come late in their turn, the
 /// position's own among them, and one that comes when it is not the least live key.
@@ -21,13 +21,13 @@ const AFTER_LATE_NOTE: &str = "T|N 8 81|T|N 9 91|T|N 9 92|T|N 4 41|T|N 6 61|N 5 
     N 1 10|T|N 1 11|T|T|N 9 93|N 4 42|S|T|N 4 43|T|T|S";
 
 /// A full buffer with a dead key inserted again: three cells beside the head.
-const FULL_BUFFER: &str = "U 2 15 4 47|N 6 60|N 5 50|N 9 90|N 7 70|N 5 51|T|N 7 70|N 4 40|N 5 52|\
+const FULL_BUFFER: &str = "U 2 15 4 39|N 6 60|N 5 50|N 9 90|N 7 70|N 5 51|T|N 7 70|N 4 40|N 5 52|\
     N 5 53|N 7 70|T|T|T|T|N 9 91|N 1 10|S|N 1 10|N 9 92|T|T|S|N 15 1|N 1 2";
 
 const UNREADABLE: &[u8] = b"| |T | T|T\r|T\t|T\0|\0|t|s|TT|T 1|S 0|X|F|F |F  1|F 1 |F 1 2|f 1|\
     F 01|F 00|F +1|F -1|F 1.0|F 0x1|F 4294967296|F 18446744073709551617|A|A 1 1|N|N 1|N 1 2 3|\
     N 1  2|N 1\t2|N 1 4294967296|P 1|P 4294967296 1|L|L 155671|U 2 15 8|U 2 15 8 155671|\
-    U 2 15 8 87 0|F \xC3\xA9 \xFF";
+    U 2 15 8 71 0|F \xC3\xA9 \xFF";
 
 /// No words, no bytes and no last number yet.
 const RECORDS_AT_FIRST: &str = "G|Q 0 1|H 2c|G|Q 0 1|Q 1 1|B 1|G|O 0|G|O 4294967296|B 0|G";
@@ -46,7 +46,7 @@ pub fn edges(trace: &mut Trace) {
         say_all(trace, late);
         say_all(trace, AFTER_LATE_NOTE);
     }
-    trace.say("U 2 15 8 87");
+    trace.say("U 2 15 8 71");
     say_all(trace, FOURTEEN_STEPS);
     unreadable_lines(trace);
     changed_lengths(trace);
@@ -78,13 +78,15 @@ fn set_ups(trace: &mut Trace) {
     for d in [1, 2, 15, 16, 17] {
         for c in [2, 3, 4096, 4097] {
             let exact = exact_length(d, c) as u32;
-            for length in [0, exact - 1, exact, exact + 1].map(|length| length.min(MOST_WORDS)) {
+            // with a cell's coordinates beside its links, as buffers were before
+            let old = exact + c as u32 * d as u32;
+            for length in [0, exact - 1, exact, exact + 1, old].map(|length| length.min(MOST_WORDS)) {
                 say_all(trace, &format!("U {d} 0 {c} {length}|U {d} 1 {c} {length}"));
                 trace.say(format!("U {d} 4294967295 {c} {length}"));
             }
         }
     }
-    say_all(trace, "U 0 15 8 45|U 2 15 0 7|U 2147483648 15 8 87|U 2 15 2147483648 87");
+    say_all(trace, "U 0 15 8 45|U 2 15 0 7|U 2147483648 15 8 71|U 2 15 2147483648 71");
     trace.say("U 4294967295 4294967295 4294967295 0");
     every_operation(trace, 1);
 }
@@ -119,7 +121,9 @@ fn unreadable_lines(trace: &mut Trace) {
 /// One word short or long, none at all, and back again.
 fn changed_lengths(trace: &mut Trace) {
     let exact = trace.state.words.len() as u32;
-    for length in [exact - 1, exact, exact + 1, exact, 0, 4, 5, exact, MOST_WORDS] {
+    // the last but one: a word for each link more, as buffers had when cells held their coordinates
+    let old = exact + trace.state.words[0] * trace.state.words[2];
+    for length in [exact - 1, exact, exact + 1, exact, 0, 4, 5, exact, old, MOST_WORDS] {
         trace.say(format!("L {length}"));
         every_operation(trace, 3);
     }

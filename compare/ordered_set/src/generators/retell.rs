@@ -119,9 +119,6 @@ pub fn stowaway(trace: &mut Trace, mut model: Model) -> Vec<u32> {
     if let Some(cell) = cell {
         words[model.settings.word(cell, KEY)] = key;
         words[model.settings.word(cell, MARK)] = mark;
-        for d in 0..model.settings.dimensions {
-            words[model.settings.coordinate_word(cell, d)] = model.settings.coordinate(key, d);
-        }
     }
     words
 }

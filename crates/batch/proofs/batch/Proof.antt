@@ -1,12 +1,11 @@
 -- `batch::batch` meets its contract: each turn makes one call more, and what is still to be done leads to where the whole batch leads.
-use mathlib.Core.Path.{_≡_, refl, sym, subst, _∙_, ap}
-use mathlib.Core.List.{List, []}
-use Prim.Native.Nat.{ℕ, _+_, _*_, _-_, _/_, _≤_}
+use mathlib.Core.Path.{_≡_, refl, subst}
+use mathlib.Core.List.{List}
+use Prim.Native.Nat.{_*_, _-_, _/_, _≤_}
 use native.Mathlib.Omega.{arith}
 use lib.ListN.{length, drop}
-use lib.Seq.{length-sets}
 use borrow.Author.Needs.{needs}
-use Rattle.meaning.specs.Batch.{callsIn, answerWords, batchLent, batchDone}
+use Rattle.meaning.specs.Batch.{callsIn, batchLent}
 use Rattle.meaning.specs.Layer.Listed.{Listed}
 use Rattle.meaning.specs.declared.Call.{Call}
 use Rattle.batch.proofs.Calls.{calls-more, calls-end, calls-length, fits-room}

@@ -1,5 +1,5 @@
 -- `batch::fit` meets its contract, by its tests.
-use mathlib.Core.Path.{sym, _∙_, refl}
+use mathlib.Core.Path.{refl}
 use borrow.Author.Needs.{needs}
 use Rattle.batch.proofs.Calls.{no-calls-fit, no-room-fits, room-fits, not-calls, are-calls}
 use Rattle.batch.proofs.fit.Statement.{statement}

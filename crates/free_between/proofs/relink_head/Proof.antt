@@ -7,9 +7,8 @@ use Rattle.free_between.proofs.relink_head.Tie as tie
 returns : tie.Need-returns
 returns c =
     let e = c .before .before .store-before-zeros .ensures in
-    let field = c .before .before .before .link-field .ensures in
-    let a = c .before .before .before .before .before .before .args in
-    (relinked (a .s .dimensions) (a .list .now) (a .position) (a .z) field (e .0), e .1)
+    let a = c .before .before .before .before .before .args in
+    (relinked (a .s .dimensions) (a .list .now) (a .position) (a .z) (e .0), e .1)
 
 pub relink-head-spec : {M : Type 1} → statement M
-relink-head-spec = tie.close (tie.spec (λ c κs. search needs) (λ c κs. search needs) (λ c. search needs) returns)
+relink-head-spec = tie.close (tie.spec (λ c. search needs) (λ c κs. search needs) (λ c. search needs) returns)

@@ -3,7 +3,7 @@
 use native.Mathlib.Omega.{arith}
 use borrow.Author.Needs.{needs}
 use Rattle.words.proofs.Shaped.{field-within, set-shaped}
-use Rattle.words.proofs.Listed.{listed-shaped, listed-base}
+use Rattle.words.proofs.Listed.{listed-shaped}
 use Rattle.insert.proofs.Call.{leads-due, leads-words, new-written, parent-cell, p-link, new-cell, new-fits, payable-parent, payable-c, new-leads}
 use Rattle.insert.proofs.add.Statement.{statement}
 use Rattle.insert.proofs.add.Tie as tie
@@ -25,7 +25,7 @@ write-cell-requires : tie.Need-write-cell-requires
 write-cell-requires c κs =
     let pre = c .before .before .before .before .before .before .before .before .before .before .before .before .pre in (
       set-shaped (c .before .before .before .before .before .finish-neighbours .ensures .1) 4 (c .before .word .result) (omega arith),
-      (listed-base (pre .0 .list), new-fits (pre .0) (pre .1 .0) (pre .1 .1 .0) (pre .1 .1 .1)),
+      new-fits (pre .0) (pre .1 .0) (pre .1 .1 .0) (pre .1 .1 .1),
     )
 
 store-link-requires : tie.Need-store-link-requires

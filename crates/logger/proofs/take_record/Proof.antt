@@ -1,6 +1,5 @@
 -- `logger::take_record` meets its contract: the bytes written are those that `note_text` puts, on what was kept before it.
 use mathlib.Core.Path.{sym}
-use mathlib.Core.List.{[]}
 use lib.Seq.{length-take-le}
 use borrow.Author.Needs.{needs}
 use Rattle.logger.specs.Input.{kept}

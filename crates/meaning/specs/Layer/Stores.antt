@@ -1,13 +1,12 @@
 -- What the calls write, word by word: the layer between the meaning and the code. Each function takes the words as they stand to the
 -- words afterwards; D is the number of dimensions.
 use mathlib.Core.Bool.{cond}
-use mathlib.Core.List.{List, [], _∷_, _++_}
-use Prim.Native.Nat.{ℕ, zero, suc, _+_, _-_}
+use mathlib.Core.List.{List, [], _∷_}
+use Prim.Native.Nat.{ℕ, zero, suc, _-_}
 use lib.Dec.{eqb}
 use lib.ListN.{getD, set, replicate}
 use lib.Seq.{sets}
 use Rattle.settings.specs.Numbers.{headerWords}
-use Rattle.meaning.specs.Keys.{coordinates}
 use Rattle.meaning.specs.Words.{wordIndex, owedAt, lowAt, highAt, linkField}
 use Rattle.meaning.specs.Operations.{Slot, slotOwes}
 
@@ -19,7 +18,7 @@ store D ws x j v = set ws (wordIndex D x j) v
 unfoldable pub moveLinks : ℕ → List ℕ → ℕ → ℕ → ℕ → ℕ → List ℕ
 moveLinks D ws n c d zero = ws
 moveLinks D ws n c d (suc k) =
-    moveLinks D (store D (store D ws n (linkField D d) (getD ws (wordIndex D c (linkField D d)) 0)) c (linkField D d) 0) n c (suc d) k
+    moveLinks D (store D (store D ws n (linkField d) (getD ws (wordIndex D c (linkField d)) 0)) c (linkField d) 0) n c (suc d) k
 
 -- .. and owed, low and high of cell n become 0
 abbrev pub clearDebt : ℕ → List ℕ → ℕ → List ℕ
@@ -42,11 +41,11 @@ writeNode D ws x value mark = sets ws (wordIndex D x 1) (value ∷ mark ∷ [])
 abbrev pub newLinks : ℕ → ℕ → ℕ → List ℕ
 newLinks D q c = cond (eqb c 0) (replicate D 0) (set (replicate D 0) q c)
 
--- the words of a new cell: live, its key's coordinates, link q to c where there is a c, every other link 0; its debt if it owes
-unfoldable pub newWords : ℕ → ℕ → ℕ → ℕ → Slot → List ℕ
-newWords b D key value t =
+-- the words of a new cell: live, link q to c where there is a c, every other link 0; its debt if it owes
+unfoldable pub newWords : ℕ → ℕ → ℕ → Slot → List ℕ
+newWords D key value t =
     key ∷ value ∷ 1 ∷ cond (slotOwes t) (t .c) 0 ∷ cond (slotOwes t) (t .p) 0 ∷ cond (slotOwes t) (t .q) 0
-    ∷ (coordinates b D key ++ newLinks D (t .q) (t .c))
+    ∷ newLinks D (t .q) (t .c)
 
 -- what the parent owes is finished, then what c owes, where there is a c: The operations 2
 abbrev pub paidWords : ℕ → List ℕ → ℕ → ℕ → List ℕ
@@ -54,8 +53,8 @@ paidWords D ws parent c = cond (eqb c 0) (finishWords D ws parent) (finishWords 
 
 -- An insert of a key that does not stand, but for the path: the parent's debt and then c's finished, the first free cell taken off its
 -- chain and written, and link p of the parent set to it.
-unfoldable pub insertWords : ℕ → ℕ → List ℕ → ℕ → ℕ → Slot → List ℕ
-insertWords b D ws key value t =
+unfoldable pub insertWords : ℕ → List ℕ → ℕ → ℕ → Slot → List ℕ
+insertWords D ws key value t =
     let paid = paidWords D ws (t .parent) (t .c) in
     let off = set paid 4 (getD paid (wordIndex D (t .n) 0) 0) in
-    store D (sets off (wordIndex D (t .n) 0) (newWords b D key value t)) (t .parent) (linkField D (t .p)) (t .n)
+    store D (sets off (wordIndex D (t .n) 0) (newWords D key value t)) (t .parent) (linkField (t .p)) (t .n)

@@ -19,11 +19,11 @@ finishAll D ws x (suc n) = finishAll D (finishWords D ws x) (suc x) n
 unfoldable pub takeLinks : ℕ → List ℕ → ℕ → List ℕ → ℕ → ℕ → List ℕ
 takeLinks D ws x path d zero = ws
 takeLinks D ws x path d (suc k) =
-    takeLinks D (store D ws x (linkField D d) (getD ws (wordIndex D (getD path d 0) (linkField D d)) 0)) x path (suc d) k
+    takeLinks D (store D ws x (linkField d) (getD ws (wordIndex D (getD path d 0) (linkField d)) 0)) x path (suc d) k
 
 -- .. and the head's link z leads to cell x, its higher links nowhere.
 unfoldable pub relinkHead : ℕ → List ℕ → ℕ → ℕ → List ℕ
-relinkHead D ws x z = sets ws (wordIndex D 0 (linkField D z)) (x ∷ replicate (D - suc z) 0)
+relinkHead D ws x z = sets ws (wordIndex D 0 (linkField z)) (x ∷ replicate (D - suc z) 0)
 
 -- cell x comes to the front of the free chain: its first word holds the first free cell, its other words are 0, and word 4 holds x
 unfoldable pub freeCell : ℕ → List ℕ → ℕ → List ℕ

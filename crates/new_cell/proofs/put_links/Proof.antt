@@ -10,27 +10,26 @@ use Rattle.new_cell.proofs.put_links.Tie as tie
 
 part-write-links-end : tie.Need-part-write-links-end
 part-write-links-end c =
-    let pre = c .before .before .before .before .pre in
-    links-inside (pre .0) (pre .1 .0) (c .before .before .link-field .ensures) (c .before .word-index .ensures .0) refl
+    let pre = c .before .before .before .pre in
+    links-inside (pre .0) (pre .1 .0) (c .before .word-index .ensures .0) refl
 
 write-links-requires : tie.Need-write-links-requires
 write-links-requires c κs =
-    let pre = c .before .before .before .before .before .pre in
-    let field = c .before .before .before .link-field .ensures in
-    λ held. rw (links-long (pre .0) (pre .1 .0) field (c .before .before .word-index .ensures .0) refl) (pre .1 .1 held)
+    let pre = c .before .before .before .before .pre in
+    λ held. rw (links-long (pre .0) (pre .1 .0) (c .before .before .word-index .ensures .0) refl) (pre .1 .1 held)
 
 returns : tie.Need-returns
 returns c =
     let at = c .before .before .before .before .before in
-    let start = at .before .before .before in
+    let start = at .before .before in
     let a = start .args in
     let pre = start .pre in
-    rw (links-written (pre .0) (pre .1 .0) (at .before .link-field .ensures) (at .word-index .ensures .0) refl (a .q) (a .c)
+    rw (links-written (pre .0) (pre .1 .0) (at .word-index .ensures .0) refl (a .q) (a .c)
     (c .before .before .write-links .ensures))
-    (refl, stores-shaped (pre .0) (a .n) (linkField (a .s .dimensions) 0) (newLinks (a .s .dimensions) (a .q) (a .c)))
+    (refl, stores-shaped (pre .0) (a .n) (linkField 0) (newLinks (a .s .dimensions) (a .q) (a .c)))
 
 pub put-links-spec : {M : Type 1} → statement M
 put-links-spec =
     tie.close
-    (tie.spec (λ c κs. search needs) (λ c κs. search needs) (λ c. search needs) (λ c. search needs) (λ c. search needs) (λ c. search needs)
+    (tie.spec (λ c κs. search needs) (λ c. search needs) (λ c. search needs) (λ c. search needs) (λ c. search needs)
     (λ c. search needs) part-write-links-end write-links-requires (λ c. search needs) returns)

@@ -1,5 +1,5 @@
 -- `replay::reply` meets its contract: the bytes written are those that `line_text` puts, on what was held before it.
-use mathlib.Core.Path.{_≡_, sym}
+use mathlib.Core.Path.{sym}
 use native.Mathlib.Omega.{arith}
 use lib.Seq.{length-take-le}
 use borrow.Author.Needs.{needs}

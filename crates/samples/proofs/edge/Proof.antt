@@ -1,6 +1,5 @@
 -- `samples::edge` writes the line of its row: the bytes put, for as many words as the row asks for.
 use mathlib.Core.Path.{sym, _∙_, ap}
-use native.Mathlib.Omega.{arith}
 use lib.ListN.{getD}
 use lib.Seq.{length-take-le}
 use borrow.Author.Needs.{needs}

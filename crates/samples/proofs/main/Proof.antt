@@ -7,7 +7,7 @@ use Rattle.samples.proofs.main.Statement.{statement}
 use Rattle.samples.proofs.main.Tie as tie
 
 abbrev Inv-loop : tie.InvT-loop
-Inv-loop words₀ i₀ words i = (i ≤ 28) × (length words ≡ 155670)
+Inv-loop words₀ i₀ words i = (i ≤ 28) × (length words ≡ 90134)
 
 abbrev μ-loop : tie.MeasureT-loop
 μ-loop words₀ i₀ words i = 28 - i

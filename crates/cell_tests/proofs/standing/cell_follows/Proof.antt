@@ -1,59 +1,42 @@
--- `cell_tests::standing::cell_follows` meets its contract: the coordinates from d on that are still to be compared decide as all of them do.
-use mathlib.Core.Path.{_≡_, refl, _∙_}
-use Prim.Native.Nat.{_-_, _≤_}
+-- `cell_tests::standing::cell_follows` meets its contract: the two starts are those of the levels e and e + 1.
 use native.Mathlib.Omega.{arith}
 use borrow.Author.Needs.{needs}
-use borrow.Author.Tests.{eq-eqb, ne-eqb}
-use Rattle.meaning.specs.Words.{coordinateAt}
-use Rattle.tree.specs.Tree.{allFrom, follows}
-use Rattle.cell_tests.proofs.Tests.{all-start, all-next, all-fails, all-done}
-use Rattle.cell_tests.proofs.OneCell.{sameCoordinate}
+use Rattle.settings.proofs.Levels.{power-some}
+use Rattle.cell_tests.proofs.OneCell.{follows-not, follows-to}
 use Rattle.cell_tests.proofs.standing.cell_follows.Statement.{statement}
 use Rattle.cell_tests.proofs.standing.cell_follows.Tie as tie
 
-abbrev Inv-loop : tie.InvT-loop
-Inv-loop list s x y e d₀ d =
-    (d ≤ e) × (allFrom (sameCoordinate list x y) 0 e ≡ allFrom (sameCoordinate list x y) d (e - d))
+read-level : tie.Need-shared-slice-read-block-start
+read-level c = let s = c .before .before .before .before .before in omega (arith, s .pre .1 .0 .long, s .pre .0 .dimensions-most, s .pre .1 .1 .1 .1)
 
-abbrev μ-loop : tie.MeasureT-loop
-μ-loop list s x y e d₀ d = e - d
+block-start-requires : tie.Need-block-start-requires
+block-start-requires c κs =
+    let s = c .before .before .before .before .before in
+    power-some (s .pre .1 .0) (omega (arith, s .pre .1 .1 .1 .1))
 
-loop-holds : tie.Need-loop-holds Inv-loop μ-loop
-loop-holds c =
-    let a = c .before .args in
-    (search needs, all-start (sameCoordinate (a .list .now) (a .x) (a .y)) (a .e))
-
-returns : tie.Need-returns Inv-loop μ-loop
-unfolding follows
+returns : tie.Need-returns
 returns c =
-    let v = c .before .before .before .before .loop in
-    let a = c .before .before .before .before .before .before .args in
-    let l = a .list .now in
-    let t = ne-eqb (coordinateAt l (a .y) (v .d)) (coordinateAt l (a .x) (v .d)) (λ e. omega arith) in
-    rw (v .inv .1 ∙ all-fails (sameCoordinate l (a .x) (a .y)) (omega arith) t) refl
+    let s = c .before .before .before .before .before .before .before in
+    follows-not (s .pre .0) (s .pre .1 .0) (s .args .x) (s .args .y) (s .pre .1 .1 .1 .1) (c .before .before .before .before .word .ensures) (c .before .before .before .word2 .ensures)
+    (c .before .block-start .ensures) (c .if1 .taken)
 
-loop-again : tie.Need-loop-again Inv-loop μ-loop
-loop-again c =
-    let v = c .before .before .before .before .loop in
-    let a = c .before .before .before .before .before .before .args in
-    let l = a .list .now in
-    let t = eq-eqb (coordinateAt l (a .y) (v .d)) (coordinateAt l (a .x) (v .d)) (omega arith) in
-    (search needs, v .inv .1 ∙ all-next (sameCoordinate l (a .x) (a .y)) (omega arith) t)
+read-next : tie.Need-shared-slice-read-block-start-2
+read-next c = let s = c .before .before .before .before .before .before .before .before in omega (arith, s .pre .1 .0 .long, s .pre .0 .dimensions-most, s .pre .1 .1 .1 .1)
 
-returns-2 : tie.Need-returns-2 Inv-loop μ-loop
-unfolding follows
+block-start-requires-2 : tie.Need-block-start-requires-2
+block-start-requires-2 c κs =
+    let s = c .before .before .before .before .before .before .before .before in
+    power-some (s .pre .1 .0) (omega (arith, s .pre .1 .1 .1 .1))
+
+returns-2 : tie.Need-returns-2
 returns-2 c =
-    let v = c .before .before .before .loop in
-    let a = c .before .before .before .before .before .args in
-    rw (
-      v .inv .1 ∙ all-done (sameCoordinate (a .list .now) (a .x) (a .y)) (omega arith),
-      ← c .before .coordinate3 .ensures,
-      ← c .coordinate4 .ensures,
-    )
-    refl
+    let s = c .before .before .before .before .before .before .before .before .before in
+    follows-to (s .pre .0) (s .pre .1 .0) (s .args .x) (s .args .y) (s .pre .1 .1 .1 .1) (c .before .before .before .before .before .before .word .ensures) (c .before .before .before .before .before .word2 .ensures)
+    (c .before .before .before .block-start .ensures) (c .before .before .if1 .left) (c .block-start2 .ensures)
 
 pub cell-follows-spec : {M : Type 1} → statement M
 cell-follows-spec =
     tie.close
-    (tie.spec Inv-loop μ-loop loop-holds (λ c κs. search needs) (λ c κs. search needs) returns (λ c. search needs) (λ c. search needs) loop-again
-    (λ c κs. search needs) (λ c κs. search needs) returns-2)
+    (tie.spec (λ c κs. search needs) (λ c. search needs) (λ c κs. search needs) (λ c. search needs) read-level block-start-requires returns (λ c. search needs)
+    (λ c. search needs)
+    read-next block-start-requires-2 returns-2)

@@ -10,18 +10,18 @@ use Rattle.is_list.proofs.standing.read.Statement.{statement}
 use Rattle.is_list.proofs.standing.read.Tie as tie
 
 abbrev Inv-loop : tie.InvT-loop
-Inv-loop list s cells₀ numbers₀ count₀ e₀ from₀ seen₀ cells numbers count e from seen = Reading list s seen₀ cells numbers count e from seen
+Inv-loop list s powers cells₀ numbers₀ count₀ e₀ from₀ seen₀ cells numbers count e from seen = Reading list s seen₀ cells numbers count e from seen
 
 abbrev μ-loop : tie.MeasureT-loop
-μ-loop list s cells₀ numbers₀ count₀ e₀ from₀ seen₀ cells numbers count e from seen = seen .left
+μ-loop list s powers cells₀ numbers₀ count₀ e₀ from₀ seen₀ cells numbers count e from seen = seen .left
 
 loop-holds : tie.Need-loop-holds Inv-loop μ-loop
-loop-holds c = reading-starts (c .before .pre) _ _ refl refl
+loop-holds c = reading-starts (c .before .before .pre) _ _ refl refl
 
 go-on-requires : tie.Need-go-on-requires Inv-loop μ-loop
 go-on-requires c κs =
     let k = c .before .before .loop .inv in
-    (c .before .before .before .before .pre .shaped, (k .within .last, (k .number, (hung-least (k .hung), k .pends))))
+    (c .before .before .before .before .before .pre .shaped, (k .within .last, (k .number, (hung-least (k .hung), k .pends))))
 
 returns : tie.Need-returns Inv-loop μ-loop
 returns c = reading-wrong (c .before .before .before .before .before .before .before .before .loop .inv) (c .before .before .before .before .before .go-on .ensures) (c .before .enum-told .given .1) (c .wrong .ensures)
@@ -35,9 +35,9 @@ at-way c = c .before .goes .given .0 .0
 
 enter-requires : tie.Need-enter-requires Inv-loop μ-loop
 enter-requires c κs =
-    let pre = c .before .before .before .before .before .before .before .before .before .before .pre in
+    let pre = c .before .before .before .before .before .before .before .before .before .before .before .pre in
     let k = c .before .before .before .before .before .before .before .before .loop .inv in
-    (pre .shaped, (pre .power, (c .before .before .before .before .before .go-on .ensures .goes (at-way c) (c .before .goes .given .1) .number, k .within)))
+    (pre .shaped, (pre .levels, (c .before .before .before .before .before .go-on .ensures .goes (at-way c) (c .before .goes .given .1) .number, k .within)))
 
 returns-3 : tie.Need-returns-3 Inv-loop μ-loop
 returns-3 c =

@@ -1,5 +1,5 @@
 -- `records::feed::feed_byte` meets its contract, by whether the byte closes the record begun.
-use mathlib.Core.Path.{_≡_, refl, sym, _∙_, ap}
+use mathlib.Core.Path.{sym, _∙_}
 use borrow.Author.Needs.{needs}
 use Rattle.records.proofs.Feeding.{steps-closed, steps-open}
 use Rattle.records.proofs.feed.feed_byte.Statement.{statement}

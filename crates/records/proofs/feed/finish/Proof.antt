@@ -1,5 +1,4 @@
 -- `records::feed::finish` meets its contract, by whether the record begun has any byte.
-use mathlib.Core.Path.{_≡_, refl, sym, _∙_, ap}
 use borrow.Author.Needs.{needs}
 use Rattle.records.proofs.Feeding.{begun-ends, none-ends}
 use Rattle.records.proofs.feed.finish.Statement.{statement}

@@ -1,5 +1,5 @@
 -- `records::note::note_by` meets its contract: reading the record from its start is reading what is left of it after the bytes so far.
-use mathlib.Core.Path.{_≡_, refl, sym, _∙_, ap}
+use mathlib.Core.Path.{_≡_, sym, _∙_, ap}
 use Prim.Native.Nat.{_+_, _-_, _≤_}
 use lib.ListN.{length, drop}
 use borrow.Author.Needs.{needs}

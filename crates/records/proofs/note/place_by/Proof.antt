@@ -1,5 +1,4 @@
 -- `records::note::place_by` meets its contract, by what the byte adds.
-use mathlib.Core.Path.{refl}
 use borrow.Author.Needs.{needs}
 use Rattle.records.proofs.note.place_by.Statement.{statement}
 use Rattle.records.proofs.note.place_by.Tie as tie

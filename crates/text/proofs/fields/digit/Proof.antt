@@ -1,5 +1,4 @@
 -- `text::fields::digit` meets its contract: what is known of the number has a function of its own.
-use mathlib.Core.Path.{refl}
 use borrow.Author.Needs.{needs}
 use Rattle.text.specs.Answers.{digitOn}
 use Rattle.text.proofs.fields.digit.Statement.{statement}

@@ -1,7 +1,7 @@
 -- `text::fields::number` meets its contract: reading the field from its start is reading what is left of it after the digits so far.
 use mathlib.Core.Path.{_≡_, refl, sym, _∙_, ap}
 use Prim.Native.Nat.{_+_, _-_, _≤_}
-use lib.ListN.{length, drop, getD}
+use lib.ListN.{length, drop}
 use borrow.Author.Needs.{needs}
 use Rattle.text.specs.Answers.{digitOn, digitsOn, endedAt}
 use Rattle.text.specs.declared.fields.Begun.the-variants.{NoDigit}
