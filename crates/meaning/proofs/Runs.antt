@@ -41,7 +41,7 @@ use Rattle.meaning.proofs.Slot.{gap, slot-is}
 use Rattle.meaning.proofs.Sentences.{position-key-is}
 use Rattle.meaning.proofs.Outcomes.{on-lists, key-cases, live-cases, insert-outcome-bad-key, insert-outcome-live, insert-outcome-dead, insert-outcome-new}
 use Rattle.meaning.proofs.Outcomes.{finish-outcome-bad-key, finish-outcome-absent, finish-outcome-standing, take-outcome-none, take-outcome-first}
-use Rattle.meaning.proofs.Outcomes.{find-writes-nothing, record-asks, refused-alters-nothing}
+use Rattle.meaning.proofs.Outcomes.{find-writes-nothing, record-asks, refused-alters-nothing, table}
 use Rattle.meaning.proofs.BookRow.{keysIn, isThere, key-stands, node-key}
 use Rattle.meaning.proofs.BookCalls.{finished-keys, revived-keys, added-keys, taken-keys}
 use Rattle.meaning.proofs.Book.{calls-keep-lists}
@@ -346,3 +346,105 @@ insert-inserts key value = on-lists (λ ws. insertOut ws key value .answered .re
         (λ q.
         subst (λ us. Inserts (picture s) us key) (ap (λ (o : Outcome (List ℕ)). o .left) (sym (insert-outcome-dead s v key value h l x a q)))
         (dead-inserts s v key value x a q)))
+
+-- what an accepted insert adds to the keys ahead
+insert-adds : (key value : ℕ) (ws : List ℕ) → isList ws ≡ true → insertOut ws key value .answered .refusal ≡ 0 →
+    keysAhead (insertOut ws key value .left) ≡ keysAhead ws + insertAdds key ws
+unfolding keysAhead outcome
+insert-adds key value ws list z = at (decLe key p)
+  where
+    us : List ℕ
+    us = insertOut ws key value .left
+
+    p : ℕ
+    p = positionKeyAt ws
+
+    keys : List ℕ
+    keys = standingKeys ws
+
+    inserts : Inserts ws us key
+    inserts = insert-inserts key value ws list z
+
+    -- the keys above a position, with the inserted key if it is one of them and did not stand
+    counted : (position : ℕ) → above position (standingKeys us) ≡ cond (hasKey key keys) 0 (cond (ltb position key) 1 0) + above position keys
+    counted position = ap (above position) (inserts .keys) ∙ by (hasKey key keys)
+      where
+        by : (t : Bool) → above position (cond t keys (putKey key keys)) ≡ cond t 0 (cond (ltb position key) 1 0) + above position keys
+        by true = omega arith
+        by false = counts-put (λ k. ltb position k) key keys
+
+    -- above the position: the position stays
+    later : p < key → above (positionKeyAt us) (standingKeys us) ≡ above p keys + cond (hasKey key keys) 0 1
+    later h =
+        ap (λ q. above q (standingKeys us)) (inserts .kept h)
+        ∙ omega (arith, counted p, ap {B = ℕ} (λ t. cond (hasKey key keys) 0 (cond t 1 0)) (lt-ltb p key h))
+
+    -- at or below it: a take would pass the key alone, so what is ahead is the key and what is above it
+    late : key ≤ p → above (positionKeyAt us) (standingKeys us) ≡ above p keys + suc (keysFromTo key p keys)
+    late h =
+        let back = late-inserts ws list key value z h in
+        let kept : isList us ≡ true = calls-keep-lists (alone (Insert key value)) ws list in
+        let taking = back .taken in
+        let moved = take-moved us kept .sum in
+        let reaches = take-reaches us kept (ap (λ (a : Answer). a .refusal) taking) ∙ ap (λ (a : Answer). a .key) taking in
+        let one : 1 ≡ keysFromTo (positionKeyAt us) key (standingKeys us) =
+        sym (ap passedBy taking) ∙ moved ∙ ap (λ q. keysFromTo (positionKeyAt us) q (standingKeys us)) reaches in
+        let none-more = by (hasKey key keys) in
+        omega (arith, back .below, one, above-split (positionKeyAt us) key (standingKeys us) (omega (arith, back .below)), counted key, none-more, above-split key p keys h)
+      where
+        by : (t : Bool) → _≡_ {A = ℕ} (cond t 0 (cond (ltb key key) 1 0)) 0
+        by true = refl
+        by false = ap {B = ℕ} (λ t. cond t 1 0) (le-ltb key key (omega arith))
+
+    at : Dec (key ≤ p) → above (positionKeyAt us) (standingKeys us) ≡ above p keys + insertAdds key ws
+    at (yes h) = rw (le-leb key p h) (late h)
+    at (no n) = let h : p < key = omega arith in rw (lt-leb key p h) (later h)
+
+-- A call of a run with inserts: what it passes and what is ahead after it is what was ahead before it and what it adds.
+abbrev Adds : List ℕ → List ℕ → ℕ → ℕ → Type 0
+Adds ws us passed adds = passed + keysAhead us ≡ keysAhead ws + adds
+
+moved-adds : (ws us : List ℕ) (passed : ℕ) → Moved ws us passed → Adds ws us passed 0
+unfolding keysAhead
+moved-adds ws us passed m =
+    omega (arith, m .sum, ap (above (positionKeyAt us)) (m .keys), above-split (positionKeyAt ws) (positionKeyAt us) (standingKeys ws) (m .onward))
+
+asked-adds : (lent : Lent) (asked : Asked) → isList (lent .words) ≡ true → askedOut lent asked .answered .refusal ≡ 0 →
+    keysAhead (askedOut lent asked .left .words) ≡ keysAhead (lent .words) + askedAdds asked (lent .words)
+asked-adds lent (nothing r) list z = absurd (table r .0 z)
+asked-adds lent (insertion key number) list z = insert-adds key number (lent .words) list z
+
+accepted-adds : (made : Made) (ws : List ℕ) → isList ws ≡ true → (call : Call) → ofRunWithInserts call ≡ true → outcome call (lending made ws) .answered .refusal ≡ 0 →
+    Adds ws (outcome call (lending made ws) .left .words) (passedIn call (outcome call (lending made ws) .answered)) (callAdds call (askedIn made) ws)
+unfolding outcome
+accepted-adds made ws list (SetUp D K C) kind z = absurd (false≢true kind)
+accepted-adds made ws list (Insert key value) kind z = omega (arith, insert-adds key value ws list z)
+accepted-adds made ws list (Find key) kind z = moved-adds ws _ _ (of-run-moved (Find key) (lending made ws) list refl)
+accepted-adds made ws list (Finish key) kind z = moved-adds ws _ _ (of-run-moved (Finish key) (lending made ws) list refl)
+accepted-adds made ws list Take kind z = moved-adds ws _ _ (of-run-moved Take (lending made ws) list refl)
+accepted-adds made ws list Sweep kind z = absurd (false≢true kind)
+accepted-adds made ws list Record kind z =
+    let asks = record-asks (lending made ws) list in
+    let same = ap (λ (o : Outcome Lent). keysAhead (o .left .words)) asks in
+    omega (arith, same, asked-adds (lending made ws) (askedIn made) list (sym (ap (λ (o : Outcome Lent). o .answered .refusal) asks) ∙ z))
+
+call-adds : (made : Made) (ws : List ℕ) → isList ws ≡ true → (ofRunWithInserts (made .call) || not (eqb (madeOn made ws .answered .refusal) 0)) ≡ true →
+    Adds ws (madeOn made ws .left .words) (passedIn (made .call) (madeOn made ws .answered))
+    (cond (eqb (madeOn made ws .answered .refusal) 0) (callAdds (made .call) (askedIn made) ws) 0)
+call-adds made ws list ok = at (ℕ-discrete refusal 0)
+  where
+    refusal : ℕ
+    refusal = madeOn made ws .answered .refusal
+
+    at : Dec (refusal ≡ 0) → Adds ws (madeOn made ws .left .words) (passedIn (made .call) (madeOn made ws .answered))
+        (cond (eqb refusal 0) (callAdds (made .call) (askedIn made) ws) 0)
+    at (yes z) = rw (eq-eqb refusal 0 z) (accepted-adds made ws list (made .call) (kind-accepted (ofRunWithInserts (made .call)) refusal ok z) z)
+    at (no ne) = rw (ne-eqb refusal 0 ne) (moved-adds ws _ _ (refused-moved made ws ne))
+
+pub run-with-inserts-passes : RunWithInsertsPasses
+unfolding afterCalls passedSum addedSum onlyOf
+run-with-inserts-passes [] ws list ok = omega arith
+run-with-inserts-passes (made ∷ calls) ws list ok =
+    let us = madeOn made ws .left .words in
+    let (first, others) = both (ofRunWithInserts (made .call) || not (eqb (madeOn made ws .answered .refusal) 0)) (onlyOf ofRunWithInserts calls us) ok in
+    omega (arith, call-adds made ws list first, run-with-inserts-passes calls us (calls-keep-lists made ws list) others)
