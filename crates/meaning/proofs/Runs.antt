@@ -1,7 +1,7 @@
 -- What a run of takes costs. A take moves the position up and passes the standing keys on the way; no other call of a run moves it, and none
 -- changes the standing keys, so what is passed from one position to the next adds up. An insert adds to what is ahead, and that take which an
 -- insert at or below the position leaves to be made, which passes exactly 1, tells how much.
-use mathlib.Core.Path.{_≡_, refl, sym, ap, ap₂, _∙_, subst, subst₂}
+use mathlib.Core.Path.{_≡_, refl, sym, ap, _∙_, subst, subst₂}
 use mathlib.Core.Bool.{Bool, true, false, cond, _&&_, _||_, not, false≢true, true≢false}
 use mathlib.Core.List.{List, [], _∷_, map}
 use mathlib.Core.Option.{none, some}
@@ -20,14 +20,14 @@ use Rattle.meaning.specs.State.{State, keyOf, positionKey}
 use Rattle.meaning.specs.Picture.{picture}
 use Rattle.meaning.specs.Reading.{isList}
 use Rattle.meaning.specs.Refusals.{Outcome, refused, badKey, keyLive}
-use Rattle.meaning.specs.Operations.{looked, insertOut, findOut, finishOut, takeOut, fromLive, keysPassed, taken, revived, revivedNode, slotFor, added}
+use Rattle.meaning.specs.Operations.{looked, insertOut, finishOut, takeOut, fromLive, keysPassed, taken, revived, revivedNode, slotFor, added}
 use Rattle.meaning.specs.Operations.{paid, finished, withRow, deadFront, deadNode, positionAfter}
 use Rattle.meaning.specs.Records.{Lent, Asked, nothing, insertion, askedOut}
 use Rattle.meaning.specs.Calls.{outcome, Made, alone, lending, madeOn, afterCalls}
 use Rattle.meaning.specs.Book.{standingKeys, hasKey, putKey, askedIn}
 use Rattle.meaning.specs.Runs.{passedIn, passedSum, onlyOf, ofRun, ofRunWithInserts, positionKeyAt, keysFromTo, keysAhead, insertAdds, askedAdds}
 use Rattle.meaning.specs.Runs.{callAdds, addedSum}
-use Rattle.meaning.specs.Promises.{FellBack, RunPasses, RunPassesAtMost, RunWithInsertsPasses}
+use Rattle.meaning.specs.Promises.{RunPasses, RunPassesAtMost, RunWithInsertsPasses}
 use Rattle.meaning.specs.declared.Call.the-variants.{SetUp, Insert, Find, Finish, Take, Sweep, Record}
 use Rattle.meaning.specs.declared.Call.{Call}
 use Rattle.meaning.proofs.State.{Sound}
