@@ -169,11 +169,12 @@ first-moved : (s : State) → Sound s → (x : Node) (later : List Node) → fro
     (positionKey (taken s x) ≡ x .key) × Moved (picture s) (picture (taken s x)) (keysPassed (positionKey s) (x .key) (s .row))
 unfolding taken
 first-moved s v x later e =
-    let at-x = keyOf-head-changed (onCell (x .cell) deadNode) (dead-keeping (x .cell)) (x .cell) (s .row) ∙ taken-key s x later v e in
-    (at-x,
-    subst (Moved (picture s) (picture (taken s x)))
-    (ap (λ k. keysFromTo (positionKey s) k (keysIn (s .row))) at-x ∙ sym (passed-keys (positionKey s) (x .key) (s .row)))
-    (state-moved s (taken s x) v (taken-sound s x later v e) (taken-keys s x) (omega (arith, at-x, up))))
+    let at-x = keyOf-head-changed (onCell (x .cell) deadNode) (dead-keeping (x .cell)) (x .cell) (s .row) ∙ taken-key s x later v e in (
+      at-x,
+      subst (Moved (picture s) (picture (taken s x)))
+          (ap (λ k. keysFromTo (positionKey s) k (keysIn (s .row))) at-x ∙ sym (passed-keys (positionKey s) (x .key) (s .row)))
+          (state-moved s (taken s x) v (taken-sound s x later v e) (taken-keys s x) (omega (arith, at-x, up))),
+    )
   where
     -- the nodes up to the position are dead
     up : positionKey s ≤ x .key
@@ -285,8 +286,11 @@ run-passes calls ws list ok = run-moved calls ws list ok .sum
 pub run-passes-at-most : RunPassesAtMost
 unfolding keysFromTo
 run-passes-at-most calls ws list ok =
-    omega (arith, run-passes calls ws list ok,
-    counts-most (λ key. ltb (positionKeyAt ws) key && leb key (positionKeyAt (afterCalls calls ws))) (standingKeys ws))
+    omega (
+      arith,
+      run-passes calls ws list ok,
+      counts-most (λ key. ltb (positionKeyAt ws) key && leb key (positionKeyAt (afterCalls calls ws))) (standingKeys ws),
+    )
 
 -- With inserts
 
