@@ -84,6 +84,10 @@ before-run =
     afterCalls (map alone (Insert 2 20 ∷ Insert 6 60 ∷ Insert 9 90 ∷ Take ∷ Take ∷ Insert 5 50 ∷ []))
     (setUpOut 2 15 8 (replicate (lengthOf 2 8) 0) .left)
 
+pub before-run-is-list : isList before-run ≡ true
+unfolding before-run computing
+before-run-is-list = refl
+
 pub before-run-stand : standingKeys before-run ≡ 2 ∷ 5 ∷ 6 ∷ 9 ∷ []
 unfolding before-run computing
 before-run-stand = refl

@@ -1,6 +1,6 @@
 -- What a run of takes costs. A take moves the position up and passes the standing keys on the way; no other call of a run moves it, and none
--- changes the standing keys, so what is passed from one position to the next adds up. An insert adds to what is ahead, and that take which an
--- insert at or below the position leaves to be made, which passes exactly 1, tells how much.
+-- changes the standing keys, so what is passed from one position to the next adds up. An insert adds to what is ahead; how much one at or below
+-- the position adds follows from the take that would come next, which passes the key alone.
 use mathlib.Core.Path.{_≡_, refl, sym, ap, _∙_, subst, subst₂}
 use mathlib.Core.Bool.{Bool, true, false, cond, _&&_, _||_, not, false≢true, true≢false}
 use mathlib.Core.List.{List, [], _∷_, map}
@@ -131,7 +131,8 @@ passed-keys position key (x ∷ row) = at (ltb position (x .key) && leb (x .key)
 keys-of : (s : State) → Sound s → standingKeys (picture s) ≡ keysIn (s .row)
 keys-of s v = ap (λ t. keysIn (t .row)) (read-of-picture s v)
 
--- A call of a run: the standing keys stay, the position does not fall, and what is passed are the keys from the one to the other.
+-- A call of a run, and a whole run: the standing keys stay, the position does not fall, and what is passed are the keys from where it was to where
+-- it is.
 record Moved (ws us : List ℕ) (passed : ℕ) : Type 0 where
   keys : standingKeys us ≡ standingKeys ws
   onward : positionKeyAt ws ≤ positionKeyAt us
@@ -142,6 +143,7 @@ moved-nowhere ws us passed same nothing-passed =
     subst₂ (Moved ws) (sym same) (sym nothing-passed)
     (record { keys = refl; onward = omega arith; sum = sym (between-none (positionKeyAt ws) (standingKeys ws)) })
 
+-- one after the other
 moved-onward : (ws us vs : List ℕ) (m n : ℕ) → Moved ws us m → Moved us vs n → Moved ws vs (m + n)
 moved-onward ws us vs m n a c =
     let first = a .onward in
@@ -194,7 +196,8 @@ passedBy a = passedIn Take a
 take-moved : (ws : List ℕ) → isList ws ≡ true → Moved ws (takeOut ws .left) (passedBy (takeOut ws .answered))
 take-moved = on-lists (λ ws. Moved ws (takeOut ws .left) (passedBy (takeOut ws .answered))) (λ s v. at s v (fromLive (s .row)) refl)
   where
-    at : (s : State) → Sound s → (rest : List Node) → fromLive (s .row) ≡ rest → Moved (picture s) (takeOut (picture s) .left) (passedBy (takeOut (picture s) .answered))
+    at : (s : State) → Sound s → (rest : List Node) → fromLive (s .row) ≡ rest →
+        Moved (picture s) (takeOut (picture s) .left) (passedBy (takeOut (picture s) .answered))
     at s v [] e =
         let o = take-outcome-none s v e in
         moved-nowhere (picture s) _ _ (ap (λ (p : Outcome (List ℕ)). p .left) o) (ap (λ (p : Outcome (List ℕ)). passedBy (p .answered)) o)
@@ -204,7 +207,9 @@ take-moved = on-lists (λ ws. Moved ws (takeOut ws .left) (passedBy (takeOut ws 
 
 -- .. and the position is then the taken key
 take-reaches : (ws : List ℕ) → isList ws ≡ true → takeOut ws .answered .refusal ≡ 0 → positionKeyAt (takeOut ws .left) ≡ takeOut ws .answered .key
-take-reaches = on-lists (λ ws. takeOut ws .answered .refusal ≡ 0 → positionKeyAt (takeOut ws .left) ≡ takeOut ws .answered .key) (λ s v z. at s v z (fromLive (s .row)) refl)
+take-reaches =
+    on-lists (λ ws. takeOut ws .answered .refusal ≡ 0 → positionKeyAt (takeOut ws .left) ≡ takeOut ws .answered .key)
+    (λ s v z. at s v z (fromLive (s .row)) refl)
   where
     at : (s : State) → Sound s → takeOut (picture s) .answered .refusal ≡ 0 → (rest : List Node) → fromLive (s .row) ≡ rest →
         positionKeyAt (takeOut (picture s) .left) ≡ takeOut (picture s) .answered .key
@@ -299,7 +304,8 @@ record Inserts (ws us : List ℕ) (key : ℕ) : Type 0 where
   keys : standingKeys us ≡ cond (hasKey key (standingKeys ws)) (standingKeys ws) (putKey key (standingKeys ws))
   kept : positionKeyAt ws < key → positionKeyAt us ≡ positionKeyAt ws
 
-state-inserts : (s t : State) (key : ℕ) → Sound s → Sound t → keysIn (t .row) ≡ cond (hasKey key (keysIn (s .row))) (keysIn (s .row)) (putKey key (keysIn (s .row))) →
+state-inserts : (s t : State) (key : ℕ) → Sound s → Sound t →
+    keysIn (t .row) ≡ cond (hasKey key (keysIn (s .row))) (keysIn (s .row)) (putKey key (keysIn (s .row))) →
     (positionKey s < key → positionKey t ≡ positionKey s) → Inserts (picture s) (picture t) key
 state-inserts s t key v w keys kept =
     record {
@@ -332,7 +338,8 @@ dead-inserts s v key value x standing dead =
     ap (λ t. keyOf (cond t (smallerThan (x .key) (s .row) .cell) (s .position)) (headNode ∷ map revive (s .row))) (lt-leb (x .key) (positionKey s) up)
     ∙ keyOf-head-changed revive (revived-keeping s x value v pre post split) (s .position) (s .row))
 
-insert-inserts : (key value : ℕ) (ws : List ℕ) → isList ws ≡ true → insertOut ws key value .answered .refusal ≡ 0 → Inserts ws (insertOut ws key value .left) key
+insert-inserts : (key value : ℕ) (ws : List ℕ) → isList ws ≡ true → insertOut ws key value .answered .refusal ≡ 0 →
+    Inserts ws (insertOut ws key value .left) key
 insert-inserts key value = on-lists (λ ws. insertOut ws key value .answered .refusal ≡ 0 → Inserts ws (insertOut ws key value .left) key) at
   where
     at : (s : State) → Sound s → insertOut (picture s) key value .answered .refusal ≡ 0 → Inserts (picture s) (insertOut (picture s) key value .left) key
@@ -393,12 +400,12 @@ insert-adds key value ws list z = at (decLe key p)
         let reaches = take-reaches us kept (ap (λ (a : Answer). a .refusal) taking) ∙ ap (λ (a : Answer). a .key) taking in
         let one : 1 ≡ keysFromTo (positionKeyAt us) key (standingKeys us) =
         sym (ap passedBy taking) ∙ moved ∙ ap (λ q. keysFromTo (positionKeyAt us) q (standingKeys us)) reaches in
-        let none-more = by (hasKey key keys) in
-        omega (arith, back .below, one, above-split (positionKeyAt us) key (standingKeys us) (omega (arith, back .below)), counted key, none-more, above-split key p keys h)
+        let first = above-split (positionKeyAt us) key (standingKeys us) (omega (arith, back .below)) in
+        omega (arith, one, first, counted key, not-itself (hasKey key keys), above-split key p keys h)
       where
-        by : (t : Bool) → _≡_ {A = ℕ} (cond t 0 (cond (ltb key key) 1 0)) 0
-        by true = refl
-        by false = ap {B = ℕ} (λ t. cond t 1 0) (le-ltb key key (omega arith))
+        not-itself : (t : Bool) → _≡_ {A = ℕ} (cond t 0 (cond (ltb key key) 1 0)) 0
+        not-itself true = refl
+        not-itself false = ap {B = ℕ} (λ t. cond t 1 0) (le-ltb key key (omega arith))
 
     at : Dec (key ≤ p) → above (positionKeyAt us) (standingKeys us) ≡ above p keys + insertAdds key ws
     at (yes h) = rw (le-leb key p h) (late h)
@@ -418,7 +425,8 @@ asked-adds : (lent : Lent) (asked : Asked) → isList (lent .words) ≡ true →
 asked-adds lent (nothing r) list z = absurd (table r .0 z)
 asked-adds lent (insertion key number) list z = insert-adds key number (lent .words) list z
 
-accepted-adds : (made : Made) (ws : List ℕ) → isList ws ≡ true → (call : Call) → ofRunWithInserts call ≡ true → outcome call (lending made ws) .answered .refusal ≡ 0 →
+accepted-adds : (made : Made) (ws : List ℕ) → isList ws ≡ true → (call : Call) → ofRunWithInserts call ≡ true →
+    outcome call (lending made ws) .answered .refusal ≡ 0 →
     Adds ws (outcome call (lending made ws) .left .words) (passedIn call (outcome call (lending made ws) .answered)) (callAdds call (askedIn made) ws)
 unfolding outcome
 accepted-adds made ws list (SetUp D K C) kind z = absurd (false≢true kind)
