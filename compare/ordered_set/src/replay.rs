@@ -8,7 +8,7 @@ use crate::records::{record, NONE_YET};
 use crate::runs::Runs;
 use std::io::{BufRead, Write};
 
-pub const MOST_WORDS: u32 = 90_134;
+pub const MOST_WORDS: u32 = 155_670;
 pub const MOST_BYTES: u32 = 40_000;
 pub const MOST_BYTES_OF_A_LINE: usize = 30;
 const WORD_BEFORE_SET_UP: u32 = 2_779_096_485;

@@ -15,7 +15,7 @@
 //     O number         makes the last number this one
 //     G                record: hands the bytes over as one record of the logger's export, with the last number
 //
-// LEN of U and L is 0 to 90,134, of B 0 to 40,000; value of Q 0 to 255, number of O 0 to 4,294,967,296, every other number 0 to
+// LEN of U and L is 0 to 155,670, of B 0 to 40,000; value of Q 0 to 255, number of O 0 to 4,294,967,296, every other number 0 to
 // 4,294,967,295. One space between fields, decimal, no leading zeros, at most 64 bytes before the line feed; a last line without line feed
 // counts. Before the first U the buffer has no words; there are no bytes at first, and the last number is 4,294,967,296: no record accepted yet.
 //

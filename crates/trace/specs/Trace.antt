@@ -12,7 +12,7 @@ use Rattle.trace.specs.declared.Kind.the-variants.{Fresh, Make, Put, Len
 
 -- the most words and the most bytes that are held
 abbrev pub mostWords : ℕ
-mostWords = 90134
+mostWords = 155670
 
 abbrev pub mostHeld : ℕ
 mostHeld = 40000

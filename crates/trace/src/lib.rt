@@ -10,7 +10,7 @@ pub mod buffer; // buffer.rt: what a line does to the words
 pub mod bytes; // bytes.rt: what a line does to the bytes and the last number
 pub mod call; // call.rt: the call that a line makes
 
-pub const MOST_WORDS: usize = 90134;
+pub const MOST_WORDS: usize = 155670;
 
 pub const MOST_HELD: usize = 40000;
 

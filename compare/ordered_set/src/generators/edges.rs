@@ -26,7 +26,7 @@ const FULL_BUFFER: &str = "U 2 15 4 39|N 6 60|N 5 50|N 9 90|N 7 70|N 5 51|T|N 7 
 
 const UNREADABLE: &[u8] = b"| |T | T|T\r|T\t|T\0|\0|t|s|TT|T 1|S 0|X|F|F |F  1|F 1 |F 1 2|f 1|\
     F 01|F 00|F +1|F -1|F 1.0|F 0x1|F 4294967296|F 18446744073709551617|A|A 1 1|N|N 1|N 1 2 3|\
-    N 1  2|N 1\t2|N 1 4294967296|P 1|P 4294967296 1|L|L 90135|U 2 15 8|U 2 15 8 90135|\
+    N 1  2|N 1\t2|N 1 4294967296|P 1|P 4294967296 1|L|L 155671|U 2 15 8|U 2 15 8 155671|\
     U 2 15 8 71 0|F \xC3\xA9 \xFF";
 
 /// No words, no bytes and no last number yet.
@@ -78,7 +78,9 @@ fn set_ups(trace: &mut Trace) {
     for d in [1, 2, 15, 16, 17] {
         for c in [2, 3, 4096, 4097] {
             let exact = exact_length(d, c) as u32;
-            for length in [0, exact - 1, exact, exact + 1].map(|length| length.min(MOST_WORDS)) {
+            // with a cell's coordinates beside its links, as buffers were before
+            let old = exact + c as u32 * d as u32;
+            for length in [0, exact - 1, exact, exact + 1, old].map(|length| length.min(MOST_WORDS)) {
                 say_all(trace, &format!("U {d} 0 {c} {length}|U {d} 1 {c} {length}"));
                 trace.say(format!("U {d} 4294967295 {c} {length}"));
             }
@@ -119,7 +121,9 @@ fn unreadable_lines(trace: &mut Trace) {
 /// One word short or long, none at all, and back again.
 fn changed_lengths(trace: &mut Trace) {
     let exact = trace.state.words.len() as u32;
-    for length in [exact - 1, exact, exact + 1, exact, 0, 4, 5, exact, MOST_WORDS] {
+    // the last but one: a word for each link more, as buffers had when cells held their coordinates
+    let old = exact + trace.state.words[0] * trace.state.words[2];
+    for length in [exact - 1, exact, exact + 1, exact, 0, 4, 5, exact, old, MOST_WORDS] {
         trace.say(format!("L {length}"));
         every_operation(trace, 3);
     }

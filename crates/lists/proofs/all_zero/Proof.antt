@@ -1,34 +1,40 @@
--- `lists::all_zero` meets its contract: the words from i on, with the bits of those before, decide as all of them do.
-use mathlib.Core.Path.{_≡_, refl, sym, _∙_}
-use mathlib.Core.Bool.{_&&_}
-use Prim.Native.Nat.{_-_, _≤_}
-use lib.Dec.{eqb}
-use lib.ListN.{length, drop}
+-- `lists::all_zero` meets its contract: the bits are those of the first i words and of the last eight, and in the end of all.
+use Prim.Native.Nat.{_-_, _<_}
+use native.Mathlib.Omega.{arith}
 use borrow.Author.Needs.{needs}
-use Rattle.lists.specs.Zeros.{allZero}
-use Rattle.lists.proofs.AllZero.{zero-more, zero-end}
+use Rattle.lists.specs.Zeros.{ZeroFrom}
+use Rattle.lists.proofs.AllZero.{zero-start, zero-join, zero-or, or-left, zero-decides}
 use Rattle.lists.proofs.all_zero.Statement.{statement}
 use Rattle.lists.proofs.all_zero.Tie as tie
 
 abbrev Inv-loop : tie.InvT-loop
-Inv-loop part bits₀ i₀ bits i = (i ≤ length part) × (allZero part ≡ (eqb bits 0 && allZero (drop i part)))
+Inv-loop part n bits₀ i₀ bits i = (i < n) × (ZeroFrom part 0 i bits × ZeroFrom part (n - 8) 8 bits)
 
 abbrev μ-loop : tie.MeasureT-loop
-μ-loop part bits₀ i₀ bits i = length part - i
+μ-loop part n bits₀ i₀ bits i = n - i
+
+returns : tie.Need-returns Inv-loop μ-loop
+returns c = zero-decides _ (c .few .ensures)
+
+returns-2 : tie.Need-returns-2 Inv-loop μ-loop
+returns-2 c = zero-decides _ (zero-or _ (c .before .four .ensures) (c .four2 .ensures) (omega arith) (omega arith))
 
 loop-holds : tie.Need-loop-holds Inv-loop μ-loop
-loop-holds c = (search needs, refl)
+loop-holds c = (search needs, (zero-start _ 0 _ (c .eight .ensures .none), c .eight .ensures))
 
 loop-again : tie.Need-loop-again Inv-loop μ-loop
 loop-again c =
     let v = c .before .before .loop in
-    (search needs, v .inv .1 ∙ zero-more (c .before .before .before .args .part .now) (v .i) (v .bits) (search needs))
+    let read = c .eight2 .ensures in
+    (search needs, (zero-or _ (v .inv .1 .0) read (omega arith) (omega arith), or-left _ (v .inv .1 .1) read))
 
-returns : tie.Need-returns Inv-loop μ-loop
-returns c =
+returns-3 : tie.Need-returns-3 Inv-loop μ-loop
+returns-3 c =
     let v = c .before .loop in
-    sym (v .inv .1 ∙ zero-end (c .before .before .args .part .now) (v .i) (v .bits) (c .loop-test .left))
+    zero-decides _ (zero-join _ (v .inv .1 .0) (v .inv .1 .1) (omega arith) (omega arith))
 
 pub all-zero-spec : {M : Type 1} → statement M
 all-zero-spec =
-    tie.close (tie.spec Inv-loop μ-loop loop-holds (λ c. search needs) (λ c. search needs) (λ c. search needs) (λ c. search needs) loop-again returns)
+    tie.close
+    (tie.spec Inv-loop μ-loop (λ c κs. search needs) returns (λ c κs. search needs) (λ c κs. search needs) returns-2 (λ c κs. search needs)
+    loop-holds (λ c. search needs) (λ c κs. search needs) (λ c. search needs) (λ c. search needs) loop-again returns-3)
