@@ -11,6 +11,7 @@ mod reading;
 mod records;
 mod replay;
 mod rule;
+mod runs;
 mod settings;
 #[cfg(test)]
 mod tests;

@@ -1,10 +1,11 @@
 //! The replay of a trace: one call a line, and after each the answer and a checksum of the
 //! buffer, so that two implementations can be compared word for word. Lines for bytes also show
-//! a checksum of the bytes and the last number.
+//! a checksum of the bytes and the last number. What the takes passed must add up (runs.rs).
 
 use crate::lines::{answer_each, number};
 use crate::operations::{perform, Answer, Call, LINE_NOT_READABLE};
 use crate::records::{record, NONE_YET};
+use crate::runs::Runs;
 use std::io::{BufRead, Write};
 
 pub const MOST_WORDS: u32 = 155_670;
@@ -57,13 +58,19 @@ impl State {
 
 pub fn replay(input: impl BufRead, output: impl Write) -> std::io::Result<()> {
     let mut state = State::at_first();
-    answer_each(input, output, |fields| match fields.and_then(parse) {
-        None => {
-            format!("{} {}", Answer::refused(LINE_NOT_READABLE), checksum(&state.words))
-        }
-        Some(line) => {
-            let answer = run(&mut state, &line);
-            told(&state, &line, answer)
+    let mut runs = Runs::default();
+    let mut number = 0;
+    answer_each(input, output, |fields| {
+        number += 1;
+        match fields.and_then(parse) {
+            None => {
+                format!("{} {}", Answer::refused(LINE_NOT_READABLE), checksum(&state.words))
+            }
+            Some(line) => {
+                let answer = run(&mut state, &line);
+                runs.note(number, &line, answer, &state.words);
+                told(&state, &line, answer)
+            }
         }
     })
 }

@@ -1,6 +1,7 @@
 //! The fourteen steps and the printed example, and second statements of what the program does, by the words.
 
 mod records;
+mod runs;
 
 use crate::generators::edges::{FOURTEEN_STEPS, LATE_BEFORE_ALL, LATE_NOTE};
 use crate::generators::{named, whole, write};

@@ -1,4 +1,4 @@
--- A list after a few calls, with one debt, a dead key and a position, computed: the premises of the promises are met by it.
+-- A list after a few calls, with one debt, a dead key and a position, computed: the premises of the promises are met by it. And runs of takes.
 use mathlib.Core.Path.{_≡_, refl}
 use mathlib.Core.Bool.{true}
 use mathlib.Core.List.{List, [], _∷_, map}
@@ -13,7 +13,9 @@ use Rattle.meaning.specs.Reading.{read, isList}
 use Rattle.meaning.specs.Words.{keyAt, owedAt, linkAt}
 use Rattle.meaning.specs.Walk.{walk}
 use Rattle.meaning.specs.Operations.{setUpOut, insertOut, finishOut}
-use Rattle.meaning.specs.Calls.{alone, madeOn, afterCalls}
+use Rattle.meaning.specs.Calls.{Made, alone, madeOn, afterCalls}
+use Rattle.meaning.specs.Book.{standingKeys}
+use Rattle.meaning.specs.Runs.{passedSum, onlyOf, ofRun, ofRunWithInserts, positionKeyAt, keysFromTo, keysAhead, addedSum}
 use Rattle.meaning.specs.Promises.{FromFresh, Live}
 use Rattle.meaning.specs.declared.Call.the-variants.{Insert, Find, Finish, Take, Sweep}
 use Rattle.meaning.specs.declared.Call.{Call}
@@ -75,3 +77,52 @@ pub example-links-moved : map links-0 (owing ∷ insertOut owing 6 60 .left ∷ 
     (0 ∷ 2 ∷ []) ∷ (2 ∷ 0 ∷ []) ∷ (2 ∷ 0 ∷ []) ∷ []
 unfolding owing computing
 example-links-moved = refl
+
+-- A list before a run of takes: keys 5 and 9 are live, 2 and 6 dead, and the late key 5 has put the position back on 2.
+pub before-run : List ℕ
+before-run =
+    afterCalls (map alone (Insert 2 20 ∷ Insert 6 60 ∷ Insert 9 90 ∷ Take ∷ Take ∷ Insert 5 50 ∷ []))
+    (setUpOut 2 15 8 (replicate (lengthOf 2 8) 0) .left)
+
+pub before-run-is-list : isList before-run ≡ true
+unfolding before-run computing
+before-run-is-list = refl
+
+pub before-run-stand : standingKeys before-run ≡ 2 ∷ 5 ∷ 6 ∷ 9 ∷ []
+unfolding before-run computing
+before-run-stand = refl
+
+-- A find, a finish and an insert of a live key, which is refused, between the takes; the last take answers 7.
+pub run : List Made
+run = map alone (Take ∷ Find 9 ∷ Finish 5 ∷ Insert 9 91 ∷ Take ∷ Take ∷ [])
+
+pub run-is-run : onlyOf ofRun run before-run ≡ true
+unfolding before-run run computing
+run-is-run = refl
+
+-- The takes pass 1 for key 5 and 2 for key 9, the dead key 6 among them: the standing keys above 2 and up to 9.
+pub run-passed : passedSum run before-run ≡ 3
+unfolding before-run run computing
+run-passed = refl
+
+pub run-keys : keysFromTo (positionKeyAt before-run) (positionKeyAt (afterCalls run before-run)) (standingKeys before-run) ≡ 3
+unfolding before-run run computing
+run-keys = refl
+
+-- With inserts: after key 9 the late key 4, which puts the position back below 5, 6 and 9 and so adds 4; the new key 12, which adds 1; and the
+-- dead key 6 again, below 9 and 12, which adds 3.
+pub run-with-inserts : List Made
+run-with-inserts = map alone (Take ∷ Take ∷ Insert 4 40 ∷ Take ∷ Insert 12 120 ∷ Take ∷ Insert 6 61 ∷ Take ∷ Take ∷ [])
+
+pub inserts-is-run : onlyOf ofRunWithInserts run-with-inserts before-run ≡ true
+unfolding before-run run-with-inserts computing
+inserts-is-run = refl
+
+pub inserts-passed : passedSum run-with-inserts before-run ≡ 9
+unfolding before-run run-with-inserts computing
+inserts-passed = refl
+
+-- 9 passed and 2 ahead at the end (9 and 12) are 3 ahead at the start (5, 6 and 9) and 8 added
+pub inserts-ahead : keysAhead before-run ∷ addedSum run-with-inserts before-run ∷ keysAhead (afterCalls run-with-inserts before-run) ∷ [] ≡ 3 ∷ 8 ∷ 2 ∷ []
+unfolding before-run run-with-inserts computing
+inserts-ahead = refl

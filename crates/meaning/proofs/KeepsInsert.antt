@@ -544,12 +544,16 @@ module _ (s : State) (v : Sound s) (key value : ℕ) (positive : 0 < key) (g : G
       ∙ ap (λ y. y .cell) (smaller-is key (g .pre) (g .post) (g .below) (all-map (λ y h. omega arith) (g .post) (g .above)))
       ∙ sym (ap (λ y. y .cell) last-paid ∙ pay-cell (lastFrom headNode (g .pre)))
 
+  -- the old position's cell has the key that it had
+  old-key : keyOf (s .position) (headNode ∷ (front ++ x ∷ back)) ≡ positionKey s
+  old-key =
+      keyOf-put (s .position) x (headNode ∷ front) back position-old ∙ ap (λ r. keyOf (s .position) (headNode ∷ r)) (sym settled-row) ∙ both-position s t
+
   new-lowered : Lowered settled key (positionAfter s key) (front ++ x ∷ back)
   new-lowered =
       let more = occurrences-put (s .position) x (headNode ∷ front) back in
       let stands = subst (λ r. 0 < occurrences (s .position) (0 ∷ map (λ y. y .cell) r)) settled-row (settled-sound .position) in
-      let l = position-lowers s front x back new-ascends new-apart new-smaller (omega arith)
-      (keyOf-put (s .position) x (headNode ∷ front) back position-old ∙ ap (λ r. keyOf (s .position) (headNode ∷ r)) (sym settled-row) ∙ both-position s t) in
+      let l = position-lowers s front x back new-ascends new-apart new-smaller (omega arith) old-key in
       record {
         stands = l .stands;
         below = l .below;
@@ -571,6 +575,9 @@ module _ (s : State) (v : Sound s) (key value : ℕ) (positive : 0 < key) (g : G
   pub added-position-kept : positionKey s < key → added s key value t .position ≡ s .position
   unfolding added positionAfter
   added-position-kept h = rw (lt-leb key (positionKey s) h) refl
+
+  pub added-key-kept : positionKey s < key → positionKey (added s key value t) ≡ positionKey s
+  added-key-kept h = ap₂ (λ c r. keyOf c (headNode ∷ r)) (added-position-kept h) added-row ∙ old-key
 
   pub added-sound-at : key ≤ s .settings .largest → Sound (added s key value t)
   unfolding added both-gap finished gap-changed

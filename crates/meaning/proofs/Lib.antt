@@ -80,6 +80,7 @@ pub mod Writes
 pub mod Batch
 pub mod OwedCells
 pub mod FallsBack
+pub mod Runs
 pub mod Promises
 pub mod AgainstSlips
 pub mod Examples

@@ -28,6 +28,7 @@ use Rattle.meaning.specs.Promises.{InsertWrites, FinishWrites, SweepWrit
 use Rattle.meaning.specs.Promises.{ListMeansSentences, WalkIsRule, WalkOnce, WalkBounded, WalkEnds, WalkByKeysAlone, OrderIsLexicographic}
 use Rattle.meaning.specs.Promises.{ShapeByKeysAlone, AnswersAreBooked, OneOutcome, RecordIsInsert, LastIsValue, BatchIsCalls, RefusedBatchAltersNothing, BatchRefusals}
 use Rattle.meaning.specs.Promises.{OwedCellsStand, OwedCellsStandFromFresh, OwedCellsStandInSweep, NineIsRetired, WayToLower, LateInserts}
+use Rattle.meaning.specs.Promises.{RunPasses, RunPassesAtMost, RunWithInsertsPasses}
 use Rattle.meaning.proofs.Keys.{shared-agreed, lexicographic, coordinates-determine}
 use Rattle.meaning.proofs.AscendingKeys.{asc-rising, rising-equal}
 use Rattle.meaning.proofs.State.{Sound, base-positive, base-above}
@@ -43,6 +44,7 @@ use Rattle.meaning.proofs.Batch as batch
 use Rattle.meaning.proofs.OwedCells as owed
 use Rattle.meaning.proofs.Lower as lower
 use Rattle.meaning.proofs.FallsBack as back
+use Rattle.meaning.proofs.Runs as runs
 use Rattle.meaning.proofs.Serves as serves
 use Rattle.meaning.proofs.BookPresent as present
 use Rattle.meaning.proofs.Walk as walks
@@ -246,6 +248,15 @@ way-to-lower =
 
 pub late-inserts : LateInserts
 late-inserts = back.late-inserts
+
+pub run-passes : RunPasses
+run-passes = runs.run-passes
+
+pub run-passes-at-most : RunPassesAtMost
+run-passes-at-most = runs.run-passes-at-most
+
+pub run-with-inserts-passes : RunWithInsertsPasses
+run-with-inserts-passes = runs.run-with-inserts-passes
 
 pub refused-alters-nothing : RefusedAltersNothing
 refused-alters-nothing = outcomes.refused-alters-nothing

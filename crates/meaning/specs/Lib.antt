@@ -14,11 +14,12 @@ pub mod Lower
 pub mod Records
 pub mod Calls
 pub mod Batch
--- What cross-checks it: the conditions on the words one by one, what a call writes, what an ordered map would do, the fourteen steps, and
+-- What cross-checks it: the conditions on the words one by one, what a call writes, what an ordered map would do, what a run of takes costs, the fourteen steps, and
 -- what is promised.
 pub mod Sentences
 pub mod Writes
 pub mod Book
+pub mod Runs
 pub mod Fourteen
 pub mod Promises
 -- What stands below, for the code alone.

@@ -28,6 +28,7 @@ use Rattle.meaning.specs.Calls.{outcome, Made, alone, madeOn, afterCalls
 use Rattle.meaning.specs.Batch.{BatchLent, callsIn, answerWords, fits, batchOut}
 use Rattle.meaning.specs.Sentences.{Standing, AList}
 use Rattle.meaning.specs.Layer.SweepStores.{finishAll}
+use Rattle.meaning.specs.Runs.{passedSum, onlyOf, ofRun, ofRunWithInserts, positionKeyAt, keysFromTo, keysAhead, addedSum}
 use Rattle.meaning.specs.Book.{Pair, livePairs, standingKeys, bookOf, bookedAll, replyIn, replyTo}
 use Rattle.meaning.specs.declared.Call.the-variants.{SetUp, Insert, Find, Finish, Take, Sweep, Record}
 use Rattle.meaning.specs.declared.Call.{Call}
@@ -337,6 +338,24 @@ abbrev pub LateInserts : Type 0
 LateInserts =
     (ws : List ℕ) → isList ws ≡ true → (key value : ℕ) → insertOut ws key value .answered .refusal ≡ 0 → key ≤ keyAt ws (positionAt ws)
     → FellBack (insertOut ws key value .left) key value
+
+-- 16. What a run of takes costs. Where every call is a take, a find or a finish, or is refused, the passed figures add up to exactly the
+-- standing keys above the position at the start and up to the position at the end;
+abbrev pub RunPasses : Type 0
+RunPasses =
+    (calls : List Made) (ws : List ℕ) → isList ws ≡ true → onlyOf ofRun calls ws ≡ true
+    → passedSum calls ws ≡ keysFromTo (positionKeyAt ws) (positionKeyAt (afterCalls calls ws)) (standingKeys ws)
+
+-- .. so they never exceed the standing keys at the start.
+abbrev pub RunPassesAtMost : Type 0
+RunPassesAtMost =
+    (calls : List Made) (ws : List ℕ) → isList ws ≡ true → onlyOf ofRun calls ws ≡ true → passedSum calls ws ≤ length (standingKeys ws)
+
+-- .. With inserts between, what is passed and what is still ahead at the end is what was ahead at the start and what the inserts added.
+abbrev pub RunWithInsertsPasses : Type 0
+RunWithInsertsPasses =
+    (calls : List Made) (ws : List ℕ) → isList ws ≡ true → onlyOf ofRunWithInserts calls ws ≡ true
+    → passedSum calls ws + keysAhead (afterCalls calls ws) ≡ keysAhead ws + addedSum calls ws
 
 -- Any two outcomes that a contract allows are equal: the seven exported functions all ensure `Meets o r lent`, of the outcome o of their call
 -- and whatever was lent to it.
