@@ -12,7 +12,7 @@ ghost use Rattle.meaning.specs.Layer.Stores.{finishWords, paidWords};
 ghost use Rattle.meaning.specs.Layer.Listed.{Listed};
 ghost use Rattle.words.specs.Shaped.{Shaped};
 ghost use Rattle.finish.specs.Payable.{Payable};
-ghost use Rattle.search.specs.Found.{Sought};
+ghost use Rattle.search.specs.Found.{Sought, Slotted};
 ghost use Rattle.insert.specs.Inserting.{EndsInSome, PathWritten};
 use meaning::Answer;
 use search::Found;
@@ -29,7 +29,7 @@ fn position_key(list: &[u32], s: Settings) -> u32
 // The operations 2: the cell that is the position after the insert of a key of which the search answered f: if the key is at or below the
 // position's, which is `top`, the standing cell of next smaller key.
 fn position_after(list: &[u32], s: Settings, top: u32, key: u32, f: Found) -> u32
-    requires { ⌜ Sought (now list) s key f × (top ≡ positionKey (read (now list))) ⌝ }
+    requires { ⌜ Slotted (now list) s key f × (top ≡ positionKey (read (now list))) ⌝ }
     ensures { λ r. ⌜ r ≡ positionAfter (read (now (list .entry))) key ⌝ }
 {
     if key <= top {
@@ -74,9 +74,9 @@ fn finish_neighbours(list: &mut [u32], s: Settings, f: Found)
     finish::finish_cell(list, s, f.c);
 }
 
-// A new cell n, the first free one, in the slot that was found.
-fn add(list: &mut [u32], s: Settings, n: u32, f: Found, key: u32, value: u32)
-    requires { ⌜ Sought (now list) s key f × ((f .standing ≡ false) × ((n ≡ getD (now list) 4 0) × (0 < n))) ⌝ }
+// A new cell n, the first free one, in the slot that was found. Who knows the slot without a search need not know looked.
+pub fn add(list: &mut [u32], s: Settings, n: u32, f: Found, key: u32, value: u32)
+    requires { ⌜ Slotted (now list) s key f × ((f .standing ≡ false) × ((n ≡ getD (now list) 4 0) × (0 < n))) ⌝ }
     ensures { λ r. ⌜ now (list .exit) ≡ insertOut (now (list .entry)) key value .left ⌝ }
 {
     let top = position_key(list, s);

@@ -18,7 +18,9 @@ use Rattle.meaning.specs.Reading.{read, settingsAt, isList}
 use Rattle.meaning.specs.Refusals.{Outcome, accepted, nothingLive, refused}
 use Rattle.meaning.specs.Operations.{fresh, setUpOut, fromLive, keysAbove, keysPassed, taken, takeOut}
 use Rattle.meaning.specs.Calls.{Made, madeOn, afterCalls}
-use Rattle.meaning.specs.Book.{Pair, pair, livePairs, bookOf, bookedAll}
+use Rattle.files.specs.Files.{Pair}
+use Rattle.meaning.specs.Pairs.{pair, livePairs}
+use Rattle.meaning.specs.Book.{bookOf, bookedAll}
 use Rattle.meaning.specs.Promises.{ListsStayLists, CallsKeepLists, keepsSettings, CallsKeepSettings, takes, TakesInTurn, TakesEnd, CallsAreBooked}
 use Rattle.meaning.proofs.State.{Sound}
 use Rattle.meaning.proofs.Picture.{picture-largest, picture-cells}
