@@ -114,17 +114,20 @@ rising-most below K (p ∷ pairs) e =
     let k = both (ltb below (p .key)) (leb (p .key) K) (t .0) in
     (leb-true (p .key) K (k .1), rising-most (p .key) K pairs (t .1))
 
--- what may be kept: the ranges, the number of the pairs and the order of their keys
-keeps-parts :
-    (s : Settings) (pairs : List Pair) → keeps s pairs ≡ true →
-    (inRange (s .dimensions) (s .largest) (s .cells) ≡ true) × ((length pairs < s .cells) × (rising 0 (s .largest) pairs ≡ true))
+-- the tests of `keeps`, as facts
+pub record Keepable (s : Settings) (pairs : List Pair) : Type 0 where
+  pub ranges : inRange (s .dimensions) (s .largest) (s .cells) ≡ true
+  pub room : length pairs < s .cells
+  pub rises : rising 0 (s .largest) pairs ≡ true
+
+pub keepable : (s : Settings) (pairs : List Pair) → keeps s pairs ≡ true → Keepable s pairs
 unfolding keeps
-keeps-parts s pairs e =
-    let range = inRange (s .dimensions) (s .largest) (s .cells) in
-    let few = ltb (length pairs) (s .cells) in
-    let t = both (range && few) (rising 0 (s .largest) pairs) e in
-    let h = both range few (t .0) in
-    (h .0, (ltb-true (length pairs) (s .cells) (h .1), t .1))
+keepable s pairs kept =
+    let ranges = inRange (s .dimensions) (s .largest) (s .cells) in
+    let room = ltb (length pairs) (s .cells) in
+    let t = both (ranges && room) (rising 0 (s .largest) pairs) kept in
+    let u = both ranges room (t .0) in
+    record { ranges = u .0; room = ltb-true (length pairs) (s .cells) (u .1); rises = t .1 }
 
 -- .. and so every number fits its bytes
 record Fits (s : Settings) (pairs : List Pair) : Type 0 where
@@ -136,9 +139,9 @@ record Fits (s : Settings) (pairs : List Pair) : Type 0 where
 
 fits : (s : Settings) (pairs : List Pair) → Kept s pairs → Fits s pairs
 fits s pairs kept =
-    let parts = keeps-parts s pairs (kept .keeps-them) in
-    let few = parts .1 .0 in
-    let r = ranges (s .dimensions) (s .largest) (s .cells) (parts .0) in
+    let k = keepable s pairs (kept .keeps-them) in
+    let few = k .room in
+    let r = ranges (s .dimensions) (s .largest) (s .cells) (k .ranges) in
     let most = r .largest-most in
     let values = every-all (λ p. ltb (p .value) 4294967296) pairs (kept .values) in
     record {
@@ -146,7 +149,7 @@ fits s pairs kept =
       largest = omega arith;
       cells = omega (arith, r .cells-most);
       number = omega (arith, r .cells-most);
-      each = all-zip (λ p key value. (omega arith, ltb-true (p .value) 4294967296 value)) pairs (rising-most 0 (s .largest) pairs (parts .1 .1)) values;
+      each = all-zip (λ p key value. (omega arith, ltb-true (p .value) 4294967296 value)) pairs (rising-most 0 (s .largest) pairs (k .rises)) values;
     }
 
 module _ (s : Settings) (pairs : List Pair) (kept : Kept s pairs) where
@@ -223,18 +226,21 @@ pub tested : (bytes : List ℕ) → isFile bytes ≡ true → Tested bytes
 unfolding isFile pairsIn
 tested bytes e =
     let t = both (keeps (settingsIn bytes) (pairsIn bytes)) (same (fileOf (settingsIn bytes) (pairsIn bytes)) bytes) e in
-    let parts = keeps-parts (settingsIn bytes) (pairsIn bytes) (t .0) in
-    let few = parts .1 .0 in
+    let k = keepable (settingsIn bytes) (pairsIn bytes) (t .0) in
+    let few = k .room in
     record {
-      range = parts .0;
+      range = k .ranges;
       few = omega (arith, few, pairs-in-length bytes);
-      rise = parts .1 .1;
+      rise = k .rises;
       is = same-eq (fileOf (settingsIn bytes) (pairsIn bytes)) bytes (t .1);
     }
 
-pub tested-keeps : (bytes : List ℕ) → isFile bytes ≡ true → keeps (settingsIn bytes) (pairsIn bytes) ≡ true
+pub file-keeps : (bytes : List ℕ) → isFile bytes ≡ true → keeps (settingsIn bytes) (pairsIn bytes) ≡ true
 unfolding isFile
-tested-keeps bytes e = both (keeps (settingsIn bytes) (pairsIn bytes)) (same (fileOf (settingsIn bytes) (pairsIn bytes)) bytes) e .0
+file-keeps bytes e = both (keeps (settingsIn bytes) (pairsIn bytes)) (same (fileOf (settingsIn bytes) (pairsIn bytes)) bytes) e .0
+
+pub file-written : (bytes : List ℕ) → isFile bytes ≡ true → fileOf (settingsIn bytes) (pairsIn bytes) ≡ bytes
+file-written bytes e = tested bytes e .is
 
 pub tested-is-file : (bytes : List ℕ) → Tested bytes → isFile bytes ≡ true
 unfolding isFile keeps pairsIn

@@ -13,7 +13,7 @@ use Rattle.files.specs.Files.{numberAt, settingsIn, pairsFrom, pairsIn, 
 use Rattle.files.specs.Promises.{Kept, FilesExactly, WrittenIsRead}
 use Rattle.files.proofs.Numbers.{Bytes, bytes-drop}
 use Rattle.files.proofs.Parts.{number-at-below}
-use Rattle.files.proofs.Files.{tested, tested-length, tested-keeps, file-bytes, settings-read, pairs-read, file-is-file, contents-read}
+use Rattle.files.proofs.Files.{tested, tested-length, file-keeps, file-bytes, settings-read, pairs-read, file-is-file, contents-read}
 
 -- values that are read out of bytes have 32 bits
 values-fit : (n : ℕ) (bytes : List ℕ) → Bytes bytes → 8 * n ≤ length bytes → All (λ p. ltb (p .value) 4294967296 ≡ true) (pairsFrom n bytes)
@@ -32,7 +32,7 @@ read-kept bytes e =
     let rest = drop bytesBefore bytes in
     let n = numberAt 2 31 bytes in
     record {
-      keeps-them = tested-keeps bytes e;
+      keeps-them = file-keeps bytes e;
       base = refl;
       values =
           all-every (λ p. ltb (p .value) 4294967296) (pairsFrom n rest)

@@ -1,7 +1,7 @@
 -- Each way out of the reading of a whole file answers what the bytes are read as: where a test fails, they pass not all tests of a file,
 -- and past the last they do.
-use mathlib.Core.Path.{_≡_, refl, sym, ap, _∙_}
-use mathlib.Core.Bool.{Bool, true, false, cond, false≢true}
+use mathlib.Core.Path.{_≡_, sym, ap, _∙_}
+use mathlib.Core.Bool.{Bool, true, false, false≢true}
 use mathlib.Core.List.{List}
 use Prim.Native.Nat.{ℕ, _≤_, _<_}
 use native.Mathlib.Omega.{arith}
@@ -9,10 +9,11 @@ use lib.ListN.{length, take, drop}
 use Rattle.lists.specs.Lists.{same}
 use Rattle.lists.proofs.Same.{same-refl, same-eq}
 use Rattle.settings.specs.Numbers.{inRange}
-use Rattle.settings.specs.Checked.{settingsOf, checkedOf}
+use Rattle.settings.specs.Checked.{checkedOf}
 use Rattle.settings.specs.declared.Settings.{Settings}
 use Rattle.settings.specs.declared.Checked.{Checked}
 use Rattle.settings.specs.declared.Checked.the-variants.{Accepted, OutOfRange}
+use Rattle.settings.proofs.Ranges.{checked-out, checked-in}
 use Rattle.files.specs.Files.{numberAt, settingsIn, pairsFrom, rising, contentsOf, bytesBefore, fileLength}
 use Rattle.files.specs.declared.Contents.the-variants.{IsFile, NotAFile}
 use Rattle.files.proofs.Numbers.{Bytes}
@@ -21,25 +22,6 @@ use Rattle.files.proofs.Files.{tested-length, tested-table, written-aga
 
 pub too-short : (bytes : List ℕ) → length bytes < bytesBefore → contentsOf bytes ≡ NotAFile
 too-short bytes h = no-file bytes (λ t. omega (arith, h, tested-length bytes t))
-
--- what the checked constructor answers says whether the ranges hold
-checked-out : (D K C : ℕ) {checked : Checked} → checked ≡ checkedOf D K C → checked ≡ OutOfRange → inRange D K C ≡ false
-unfolding checkedOf
-checked-out D K C is e = at (inRange D K C) (sym is ∙ e)
-  where
-    at : (t : Bool) → cond t (Accepted (settingsOf D K C)) OutOfRange ≡ OutOfRange → t ≡ false
-    at true e = absurd (let z : _≡_ {A = ℕ} 0 1 = cc in omega arith)
-    at false e = refl
-
-checked-in :
-    (D K C : ℕ) {checked : Checked} {s : Settings} → checked ≡ checkedOf D K C → checked ≡ Accepted s →
-    (inRange D K C ≡ true) × (s ≡ settingsOf D K C)
-unfolding checkedOf
-checked-in D K C {s = s} is e = at (inRange D K C) (sym is ∙ e)
-  where
-    at : (t : Bool) → cond t (Accepted (settingsOf D K C)) OutOfRange ≡ Accepted s → (t ≡ true) × (s ≡ settingsOf D K C)
-    at true e = (refl, (cc))
-    at false e = absurd (let z : _≡_ {A = ℕ} 0 1 = cc in omega arith)
 
 module _ (bytes : List ℕ) {n : ℕ} (is : n ≡ numberAt 2 31 bytes) where
   pub wrong-length : {long : ℕ} → long ≡ fileLength n → (length bytes ≡ long → ⊥) → contentsOf bytes ≡ NotAFile

@@ -13,6 +13,7 @@ use borrow.Author.Tests.{eq-eqb, ne-eqb, lt-ltb, le-ltb, le-leb, lt-leb}
 use Rattle.settings.specs.Numbers.{inRange, lengthOf}
 use Rattle.settings.specs.declared.Settings.{Settings}
 use Rattle.lists.specs.Lists.{those}
+use Rattle.files.proofs.Files.{file-keeps}
 use Rattle.meaning.specs.Row.{Node, nodeAt}
 use Rattle.meaning.specs.State.{State}
 use Rattle.meaning.specs.Picture.{picture}
@@ -51,7 +52,7 @@ use Rattle.meaning.proofs.BookRow.{pairsIn, keysIn, pairs-dead, pairs-p
 use Rattle.meaning.proofs.BookRow.{key-lives, node-key, changed-alone, pairs-empty, pairs-first, kept-keys, kept-pairs, absent-changed}
 use Rattle.meaning.proofs.BookRow.{put-pairs, put-keys}
 use Rattle.meaning.proofs.ReadIn.{read-state-sound, read-list}
-use Rattle.meaning.proofs.Saved.{file-keeps, write-keeps-words, read-outcome-bad-file, read-outcome-wrong-length, read-cases, read-leaves}
+use Rattle.meaning.proofs.Saved.{write-keeps-words, read-outcome-bad-file, read-outcome-wrong-length, read-cases, read-leaves}
 
 -- the largest key, the cells, the live pairs and the standing keys of a state
 abbrev pub bookIn : State → Book

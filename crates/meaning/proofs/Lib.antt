@@ -63,6 +63,7 @@ pub mod ReadInPath
 pub mod Saved
 pub mod BookCalls
 pub mod Book
+pub mod Restart
 pub mod BookReplies
 pub mod Listed
 pub mod BookPresent

@@ -29,7 +29,7 @@ use Rattle.meaning.specs.Promises.{ListMeansSentences, WalkIsRule, WalkO
 use Rattle.meaning.specs.Promises.{ShapeByKeysAlone, AnswersAreBooked, OneOutcome, RecordIsInsert, LastIsValue, BatchIsCalls, RefusedBatchAltersNothing, BatchRefusals}
 use Rattle.meaning.specs.Promises.{OwedCellsStand, OwedCellsStandFromFresh, OwedCellsStandInSweep, NineIsRetired, WayToLower, LateInserts}
 use Rattle.meaning.specs.Promises.{RunPasses, RunPassesAtMost, RunWithInsertsPasses}
-use Rattle.meaning.specs.Promises.{ReadIsCalls, ReadGivesList, WriteThenRead, FileIsWritten}
+use Rattle.meaning.specs.Promises.{ReadIsCalls, ReadGivesList, ReadIsFresh, WriteThenRead, FileIsWritten}
 use Rattle.meaning.proofs.Keys.{shared-agreed, lexicographic, coordinates-determine}
 use Rattle.meaning.proofs.AscendingKeys.{asc-rising, rising-equal}
 use Rattle.meaning.proofs.State.{Sound, base-positive, base-above}
@@ -47,6 +47,7 @@ use Rattle.meaning.proofs.Lower as lower
 use Rattle.meaning.proofs.FallsBack as back
 use Rattle.meaning.proofs.Runs as runs
 use Rattle.meaning.proofs.Saved as saved
+use Rattle.meaning.proofs.Restart as restart
 use Rattle.meaning.proofs.Serves as serves
 use Rattle.meaning.proofs.BookPresent as present
 use Rattle.meaning.proofs.Walk as walks
@@ -266,11 +267,14 @@ read-is-calls = saved.read-is-calls
 pub read-gives-list : ReadGivesList
 read-gives-list = saved.read-gives-list
 
+pub read-is-fresh : ReadIsFresh
+read-is-fresh = restart.read-is-fresh
+
 pub write-then-read : WriteThenRead
-write-then-read = saved.write-then-read
+write-then-read = restart.write-then-read
 
 pub file-is-written : FileIsWritten
-file-is-written = saved.file-is-written
+file-is-written = restart.file-is-written
 
 pub refused-alters-nothing : RefusedAltersNothing
 refused-alters-nothing = outcomes.refused-alters-nothing

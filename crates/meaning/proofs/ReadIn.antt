@@ -16,6 +16,7 @@ use Rattle.settings.specs.declared.Settings.{Settings}
 use Rattle.lists.specs.Lists.{numbersFrom, firstNumber}
 use Rattle.lists.proofs.All.{All}
 use Rattle.files.specs.Files.{Pair, keeps}
+use Rattle.files.proofs.Files.{keepable}
 use Rattle.meaning.specs.Row.{Node, nodeAt, put}
 use Rattle.meaning.specs.State.{State, positionKey}
 use Rattle.meaning.specs.Picture.{picture}
@@ -29,7 +30,7 @@ use Rattle.meaning.proofs.State.{Sound}
 use Rattle.meaning.proofs.KeepsState.{position-head}
 use Rattle.meaning.proofs.Slot.{Gap, put-gap, SlotIs, slot-is}
 use Rattle.meaning.proofs.Outcomes.{set-up-outcome, insert-outcome-new, finish-outcome-bad-key, finish-outcome-absent, finish-outcome-standing, key-cases}
-use Rattle.meaning.proofs.ReadState.{keepable, keeps-left, pairNode, nodes-unowing, NextPair, next-pair, read-unowing}
+use Rattle.meaning.proofs.ReadState.{keeps-left, pairNode, nodes-unowing, NextPair, next-pair, read-unowing}
 pub use Rattle.meaning.proofs.ReadState.{read-state-sound, read-list}
 
 -- Insert of the next pair

@@ -16,6 +16,7 @@ use Rattle.lists.specs.Lists.{those}
 use Rattle.lists.proofs.Those.{those-none}
 use Rattle.lists.proofs.All.{All, all-map}
 use Rattle.files.specs.Files.{Pair, keeps}
+use Rattle.files.proofs.Files.{keepable}
 use Rattle.meaning.specs.Keys.{shared}
 use Rattle.meaning.specs.Row.{Node, headNode, nodeAt, smallerThan}
 use Rattle.meaning.specs.State.{State}
@@ -28,7 +29,7 @@ use Rattle.meaning.proofs.Parent.{asc-last, last-greatest, first-front}
 use Rattle.meaning.proofs.Smaller.{smaller-is}
 use Rattle.meaning.proofs.Path.{pathFor-length, pathFor-at}
 use Rattle.meaning.proofs.Path as path
-use Rattle.meaning.proofs.ReadState.{keepable, keeps-left, pairNode, nodes-ascend, next-pair}
+use Rattle.meaning.proofs.ReadState.{keeps-left, pairNode, nodes-ascend, next-pair}
 use Rattle.meaning.proofs.ReadIn.{node-absent, read-state-sound}
 
 -- The last key

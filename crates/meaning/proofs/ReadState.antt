@@ -17,6 +17,7 @@ use Rattle.lists.proofs.Those.{those-all}
 use Rattle.lists.proofs.All.{All, all-map, all-at}
 use Rattle.lists.proofs.Tests.{both, and-both}
 use Rattle.files.specs.Files.{Pair, rising, keeps}
+use Rattle.files.proofs.Files.{keepable}
 use Rattle.meaning.specs.Row.{Node, firstOf}
 use Rattle.meaning.specs.Picture.{picture}
 use Rattle.meaning.specs.Reading.{read}
@@ -33,21 +34,6 @@ use Rattle.meaning.proofs.KeepsState.{position-head, unowing-debts}
 use Rattle.meaning.proofs.KeepsSetUp.{fresh-sound}
 
 -- What may be kept
-
--- the tests of `keeps`, as facts
-pub record Keepable (s : Settings) (pairs : List Pair) : Type 0 where
-  pub ranges : inRange (s .dimensions) (s .largest) (s .cells) ≡ true
-  pub room : length pairs < s .cells
-  pub rises : rising 0 (s .largest) pairs ≡ true
-
-pub keepable : (s : Settings) (pairs : List Pair) → keeps s pairs ≡ true → Keepable s pairs
-unfolding keeps
-keepable s pairs kept =
-    let ranges = inRange (s .dimensions) (s .largest) (s .cells) in
-    let room = ltb (length pairs) (s .cells) in
-    let t = both (ranges && room) (rising 0 (s .largest) pairs) kept in
-    let u = both ranges room (t .0) in
-    record { ranges = u .0; room = ltb-true (length pairs) (s .cells) (u .1); rises = t .1 }
 
 rising-left : (low K : ℕ) (front rest : List Pair) → rising low K (front ++ rest) ≡ true → rising low K front ≡ true
 unfolding rising

@@ -1,36 +1,33 @@
 -- Write and read. What a list keeps may stand in a file, so that a file of it is read again; an accepted file is what writing gives. Reading is by
 -- definition the calls that it stands for, and these leave the picture of the state that the file's pairs make (ReadIn.antt).
-use mathlib.Core.Path.{_≡_, refl, sym, _∙_, ap, ap₂, subst}
+use mathlib.Core.Path.{_≡_, refl, sym, _∙_, ap, subst}
 use mathlib.Core.Bool.{Bool, true, false, _&&_}
 use mathlib.Core.List.{List, [], _∷_, _++_, map}
 use Prim.Native.Nat.{ℕ, suc, _≤_, _<_}
 use native.Mathlib.Decide.{ℕ-discrete, decLe}
 use native.Mathlib.Omega.{arith}
 use lib.Dec.{leb, ltb}
-use lib.ListN.{length, take, drop}
-use lib.Seq.{take-at}
+use lib.ListN.{length, drop}
 use borrow.Author.Tests.{eq-eqb, ne-eqb, lt-ltb, le-leb, lt-leb}
 use Rattle.settings.specs.Numbers.{inRange, lengthOf}
 use Rattle.settings.specs.declared.Settings.{Settings}
 use Rattle.settings.proofs.Numbers.{in-range}
-use Rattle.lists.specs.Lists.{those, same}
+use Rattle.lists.specs.Lists.{those}
 use Rattle.lists.proofs.All.{All}
-use Rattle.lists.proofs.Same.{same-eq}
-use Rattle.lists.proofs.Tests.{both, and-both, cond-has}
+use Rattle.lists.proofs.Tests.{and-both, cond-has}
 use Rattle.files.specs.Files.{Pair, fileOf, settingsIn, pairsIn, rising, keeps, isFile, contentsOf}
-use Rattle.files.specs.Promises.{Kept}
 use Rattle.files.specs.declared.Contents.the-variants.{IsFile}
-use Rattle.files.proofs.Promises.{written-is-read}
+use Rattle.files.proofs.Files.{file-keeps}
 use Rattle.meaning.specs.Row.{Node}
 use Rattle.meaning.specs.State.{State}
 use Rattle.meaning.specs.Picture.{picture}
 use Rattle.meaning.specs.Reading.{read, settingsAt, isList, readingOf}
-use Rattle.meaning.specs.Refusals.{Outcome, accepted, answer, wrongLength, notAList, badFile, noRoom, refused}
+use Rattle.meaning.specs.Refusals.{Outcome, accepted, wrongLength, notAList, badFile, noRoom, refused}
 use Rattle.meaning.specs.Operations.{setUpOut}
 use Rattle.meaning.specs.Pairs.{livePairs}
 use Rattle.meaning.specs.Saved.{FileLent, fileLent, written, writeOn, writeOut, insertedAll, finishedAll, readIn, readFrom, readOut}
 use Rattle.meaning.specs.Calls.{Made, alone, outcome, afterCalls}
-use Rattle.meaning.specs.Promises.{fileCalls, ReadIsCalls, ReadList, ReadGivesList, ValuesFit, WriteThenRead, FileIsWritten}
+use Rattle.meaning.specs.Promises.{fileCalls, ReadIsCalls, ReadList, ReadGivesList}
 use Rattle.meaning.specs.Layer.ReadState.{readState}
 use Rattle.meaning.specs.declared.Call.the-variants.{Insert, Finish}
 use Rattle.meaning.specs.declared.Reading.{Reading}
@@ -39,7 +36,7 @@ use Rattle.meaning.proofs.AscendingRow.{Asc}
 use Rattle.meaning.proofs.State.{Sound}
 use Rattle.meaning.proofs.StateCells.{free-length}
 use Rattle.meaning.proofs.Picture.{picture-length}
-use Rattle.meaning.proofs.ReadBack.{list-is-picture, list-sound}
+use Rattle.meaning.proofs.ReadBack.{list-is-picture}
 use Rattle.meaning.proofs.BookRow as rows
 use Rattle.meaning.proofs.BookRow.{pairs-live, pairs-dead}
 use Rattle.meaning.proofs.ReadIn.{read-in-is, read-list}
@@ -83,25 +80,9 @@ state-kept s v =
     (and-both (inRange D K C) (ltb (length pairs) C) (in-range D K C (v .ranges)) (lt-ltb (length pairs) C few))
     (pairs-rise K 0 0 (s .row) (omega arith) (v .ascends) (v .keys))
 
-list-kept : (ws : List ℕ) → isList ws ≡ true → ValuesFit ws → Kept (settingsAt ws) (livePairs ws)
-unfolding read
-list-kept ws e fits = record { keeps-them = state-kept (read ws) (list-sound ws e); base = list-sound ws e .base; values = fits }
-
-list-length : (ws : List ℕ) → isList ws ≡ true → length ws ≡ lengthOf (settingsAt ws .dimensions) (settingsAt ws .cells)
+pub list-length : (ws : List ℕ) → isList ws ≡ true → length ws ≡ lengthOf (settingsAt ws .dimensions) (settingsAt ws .cells)
 unfolding read
 list-length ws e = ap length (sym (list-is-picture ws e)) ∙ picture-length (read ws)
-
--- What an accepted file is
-
-pub file-keeps : (bytes : List ℕ) → isFile bytes ≡ true → keeps (settingsIn bytes) (pairsIn bytes) ≡ true
-unfolding isFile
-file-keeps bytes e = both (keeps (settingsIn bytes) (pairsIn bytes)) (same (fileOf (settingsIn bytes) (pairsIn bytes)) bytes) e .0
-
-file-written : (bytes : List ℕ) → isFile bytes ≡ true → fileOf (settingsIn bytes) (pairsIn bytes) ≡ bytes
-unfolding isFile
-file-written bytes e =
-    let file = fileOf (settingsIn bytes) (pairsIn bytes) in
-    same-eq file bytes (both (keeps (settingsIn bytes) (pairsIn bytes)) (same file bytes) e .1)
 
 -- Write, case by case
 
@@ -135,7 +116,7 @@ room-cases {R} lent small enough = at (decLe (length (fileFor (lent .words))) (l
     at (no h) = small (omega arith)
 
 -- an accepted write was of a list, with room
-write-accepted : (lent : FileLent) → writeOut lent .answered .refusal ≡ 0 →
+pub write-accepted : (lent : FileLent) → writeOut lent .answered .refusal ≡ 0 →
     (isList (lent .words) ≡ true) × (length (fileFor (lent .words)) ≤ length (lent .file))
 write-accepted lent z = at (isList (lent .words)) refl
   where
@@ -190,7 +171,7 @@ read-cases {R} lent bad wrong good =
     at true e (yes exact) = good e exact
 
 -- an accepted read was of a file, into a buffer of its length
-read-accepted : (lent : FileLent) → readOut lent .answered .refusal ≡ 0 → (isFile (lent .file) ≡ true) × RightLength lent
+pub read-accepted : (lent : FileLent) → readOut lent .answered .refusal ≡ 0 → (isFile (lent .file) ≡ true) × RightLength lent
 read-accepted lent z =
     read-cases lent
     (λ e. absurd (omega (arith, z, ap (λ o. o .answered .refusal) (read-outcome-bad-file lent e))))
@@ -240,59 +221,3 @@ read-gives-list lent z =
     let s = settingsIn (lent .file) in
     let pairs = pairsIn (lent .file) in
     subst (λ ws. ReadList ws s pairs) (sym (read-leaves lent (a .0) (a .1))) (read-list s pairs (file-keeps (lent .file) (a .0)) refl)
-
--- What is written is read, and what is read was written
-
--- a file of settings and pairs that may be kept is read
-read-written : (s : Settings) (pairs : List Pair) (words : List ℕ) → Kept s pairs → length words ≡ lengthOf (s .dimensions) (s .cells) →
-    readOut (fileLent words (fileOf s pairs)) .answered ≡ answer 0 0 0 (length pairs)
-unfolding readOut
-read-written s pairs words kept exact =
-    rw (written-is-read s pairs kept .1 .1, eq-eqb (length words) (lengthOf (s .dimensions) (s .cells)) exact) refl
-
-module _ (lent : FileLent) (words : List ℕ) (fits : ValuesFit (lent .words)) (z : writeOut lent .answered .refusal ≡ 0) where
-  s : Settings
-  s = settingsAt (lent .words)
-
-  pairs : List Pair
-  pairs = livePairs (lent .words)
-
-  kept : Kept s pairs
-  unfolding s pairs
-  kept = list-kept (lent .words) (write-accepted lent z .0) fits
-
-  -- the bytes that the answer counts are the file
-  written-file : take (writeOut lent .answered .count) (writeOut lent .left .file) ≡ fileFor (lent .words)
-  written-file =
-      let a = write-accepted lent z in
-      let file = fileFor (lent .words) in
-      ap (λ o. take (o .answered .count) (o .left .file)) (write-outcome lent (a .0) (a .1))
-      ∙ take-at file (drop (length file) (lent .file)) (length file) refl
-
-  read-again : (file : List ℕ) → file ≡ fileFor (lent .words) → length words ≡ length (lent .words) →
-      (readOut (fileLent words file) .answered ≡ answer 0 0 0 (length pairs)) × (livePairs (readOut (fileLent words file) .left .words) ≡ pairs)
-  unfolding s pairs
-  read-again file e long =
-      let is = fileFor (lent .words) in
-      let read = read-written s pairs words kept (long ∙ list-length (lent .words) (write-accepted lent z .0)) in
-      let list = read-gives-list (fileLent words is) (ap (λ a. a .refusal) read) in
-      rw e (read, list .live ∙ written-is-read s pairs kept .1 .0)
-
-pub write-then-read : WriteThenRead
-unfolding pairs
-write-then-read lent words fits z long = read-again lent words fits z _ (written-file lent words fits z) long
-
--- a list with these settings and pairs is written so
-written-so : (ws file : List ℕ) (s : Settings) (pairs : List Pair) → ReadList ws s pairs → length (fileOf s pairs) ≤ length file →
-    writeOut (fileLent ws file) .left .file ≡ fileOf s pairs ++ drop (length (fileOf s pairs)) file
-written-so ws file s pairs list room =
-    let same : fileFor ws ≡ fileOf s pairs = ap₂ fileOf (list .settings) (list .live) in
-    ap (λ o. o .left .file) (write-outcome (fileLent ws file) (list .list) (subst (λ f. length f ≤ length file) (sym same) room))
-    ∙ ap (λ f. f ++ drop (length f) file) same
-
-pub file-is-written : FileIsWritten
-file-is-written lent file z room =
-    let same = file-written (lent .file) (read-accepted lent z .0) in
-    written-so (readOut lent .left .words) file (settingsIn (lent .file)) (pairsIn (lent .file)) (read-gives-list lent z)
-    (subst (λ f. length f ≤ length file) (sym same) room)
-    ∙ ap (λ f. f ++ drop (length f) file) same

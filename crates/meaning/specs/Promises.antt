@@ -171,7 +171,7 @@ PresentMeansThatKey =
     → ((insertOut ws key value .answered .refusal ≡ 5) ↔ Live ws key)
     × ((findOut ws key .answered .refusal ≡ 0) ↔ Live ws key)
 
--- 7. Each node once, in its turn: taking until 7 hands out exactly the live pairs, ascending.
+-- 7. Each node once, in its turn: n takes hand out the first n live pairs, ascending, and all of them if there are no more than n.
 unfoldable pub takes : ℕ → List ℕ → List Pair
 takes zero ws = []
 takes (suc n) ws =
@@ -181,7 +181,7 @@ takes (suc n) ws =
     ]
 
 abbrev pub TakesInTurn : Type 0
-TakesInTurn = (ws : List ℕ) → isList ws ≡ true → (n : ℕ) → length (livePairs ws) ≤ n → takes n ws ≡ livePairs ws
+TakesInTurn = (ws : List ℕ) → isList ws ≡ true → (n : ℕ) → takes n ws ≡ take n (livePairs ws)
 
 -- .. and a take answers 7 exactly if nothing is live.
 abbrev pub TakesEnd : Type 0
@@ -390,17 +390,25 @@ abbrev pub ReadGivesList : Type 0
 ReadGivesList =
     (lent : FileLent) → readOut lent .answered .refusal ≡ 0 → ReadList (readOut lent .left .words) (settingsIn (lent .file)) (pairsIn (lent .file))
 
+-- .. and whatever lay in the words before, it is as if they had been set up: all that is promised from a fresh list on (1, 5, 13) is promised of it.
+abbrev pub ReadIsFresh : Type 0
+ReadIsFresh = (lent : FileLent) → readOut lent .answered .refusal ≡ 0 → FromFresh (readOut lent .left .words)
+
 -- Each value that waits is a number of 32 bits: every lent word is one, and a file has no room for more.
 abbrev pub ValuesFit : List ℕ → Type 0
 ValuesFit ws = every (λ p. ltb (p .value) 4294967296) (livePairs ws) ≡ true
 
--- .. Write then read gives the same live pairs, whatever the bytes past the file and the words held; so the takes are the same (7).
+-- .. Write then read gives a list with the same settings and live pairs, and the same takes, whatever the bytes past the file and the words held.
+pub record Restarted (ws us : List ℕ) : Type 0 where
+  pub list : ReadList us (settingsAt ws) (livePairs ws)
+  pub takes-same : (n : ℕ) → takes n us ≡ takes n ws
+
 abbrev pub WriteThenRead : Type 0
 WriteThenRead =
     (lent : FileLent) (words : List ℕ) → ValuesFit (lent .words) → writeOut lent .answered .refusal ≡ 0 → length words ≡ length (lent .words)
     → let file = take (writeOut lent .answered .count) (writeOut lent .left .file) in
     (readOut (fileLent words file) .answered ≡ answer 0 0 0 (length (livePairs (lent .words))))
-    × (livePairs (readOut (fileLent words file) .left .words) ≡ livePairs (lent .words))
+    × Restarted (lent .words) (readOut (fileLent words file) .left .words)
 
 -- .. Each accepted file is what writing its list gives, into bytes of whatever content that are enough.
 abbrev pub FileIsWritten : Type 0

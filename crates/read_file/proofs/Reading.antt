@@ -18,6 +18,7 @@ use Rattle.files.specs.Files.{Pair, bytesBefore, fileLength, fileOf, settingsIn
 use Rattle.files.specs.declared.Contents.the-variants.{IsFile, NotAFile}
 use Rattle.files.proofs.Written.{file-length}
 use Rattle.files.proofs.Pairs.{pairAt, pairs-in-length, pairs-more}
+use Rattle.files.proofs.Files.{keepable}
 use Rattle.meaning.specs.Picture.{picture}
 use Rattle.meaning.specs.Refusals.{answer, Meets}
 use Rattle.meaning.specs.Operations.{setUpOut}
@@ -26,7 +27,7 @@ use Rattle.meaning.specs.Layer.Listed.{Listed}
 use Rattle.meaning.specs.Layer.ReadState.{nodesFrom, readState, lastKey}
 use Rattle.meaning.specs.declared.Answer.{Answer}
 use Rattle.meaning.proofs.Path.{path-head}
-use Rattle.meaning.proofs.ReadState.{keepable, keeps-left}
+use Rattle.meaning.proofs.ReadState.{keeps-left}
 use Rattle.meaning.proofs.ReadIn.{read-in-is}
 use Rattle.paths.specs.Paths.{pathOf, Formed}
 use Rattle.paths.specs.declared.Path.{Path}
