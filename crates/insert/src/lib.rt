@@ -8,12 +8,13 @@ ghost use Rattle.meaning.specs.Reading.{read};
 ghost use Rattle.meaning.specs.Refusals.{Meets};
 ghost use Rattle.meaning.specs.Operations.{positionAfter, insertOut};
 ghost use Rattle.meaning.specs.Words.{markAt};
-ghost use Rattle.meaning.specs.Layer.Stores.{finishWords, paidWords};
+ghost use Rattle.meaning.specs.Layer.Stores.{finishWords, paidWords, hungWords};
 ghost use Rattle.meaning.specs.Layer.Listed.{Listed};
 ghost use Rattle.words.specs.Shaped.{Shaped};
 ghost use Rattle.finish.specs.Payable.{Payable};
-ghost use Rattle.search.specs.Found.{Sought, Slotted};
-ghost use Rattle.insert.specs.Inserting.{EndsInSome, PathWritten};
+ghost use Rattle.search.specs.Found.{Sought};
+ghost use Rattle.new_cell.specs.NewCell.{slotOf, Fits};
+ghost use Rattle.insert.specs.Inserting.{EndsInSome, PathWritten, ComesLast};
 use meaning::Answer;
 use search::Found;
 use settings::Settings;
@@ -29,7 +30,7 @@ fn position_key(list: &[u32], s: Settings) -> u32
 // The operations 2: the cell that is the position after the insert of a key of which the search answered f: if the key is at or below the
 // position's, which is `top`, the standing cell of next smaller key.
 fn position_after(list: &[u32], s: Settings, top: u32, key: u32, f: Found) -> u32
-    requires { ⌜ Slotted (now list) s key f × (top ≡ positionKey (read (now list))) ⌝ }
+    requires { ⌜ Sought (now list) s key f × (top ≡ positionKey (read (now list))) ⌝ }
     ensures { λ r. ⌜ r ≡ positionAfter (read (now (list .entry))) key ⌝ }
 {
     if key <= top {
@@ -74,19 +75,44 @@ fn finish_neighbours(list: &mut [u32], s: Settings, f: Found)
     finish::finish_cell(list, s, f.c);
 }
 
-// A new cell n, the first free one, in the slot that was found. Who knows the slot without a search need not know looked.
-pub fn add(list: &mut [u32], s: Settings, n: u32, f: Found, key: u32, value: u32)
-    requires { ⌜ Slotted (now list) s key f × ((f .standing ≡ false) × ((n ≡ getD (now list) 4 0) × (0 < n))) ⌝ }
+// Cell n, the first free one, is taken off its chain and written, and hung from the parent.
+fn hang(list: &mut [u32], s: Settings, n: u32, f: Found, key: u32, value: u32)
+    requires { ⌜ Shaped (now list) s × (Fits s n f × ((f .parent < s .cells) × (f .p < s .dimensions))) ⌝ }
+    ensures { λ r. ⌜ (now (list .exit) ≡ hungWords (s .dimensions) (now (list .entry)) key value (slotOf n f)) × Shaped (now (list .exit)) s ⌝ }
+{
+    // as any free cell's, n's first word holds the next free cell
+    list[words::FIRST_FREE] = words::word(list, s, n, words::KEY);
+    new_cell::write_cell(list, s, n, f, key, value);
+    words::store_link(list, s, f.parent, f.p, n);
+}
+
+// A new cell n, the first free one, in the slot that was found.
+fn add(list: &mut [u32], s: Settings, n: u32, f: Found, key: u32, value: u32)
+    requires { ⌜ Sought (now list) s key f × ((f .standing ≡ false) × ((n ≡ getD (now list) 4 0) × (0 < n))) ⌝ }
     ensures { λ r. ⌜ now (list .exit) ≡ insertOut (now (list .entry)) key value .left ⌝ }
 {
     let top = position_key(list, s);
     let position = position_after(list, s, top, key, f);
     finish_neighbours(list, s, f);
-    // as any free cell's, n's first word holds the next free cell
-    list[words::FIRST_FREE] = words::word(list, s, n, words::KEY);
-    new_cell::write_cell(list, s, n, f, key, value);
-    words::store_link(list, s, f.parent, f.p, n);
+    hang(list, s, n, f, key, value);
     move_position(list, s, top, key, position);
+}
+
+// A new cell n, the first free one, for a key of which it is known without a search that no cell has its slot, that its parent owes nothing
+// and that it is above the position: so nothing is finished, and the path stays.
+pub fn add_last(list: &mut [u32], s: Settings, n: u32, parent: u32, p: u32, key: u32, value: u32)
+    requires { ⌜ ComesLast (now list) s key parent p × ((n ≡ getD (now list) 4 0) × (0 < n)) ⌝ }
+    ensures { λ r. ⌜ now (list .exit) ≡ insertOut (now (list .entry)) key value .left ⌝ }
+{
+    let f = Found {
+        standing: false,
+        parent,
+        p,
+        c: 0,
+        q: 0,
+        looked: 0,
+    };
+    hang(list, s, n, f, key, value);
 }
 
 // A key that stands: refused if it is live.

@@ -10,7 +10,6 @@ use native.Mathlib.Omega.{arith}
 use lib.Dec.{eqb}
 use lib.ListN.{length}
 use borrow.Author.Tests.{eq-eqb, ne-eqb}
-use Rattle.settings.specs.declared.Settings.{Settings}
 use Rattle.lists.specs.Lists.{occurrences}
 use Rattle.lists.proofs.Occurrences.{occurrences-between}
 use Rattle.lists.proofs.All.{All, all-left, all-right, all-of-map, all-splits}
@@ -25,7 +24,7 @@ use Rattle.meaning.proofs.Slot as slot
 use Rattle.meaning.proofs.KeepsInsert.{node-split, slot-first}
 use Rattle.meaning.proofs.Placed.{Placed, occurs-placed, placed-below}
 use Rattle.meaning.proofs.BookRow.{node-key, node-has}
-use Rattle.search.specs.Found.{slotNumber, slotParent, slotShared, slotCell, foundAt, foundOf, Sought, Slotted}
+use Rattle.search.specs.Found.{slotNumber, slotParent, slotShared, slotCell, foundAt, foundOf}
 use Rattle.search.specs.declared.Found.{Found}
 use Rattle.search.proofs.Sides.{Sides, sides-absent, sides-present, last-below, SlotAt, slot-at}
 
@@ -210,7 +209,3 @@ module _ {s : State} (v : Sound s) {k : ℕ} (least : 1 ≤ k) {f : Found} (is :
   found-slot t room =
       let e = found-missing t .node in
       subst (λ g. SlotFound g (slotFor s k)) (sym (is ∙ ap (foundAt s k) e)) (slot-at-absent s v k least e room)
-
--- what the search itself answers is the slot with its own looked
-pub sought-slotted : {ws : List ℕ} {s : Settings} {k : ℕ} {f : Found} → Sought ws s k f → Slotted ws s k f
-sought-slotted {f = f} h = record { looked = f .looked; sought = h }

@@ -70,16 +70,7 @@ pub record Sought (ws : List ℕ) (s : Settings) (key : ℕ) (f : Found) : Type 
   pub most : key ≤ s .largest
   pub is : f ≡ foundOf (read ws) key
 
--- f with another looked
-abbrev pub withLooked : ℕ → Found → Found
-withLooked looked f = record { standing = f .standing; parent = f .parent; p = f .p; c = f .c; q = f .q; looked = looked }
-
--- f is what the search would answer of a key, but for its looked: what a caller may know without a search.
-pub record Slotted (ws : List ℕ) (s : Settings) (key : ℕ) (f : Found) : Type 0 where
-  pub looked : ℕ
-  pub sought : Sought ws s key (withLooked looked f)
-
 -- .. of some key
-pub record SlottedSome (ws : List ℕ) (s : Settings) (f : Found) : Type 0 where
+pub record SoughtSome (ws : List ℕ) (s : Settings) (f : Found) : Type 0 where
   pub key : ℕ
-  pub slotted : Slotted ws s key f
+  pub sought : Sought ws s key f

@@ -7,7 +7,7 @@ ghost use Rattle.meaning.specs.Lower.{lowerFrom};
 ghost use Rattle.meaning.specs.Layer.Resting.{rest};
 ghost use Rattle.meaning.specs.Layer.Listed.{Listed};
 ghost use Rattle.words.specs.Sought.{Sought};
-ghost use Rattle.search.specs.Found.{Searched, SlottedSome};
+ghost use Rattle.search.specs.Found.{Searched, SoughtSome};
 use meaning::Rest;
 use meaning::Step;
 use settings::Settings;
@@ -103,7 +103,7 @@ pub fn search(list: &[u32], s: Settings, k: u32) -> Found
 // The standing cell of next smaller key than the one sought, the head if there is no other: the last cell of the parent's branch from the
 // link after p on. It is reached along each cell's lowest link from the number at hand on.
 pub fn lower(list: &[u32], s: Settings, f: Found) -> u32
-    requires { ⌜ SlottedSome (now list) s f ⌝ }
+    requires { ⌜ SoughtSome (now list) s f ⌝ }
     ensures { λ r. ⌜ r ≡ lowerFrom (now (list .entry)) (f .parent) (suc (f .p)) ⌝ }
 {
     let mut at = f.parent;

@@ -3,7 +3,6 @@ use mathlib.Core.Path.{refl}
 use native.Mathlib.Omega.{arith}
 use borrow.Author.Needs.{needs}
 use Rattle.words.proofs.Listed.{listed-shaped}
-use Rattle.search.proofs.Slots.{sought-slotted}
 use Rattle.insert.proofs.Call.{leads-meets, full-meets, new-leads}
 use Rattle.insert.proofs.insert_new.Statement.{statement}
 use Rattle.insert.proofs.insert_new.Tie as tie
@@ -19,7 +18,7 @@ returns c =
 add-requires : tie.Need-add-requires
 add-requires c κs =
     let pre = c .before .before .before .before .pre in
-    (sought-slotted (pre .0), (pre .1, (refl, omega arith)))
+    (pre .0, (pre .1, (refl, omega arith)))
 
 returns-2 : tie.Need-returns-2
 returns-2 c =

@@ -3,14 +3,13 @@ use native.Mathlib.Omega.{arith}
 use borrow.Author.Needs.{needs}
 use Rattle.words.proofs.Shaped.{field-within}
 use Rattle.words.proofs.Listed.{listed-shaped}
-use Rattle.search.proofs.Slots.{sought-slotted}
 use Rattle.insert.proofs.Inserting.{node-written}
 use Rattle.insert.proofs.Call.{leads-due, leads-words, standing-cell, dead-leads}
 use Rattle.insert.proofs.revive.Statement.{statement}
 use Rattle.insert.proofs.revive.Tie as tie
 
 position-after-requires : tie.Need-position-after-requires
-position-after-requires c κs = (sought-slotted (c .before .before .before .before .pre .0), c .before .position-key .ensures)
+position-after-requires c κs = (c .before .before .before .before .pre .0, c .before .position-key .ensures)
 
 store-requires : tie.Need-store-requires
 store-requires c κs =

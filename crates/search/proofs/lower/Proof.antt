@@ -23,16 +23,16 @@ abbrev μ-loop : tie.MeasureT-loop
 
 add-d : tie.Need-add-d Inv-loop μ-loop
 add-d c =
-    let sought = c .before .before .pre .slotted .sought in
+    let sought = c .before .before .pre .sought in
     omega (arith, lower-number (sought .list) sought, listed-shaped (sought .list) .dimensions-most)
 
 loop-holds : tie.Need-loop-holds Inv-loop μ-loop
-loop-holds c = let sought = c .before .before .pre .slotted .sought in rw (add-one (c .before .before .args .f .p)) (lower-starts (sought .list) sought)
+loop-holds c = let sought = c .before .before .pre .sought in rw (add-one (c .before .before .args .f .p)) (lower-starts (sought .list) sought)
 
 link-read-requires : tie.Need-link-read-requires Inv-loop μ-loop
 link-read-requires c κs =
     let v = c .before .before .loop in
-    let list = c .before .before .before .before .before .pre .slotted .sought .list in
+    let list = c .before .before .before .before .before .pre .sought .list in
     let cell = lower-cell list (v .inv) in
     (listed-shaped list, (cell, (omega arith, listed-owed list (v .at) cell)))
 
@@ -40,7 +40,7 @@ loop-less : tie.Need-loop-less Inv-loop μ-loop
 loop-less c =
     let v = c .before .before .before .before .loop in
     let a = c .before .before .before .before .before .before .before .args in
-    let list = c .before .before .before .before .before .before .before .pre .slotted .sought .list in
+    let list = c .before .before .before .before .before .before .before .pre .sought .list in
     let digit = coordinate-below (a .s .base) (a .s .dimensions) (keyAt (a .list .now) (v .at)) (v .d) (listed-base list) in
     let next : v .d + 1 ≤ a .s .dimensions = omega arith in
     let more = mul-le-mul-right (a .s .base) next in
@@ -49,14 +49,14 @@ loop-less c =
 loop-again : tie.Need-loop-again Inv-loop μ-loop
 loop-again c =
     let v = c .before .before .before .before .loop in
-    let list = c .before .before .before .before .before .before .before .pre .slotted .sought .list in
+    let list = c .before .before .before .before .before .before .before .pre .sought .list in
     rw (add-one (v .d)) (lower-up list (v .inv) (omega arith) (sym (c .before .link-read .ensures) ∙ c .if2 .taken))
 
 loop-less-2 : tie.Need-loop-less-2 Inv-loop μ-loop
 loop-less-2 c =
     let v = c .before .before .before .before .loop in
     let a = c .before .before .before .before .before .before .before .args in
-    let list = c .before .before .before .before .before .before .before .pre .slotted .sought .list in
+    let list = c .before .before .before .before .before .before .before .pre .sought .list in
     let digit = coordinate-below (a .s .base) (a .s .dimensions) (keyAt (a .list .now) (v .at)) (v .d) (listed-base list) in
     let next : v .d + 1 ≤ a .s .dimensions = omega arith in
     let more = mul-le-mul-right (a .s .base) next in
@@ -67,7 +67,7 @@ loop-less-2 c =
 loop-again-2 : tie.Need-loop-again-2 Inv-loop μ-loop
 loop-again-2 c =
     let v = c .before .before .before .before .loop in
-    let list = c .before .before .before .before .before .before .before .pre .slotted .sought .list in
+    let list = c .before .before .before .before .before .before .before .pre .sought .list in
     let is = c .before .link-read .ensures in
     rw is (lower-along list (v .inv) (omega arith) (λ e. c .if2 .left (is ∙ e)))
 
@@ -75,7 +75,7 @@ returns : tie.Need-returns Inv-loop μ-loop
 returns c =
     let v = c .before .before .loop in
     let s = c .before .before .before .before .before in
-    rw (← add-one (s .args .f .p)) (lower-ends (s .pre .slotted .sought .list) (v .inv) (omega arith))
+    rw (← add-one (s .args .f .p)) (lower-ends (s .pre .sought .list) (v .inv) (omega arith))
 
 pub lower-spec : {M : Type 1} → statement M
 lower-spec =
