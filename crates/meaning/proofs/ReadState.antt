@@ -18,9 +18,11 @@ use Rattle.lists.proofs.All.{All, all-map, all-at}
 use Rattle.lists.proofs.Tests.{both, and-both}
 use Rattle.files.specs.Files.{Pair, rising, keeps}
 use Rattle.files.proofs.Files.{keepable}
-use Rattle.meaning.specs.Row.{Node, firstOf}
+use Rattle.meaning.specs.Row.{Node, Place, firstOf}
 use Rattle.meaning.specs.Picture.{picture}
+use Rattle.meaning.specs.State.{State}
 use Rattle.meaning.specs.Reading.{read}
+use Rattle.meaning.specs.Words.{owedAt}
 use Rattle.meaning.specs.Pairs.{pair}
 use Rattle.meaning.specs.Operations.{fresh, newNode}
 use Rattle.meaning.specs.Promises.{ReadList}
@@ -29,7 +31,7 @@ use Rattle.meaning.proofs.AscendingRow.{Asc, asc-above}
 use Rattle.meaning.proofs.Places.{asc-right, asc-smaller}
 use Rattle.meaning.proofs.State.{Sound, cellsIn}
 use Rattle.meaning.proofs.ReadBack.{read-of-picture, picture-is-list}
-use Rattle.meaning.proofs.Placed.{placed-node, place-owed, cell-standing}
+use Rattle.meaning.proofs.Placed.{Placed, placed-node, place-owed, occurs-placed, cell-standing}
 use Rattle.meaning.proofs.KeepsState.{position-head, unowing-debts}
 use Rattle.meaning.proofs.KeepsSetUp.{fresh-sound}
 
@@ -195,6 +197,15 @@ read-unowing s pairs = nodes-unowing 1 pairs
 
 -- What the list then holds
 
+-- where no node owes, no standing cell does
+placed-unowing : {t : State} → Sound t → All (λ y. y .owes ≡ false) (t .row) → {x : ℕ} {p : Place} → Placed t x p → owedAt (picture t) x ≡ 0
+placed-unowing v unowing {x} {p} here =
+    place-owed v here ∙ ap (λ owes. cond owes (firstOf (p .later) .cell) 0) (placed-node here (λ y. y .owes ≡ false) refl unowing)
+
+pub stands-unowing : (t : State) → Sound t → All (λ y. y .owes ≡ false) (t .row) → (x : ℕ) → 0 < occurrences x (0 ∷ map (λ y. y .cell) (t .row)) →
+    owedAt (picture t) x ≡ 0
+stands-unowing t v unowing x stands = placed-unowing v unowing (occurs-placed t x stands .1)
+
 pub read-list : (s : Settings) (pairs : List Pair) → keeps s pairs ≡ true → s .base ≡ baseOf (s .dimensions) (s .largest) →
     ReadList (picture (readState s pairs)) s pairs
 unfolding read readState
@@ -210,9 +221,6 @@ read-list s pairs kept base =
           ∙ ap (map pair) (those-all (λ x. x .live) (nodesFrom 1 pairs) (nodes-live 1 pairs))
           ∙ nodes-pairs 1 pairs;
       standing = ap (λ u. map (λ x. x .key) (u .row)) back ∙ nodes-keys 1 pairs;
-      settled = λ x stands.
-          let (q, here) = cell-standing t x stands in
-          place-owed v here
-          ∙ ap (λ owes. cond owes (firstOf (q .later) .cell) 0) (placed-node here (λ y. y .owes ≡ false) refl (nodes-unowing 1 pairs));
+      settled = λ x stands. placed-unowing v (nodes-unowing 1 pairs) (cell-standing t x stands .1);
       position = ap (λ u. u .position) back;
     }

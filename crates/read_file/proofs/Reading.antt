@@ -29,8 +29,7 @@ use Rattle.meaning.specs.declared.Answer.{Answer}
 use Rattle.meaning.proofs.Path.{path-head}
 use Rattle.meaning.proofs.ReadState.{keeps-left}
 use Rattle.meaning.proofs.ReadIn.{read-in-is}
-use Rattle.paths.specs.Paths.{pathOf, Formed}
-use Rattle.paths.specs.declared.Path.{Path}
+use Rattle.paths.proofs.Paths.{zeros-taken, zeros-formed}
 use Rattle.read_file.specs.Putting.{Putting, NextOfSome, PairPut}
 use Rattle.read_file.proofs.Putting.{state-listed}
 
@@ -92,20 +91,19 @@ module _ {bytes : List ℕ} {s : Settings} {n : ℕ} (t : Told bytes s n) where
   first-kept (suc m) i e =
       keeps-left s (first i) (pairAt bytes i ∷ []) (ap (keeps s) (sym (pairs-more bytes i)) ∙ first-kept m (suc i) (omega arith))
 
-  pub put-start : {ws : List ℕ} {r : Path} → ws ≡ picture (readState s []) → (pathOf r ≡ replicate (s .dimensions) 0) × Formed (s .dimensions) r →
-      Putting ws s (first 0) 0 r
+  pub put-start : {ws : List ℕ} → ws ≡ picture (readState s []) → Putting ws s (first 0) 0 (replicate mostDimensions 0)
   unfolding pairsFrom lastKey nodesFrom
-  put-start e p =
+  put-start e =
       record {
         words = e;
         kept = first-kept n 0 (omega arith);
         base = t .base;
         last-is = refl;
-        path-is = p .0 ∙ sym (path-head (s .base) (s .dimensions) []);
-        formed = p .1;
+        path-is = zeros-taken (s .dimensions) mostDimensions (told-limits .0) ∙ sym (path-head (s .base) (s .dimensions) []);
+        formed = zeros-formed (s .dimensions) (told-limits .0);
       }
 
-  module _ {ws : List ℕ} {last : ℕ} {path : Path} {i : ℕ} (h : Putting ws s (first i) last path) where
+  module _ {ws : List ℕ} {last : ℕ} {path : List ℕ} {i : ℕ} (h : Putting ws s (first i) last path) where
     module _ (less : i < n) {key value : ℕ} (key-is : key ≡ pairAt bytes i .key) (value-is : value ≡ pairAt bytes i .value) where
       abbrev next : Pair
       next = record { key = key; value = value }
@@ -124,7 +122,7 @@ module _ {bytes : List ℕ} {s : Settings} {n : ℕ} (t : Told bytes s n) where
       put-asks = record { pairs = first i; putting = h; more = more-kept }
 
       -- .. and is put
-      pub put-more : {us : List ℕ} {r : Path} → PairPut ws us s last path next r → Putting us s (first (i + 1)) key r
+      pub put-more : {us r : List ℕ} → PairPut ws us s last path r next → Putting us s (first (i + 1)) key r
       put-more {us} {r} p = subst (λ pairs. Putting us s pairs key r) one-more (p .is (first i) h more-kept)
 
     pub put-all : i ≤ n → n ≤ i → ws ≡ picture (readState s (pairsIn bytes))

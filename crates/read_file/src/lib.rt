@@ -12,36 +12,26 @@ ghost use Rattle.meaning.specs.Layer.ReadState.{readState};
 ghost use Rattle.read_file.specs.Putting.{NextOfSome, PairPut};
 use files::Contents;
 use meaning::Answer;
-use paths::Path;
-use search::Found;
 use settings::Settings;
 
-// The next pair: its key is above all that stand, `last` is the key before and `path` that one's path. Answers the new key's path.
+// The next pair: its key is above all that stand, `last` is the key before and `path` begins with that one's path, which becomes the new key's.
 fn put_pair(
     list: &mut [u32],
     s: Settings,
     powers: &[u64],
     last: u32,
-    path: Path,
+    path: &mut [u32],
     key: u32,
     value: u32,
-) -> Path
-    requires { ⌜ NextOfSome (now list) s last path (record { key = key; value = value }) × PowersOf s (now powers) ⌝ }
-    ensures { λ r. ⌜ PairPut (now (list .entry)) (now (list .exit)) s last path (record { key = key; value = value }) r ⌝ }
+)
+    requires { ⌜ NextOfSome (now list) s last (now path) (record { key = key; value = value }) × PowersOf s (now powers) ⌝ }
+    ensures { λ r. ⌜ PairPut (now (list .entry)) (now (list .exit)) s last (now (path .entry)) (now (path .exit)) (record { key = key; value = value }) ⌝ }
 {
     let p = words::shared(s, powers, last, key);
     let n = list[words::FIRST_FREE];
-    // no cell has that slot, as none has a larger key
-    let f = Found {
-        standing: false,
-        parent: path.cells[p as usize],
-        p,
-        c: 0,
-        q: 0,
-        looked: 0,
-    };
-    insert::add(list, s, n, f, key, value);
-    paths::onward(path, p, n)
+    let parent = path[p as usize];
+    insert::add_last(list, s, n, parent, p, key, value);
+    paths::put_onward(path, s.dimensions, p, n);
 }
 
 // The n pairs of a file, into a list that holds none.
@@ -50,13 +40,13 @@ fn put_pairs(list: &mut [u32], s: Settings, file: &[u8], n: u32)
     ensures { λ r. ⌜ now (list .exit) ≡ picture (readState s (pairsIn (now (file .entry)))) ⌝ }
 {
     let powers = s.powers();
-    let mut path = paths::head_path(s);
+    let mut path = [0u32; 16];
     let mut last: u32 = 0;
     let mut i: u32 = 0;
     while i < n {
         let key = files::key_at(file, i);
         let value = files::value_at(file, i);
-        path = put_pair(list, s, &powers.of, last, path, key, value);
+        put_pair(list, s, &powers.of, last, &mut path, key, value);
         last = key;
         i += 1;
     }

@@ -32,10 +32,10 @@ fn write_pairs(list: &[u32], s: Settings, file: &mut [u8])
     requires { ⌜ Listed (now list) s × (fileLength (length (livePairs (now list))) ≤ length (now file)) ⌝ }
     ensures { λ r. ⌜ now (file .exit) ≡ sets (now (file .entry)) bytesBefore (pairBytes (livePairs (now (list .entry)))) ⌝ }
 {
-    let mut path = paths::head_path(s);
+    let mut path = [0u32; 16];
     let mut i: u32 = 0;
     loop {
-        let next = paths::next(list, s, path);
+        let next = paths::next_from(list, s, &path);
         if next.cell == 0 {
             return;
         }
@@ -45,7 +45,7 @@ fn write_pairs(list: &[u32], s: Settings, file: &mut [u8])
             files::write_pair(file, i, key, value);
             i += 1;
         }
-        path = next.path;
+        paths::put_onward(&mut path, s.dimensions, next.number, next.cell);
     }
 }
 

@@ -1,6 +1,5 @@
 -- `insert::add` meets its contract: the debts are finished, the new cell is hung from the parent and then the path is written, which makes the
 -- words those of the state with the new node.
-use native.Mathlib.Omega.{arith}
 use borrow.Author.Needs.{needs}
 use Rattle.words.proofs.Listed.{listed-shaped}
 use Rattle.new_cell.specs.NewCell.{slotOf}

@@ -16,9 +16,10 @@ returns c =
     let filled = linked .before .before .before .before in
     let next = filled .before .before in
     let s = next .before .before .before in
-    let a = s .args in
-    (hung (s .pre .0) (a .key) (a .value) (a .n) (a .f) (next .word .ensures) (filled .write-cell .ensures .0) (linked .store-link .ensures .0),
-    linked .store-link .ensures .1)
+    let a = s .args in (
+      hung (s .pre .0) (a .key) (a .value) (a .n) (a .f) (next .word .ensures) (filled .write-cell .ensures .0) (linked .store-link .ensures .0),
+      linked .store-link .ensures .1,
+    )
 
 pub hang-spec : {M : Type 1} → statement M
 hang-spec =
