@@ -1,4 +1,5 @@
-// Insert: a new cell in the slot that the search found, its own adoption left owing; or a dead key revived.
+// Insert: a new cell in the slot that the search found, its own adoption left owing; or a dead key revived. And a new cell for a key that comes
+// last, whose slot is known without a search.
 ghost use mathlib.Core.Path.{_≡_};
 ghost use mathlib.Core.Bool.{true, false};
 ghost use Prim.Native.Nat.{_<_};

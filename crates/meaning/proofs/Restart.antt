@@ -14,7 +14,7 @@ use Rattle.files.specs.Promises.{Kept}
 use Rattle.files.proofs.Files.{keepable, file-keeps, file-written}
 use Rattle.files.proofs.Promises.{written-is-read}
 use Rattle.meaning.specs.Reading.{read, settingsAt, isList}
-use Rattle.meaning.specs.Refusals.{answer}
+use Rattle.meaning.specs.Refusals.{Outcome, accepted, answer}
 use Rattle.meaning.specs.Pairs.{livePairs}
 use Rattle.meaning.specs.Saved.{FileLent, fileLent, writeOut, readOut}
 use Rattle.meaning.specs.Calls.{alone, outcome, afterCalls}
@@ -84,19 +84,22 @@ write-then-read lent words fits z long =
     (again .0, restarted (lent .words) _ (write-accepted lent z .0) (again .1))
 
 -- a list with these settings and pairs is written so
+abbrev writtenInto : List ℕ → List ℕ → List ℕ → Outcome FileLent
+writtenInto ws file bytes = accepted 0 0 (length bytes) (fileLent ws (bytes ++ drop (length bytes) file))
+
 written-so : (ws file : List ℕ) (s : Settings) (pairs : List Pair) → ReadList ws s pairs → length (fileOf s pairs) ≤ length file →
-    writeOut (fileLent ws file) .left .file ≡ fileOf s pairs ++ drop (length (fileOf s pairs)) file
+    writeOut (fileLent ws file) ≡ writtenInto ws file (fileOf s pairs)
 written-so ws file s pairs list room =
     let same : fileFor ws ≡ fileOf s pairs = ap₂ fileOf (list .settings) (list .live) in
-    ap (λ o. o .left .file) (write-outcome (fileLent ws file) (list .list) (subst (λ f. length f ≤ length file) (sym same) room))
-    ∙ ap (λ f. f ++ drop (length f) file) same
+    write-outcome (fileLent ws file) (list .list) (subst (λ f. length f ≤ length file) (sym same) room) ∙ ap (writtenInto ws file) same
 
 pub file-is-written : FileIsWritten
 file-is-written lent file z room =
     let same = file-written (lent .file) (read-accepted lent z .0) in
-    written-so (readOut lent .left .words) file (settingsIn (lent .file)) (pairsIn (lent .file)) (read-gives-list lent z)
+    let ws = readOut lent .left .words in
+    written-so ws file (settingsIn (lent .file)) (pairsIn (lent .file)) (read-gives-list lent z)
     (subst (λ f. length f ≤ length file) (sym same) room)
-    ∙ ap (λ f. f ++ drop (length f) file) same
+    ∙ ap (writtenInto ws file) same
 
 -- A read list is one from fresh
 

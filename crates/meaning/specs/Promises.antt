@@ -16,7 +16,7 @@ use Rattle.meaning.specs.Keys.{coordinates, shared}
 use Rattle.meaning.specs.Row.{Node, headNode, nodeAt, smallerThan}
 use Rattle.meaning.specs.State.{keyOf, positionKey}
 use Rattle.meaning.specs.Reading.{read, settingsAt, isList}
-use Rattle.meaning.specs.Refusals.{answer, Outcome, Meets, Refusal, notAList, badBatch, answerOf, refused}
+use Rattle.meaning.specs.Refusals.{answer, Outcome, accepted, Meets, Refusal, notAList, badBatch, answerOf, refused}
 use Rattle.meaning.specs.Rule.{rule}
 use Rattle.meaning.specs.Words.{keyAt, markAt, owedAt, lowAt, highAt, linkAt, dimensionsAt, largestAt, cellsAt, baseAt, positionAt, liveMark}
 use Rattle.meaning.specs.Walk.{walk, trailFrom, trail, ends}
@@ -414,7 +414,9 @@ WriteThenRead =
 abbrev pub FileIsWritten : Type 0
 FileIsWritten =
     (lent : FileLent) (file : List ℕ) → readOut lent .answered .refusal ≡ 0 → length (lent .file) ≤ length file
-    → writeOut (fileLent (readOut lent .left .words) file) .left .file ≡ lent .file ++ drop (length (lent .file)) file
+    → let ws = readOut lent .left .words in
+    let written = lent .file ++ drop (length (lent .file)) file in
+    writeOut (fileLent ws file) ≡ accepted 0 0 (length (lent .file)) (fileLent ws written)
 
 -- Any two outcomes that a contract allows are equal: the exported functions all ensure `Meets o r lent`, of the outcome o of their call
 -- and whatever was lent to it.
