@@ -3,6 +3,8 @@
 //! likes it; `loads` reads each by a load of its own.
 //!
 //! Then the time of each of many calls: made alone, made in one batch, which checks the list once, and made on the map. `drain` takes all.
+//!
+//! Then write and read of full lists, beside one check of the same list, for which a find stands.
 
 use mdlist_host::*;
 use std::cell::RefCell;
@@ -160,10 +162,29 @@ fn many_calls() {
     }
 }
 
+fn files() {
+    println!("write and read of full lists, C 4096, beside a find, which is one check: ns");
+    println!("{:>3} {:>11} {:>6} {:>10} {:>10} {:>10} {:>8} {:>8}", "D", "K", "bytes", "find", "write", "read", "w/find", "r/find");
+    let (k, c) = (u32::MAX, 4096);
+    for d in [2, 8, 16] {
+        let (list, map) = filled(d, k, c, c - 1);
+        let key = *map.keys().nth(map.len() / 2).expect("a full list");
+        let mut file = vec![0; file_length(map.len())];
+        let mut back = vec![0; list.len()];
+        let find = median(ROUNDS, || (), || _ = black_box(find(&list, key)));
+        let write = median(ROUNDS, || (), || assert!(black_box(write(&list, &mut file)).is_ok()));
+        let read = median(ROUNDS, || (), || assert!(black_box(read(&file, &mut back)).is_ok()));
+        print!("{d:>3} {k:>11} {:>6} {find:>10.0} {write:>10.0} {read:>10.0}", file.len());
+        println!(" {:>8.2} {:>8.2}", write / find, read / find);
+    }
+}
+
 fn main() {
     each_operation();
     println!();
     find_by_standing_keys();
     println!();
     many_calls();
+    println!();
+    files();
 }

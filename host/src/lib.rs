@@ -1,7 +1,7 @@
 //! The proved waiting list, called from Rust.
 //!
 //! A list lives in a slice of 32-bit words that the host lends. Every call checks the words it is given, refuses by number what it can't
-//! do, and alters no word when it refuses. Nothing here allocates or panics. The behaviour is in `docs/REFERENCE.md`, which is cited by
+//! do, and alters nothing when it refuses. Nothing here allocates or panics. The behaviour is in `docs/REFERENCE.md`, which is cited by
 //! its headings.
 //!
 //! A [`List`] holds the lent words and has the operations as methods:
@@ -64,6 +64,26 @@
 //! assert_eq!(left, 150);
 //! # Ok::<(), Refusal>(())
 //! ```
+//!
+//! What waits is kept over a restart in a file: [`write`](List::write) puts it into bytes of at least [`file_length`], and
+//! [`read`](List::read) makes a list of them. Where the bytes go is the host's choice; `examples/restart.rs` keeps them in a file of its
+//! system:
+//!
+//! ```
+//! use mdlist_host::{file_length, words_needed, List, Refusal};
+//!
+//! let mut words = [0u32; words_needed(2, 8)];
+//! let mut list = List::set_up(2, 15, 8, &mut words)?;
+//! list.insert(6, 60)?;
+//! list.insert(5, 50)?;
+//! let mut file = [0u8; file_length(7)];
+//! let length = list.write(&mut file)?;
+//! assert_eq!(length, file_length(2));
+//! let mut words = [0u32; words_needed(2, 8)];
+//! let mut list = List::read(&file[..length], &mut words)?;
+//! assert_eq!(list.take()?.value, 50);
+//! # Ok::<(), Refusal>(())
+//! ```
 #![no_std]
 #![deny(missing_docs)]
 
@@ -96,10 +116,12 @@ mod sys {
             answers: *mut u32,
             answers_len: usize,
         ) -> Answer;
+        pub fn mdlist_write(list: *const u32, len: usize, file: *mut u8, file_len: usize) -> Answer;
+        pub fn mdlist_read(file: *const u8, file_len: usize, list: *mut u32, len: usize) -> Answer;
     }
 }
 
-/// Why a call was refused: docs/REFERENCE.md, *Refusals*. A refused call has altered no word.
+/// Why a call was refused: docs/REFERENCE.md, *Refusals*. A refused call has altered nothing of what was lent to it.
 ///
 /// It is an error with a text, so that `?` hands it on in a function that answers any error:
 ///
@@ -117,7 +139,7 @@ mod sys {
 pub enum Refusal {
     /// 1, set up: D, K or C is out of range.
     OutOfRange,
-    /// 2, set up: the slice has not exactly [`words_needed`] words.
+    /// 2, set up, read: the slice has not exactly [`words_needed`] words.
     WrongLength,
     /// 3: the words are not a list.
     NotAList,
@@ -143,6 +165,10 @@ pub enum Refusal {
         /// How many cells a find looked at; 0 for a finish.
         looked: u32,
     },
+    /// 11, read: the bytes are no file; one may be cut, torn or altered.
+    BadFile,
+    /// 12, write: the bytes are fewer than the file has; [`file_length`] says how many are needed.
+    NoRoom,
     /// 13, record: the bytes break the grammar of a record, or a field is out of its range.
     BadRecord,
     /// 14, record: the full number is below 0 or above 4,294,967,295.
@@ -170,6 +196,8 @@ impl Refusal {
             Refusal::NoFreeCell { .. } => 6,
             Refusal::NothingLive { .. } => 7,
             Refusal::NotThere { .. } => 8,
+            Refusal::BadFile => 11,
+            Refusal::NoRoom => 12,
             Refusal::BadRecord => 13,
             Refusal::NumberOutside => 14,
             Refusal::BadBatch => 19,
@@ -190,6 +218,8 @@ impl fmt::Display for Refusal {
             Refusal::NoFreeCell { looked } => write!(f, "no cell is free; cells looked at: {looked}"),
             Refusal::NothingLive { above } => write!(f, "nothing is live; standing keys above the position: {above}"),
             Refusal::NotThere { looked } => write!(f, "the key is not there; cells looked at: {looked}"),
+            Refusal::BadFile => f.write_str("the bytes are not a file of a list"),
+            Refusal::NoRoom => f.write_str("there is no room for the file"),
             Refusal::BadRecord => f.write_str("the record breaks the grammar or a field's range"),
             Refusal::NumberOutside => f.write_str("the full number does not fit in 32 bits"),
             Refusal::BadBatch => f.write_str("the words are no batch of calls, or there is no room for the answers"),
@@ -244,13 +274,24 @@ pub struct Recorded {
 /// ```
 pub const NONE_YET: u64 = 4_294_967_296;
 
-/// How many words a list with D dimensions and C cells has: 5 + D + C(6+2D).
+/// How many words a list with D dimensions and C cells has: 5 + D + C(6+D).
 ///
 /// ```
 /// assert_eq!(mdlist_host::words_needed(8, 512), 7_181);
 /// ```
 pub const fn words_needed(d: u32, c: u32) -> usize {
     5 + d as usize + c as usize * (6 + d as usize)
+}
+
+/// How many bytes the file of a list with so many live keys has: 33 and 8 for each. With C cells there are C - 1 at most.
+///
+/// ```
+/// # use mdlist_host::file_length;
+/// assert_eq!(file_length(0), 33);
+/// assert_eq!(file_length(4_096 - 1), 32_793);
+/// ```
+pub const fn file_length(live: usize) -> usize {
+    33 + 8 * live
 }
 
 fn checked(a: sys::Answer) -> Result<sys::Answer, Refusal> {
@@ -264,6 +305,8 @@ fn checked(a: sys::Answer) -> Result<sys::Answer, Refusal> {
         6 => Err(Refusal::NoFreeCell { looked: a.count }),
         7 => Err(Refusal::NothingLive { above: a.count }),
         8 => Err(Refusal::NotThere { looked: a.count }),
+        11 => Err(Refusal::BadFile),
+        12 => Err(Refusal::NoRoom),
         13 => Err(Refusal::BadRecord),
         14 => Err(Refusal::NumberOutside),
         19 => Err(Refusal::BadBatch),
@@ -388,6 +431,53 @@ pub fn record(list: &mut [u32], bytes: &[u8], last: &mut u64) -> Result<Recorded
     let a = checked(unsafe { sys::mdlist_record(list.as_mut_ptr(), list.len(), bytes.as_ptr(), bytes.len(), last) })?;
     // an accepted record's full number has 32 bits
     Ok(Recorded { key: a.key, number: *last as u32, looked: a.count })
+}
+
+/// Writes what waits in a list to a file: the settings, and each live key with its value; answers how many bytes the file has. The bytes
+/// past it are kept: docs/REFERENCE.md, *The operations 9* and *Files*.
+///
+/// Dead keys are not written, and so neither is the position. [`file_length`] says how many bytes are needed.
+///
+/// ```
+/// # use mdlist_host::*;
+/// let mut list = [0u32; words_needed(2, 8)];
+/// set_up(2, 15, 8, &mut list)?;
+/// insert(&mut list, 6, 60)?;
+/// let mut file = [7u8; 50];
+/// assert_eq!(write(&list, &mut file), Ok(41));
+/// assert_eq!(file[31..41], [0, 1, 0, 0, 0, 6, 0, 0, 0, 60]);
+/// assert_eq!(file[41..], [7; 9]);
+/// assert_eq!(write(&list, &mut file[..40]), Err(Refusal::NoRoom));
+/// # Ok::<(), Refusal>(())
+/// ```
+pub fn write(list: &[u32], file: &mut [u8]) -> Result<usize, Refusal> {
+    // SAFETY: the callee reads within the list alone, and writes within the file's bytes alone.
+    checked(unsafe { sys::mdlist_write(list.as_ptr(), list.len(), file.as_mut_ptr(), file.len()) }).map(|a| a.count as usize)
+}
+
+/// Makes the words the list that a file keeps, with the file's settings; answers how many keys wait in it: docs/REFERENCE.md,
+/// *The operations 10*.
+///
+/// The bytes have to be the file and nothing more, as [`write`](fn@write) answers its length. What the words held before does not matter, but there
+/// have to be exactly [`words_needed`] of them for the D and C of the file.
+///
+/// ```
+/// # use mdlist_host::*;
+/// let mut list = [0u32; words_needed(2, 8)];
+/// set_up(2, 15, 8, &mut list)?;
+/// insert(&mut list, 6, 60)?;
+/// let mut file = [0u8; file_length(1)];
+/// write(&list, &mut file)?;
+/// let mut other = [0u32; words_needed(2, 8)];
+/// assert_eq!(read(&file, &mut other), Ok(1));
+/// assert_eq!(find(&other, 6)?.value, 60);
+/// assert_eq!(read(&file, &mut other[1..]), Err(Refusal::WrongLength));
+/// assert_eq!(read(&file[..40], &mut other), Err(Refusal::BadFile));
+/// # Ok::<(), Refusal>(())
+/// ```
+pub fn read(file: &[u8], list: &mut [u32]) -> Result<usize, Refusal> {
+    // SAFETY: the callee reads within the file's bytes alone, and writes within the list alone.
+    checked(unsafe { sys::mdlist_read(file.as_ptr(), file.len(), list.as_mut_ptr(), list.len()) }).map(|a| a.count as usize)
 }
 
 /// A call of a [`batch`], made by the function of its name.
@@ -724,6 +814,25 @@ impl<'a> List<'a> {
         Ok(List { words })
     }
 
+    /// Makes the words the list that a file keeps, as [`read`](fn@read) does, and holds them.
+    ///
+    /// ```
+    /// # use mdlist_host::*;
+    /// # let mut words = [0u32; words_needed(2, 8)];
+    /// # let mut list = List::set_up(2, 15, 8, &mut words)?;
+    /// # list.insert(6, 60)?;
+    /// let mut file = [0u8; file_length(1)];
+    /// list.write(&mut file)?;
+    /// let mut words = [0u32; words_needed(2, 8)];
+    /// assert_eq!(List::read(&file, &mut words)?.take()?.value, 60);
+    /// assert!(matches!(List::read(&file[1..], &mut words), Err(Refusal::BadFile)));
+    /// # Ok::<(), Refusal>(())
+    /// ```
+    pub fn read(file: &[u8], words: &'a mut [u32]) -> Result<List<'a>, Refusal> {
+        read(file, words)?;
+        Ok(List { words })
+    }
+
     /// Holds words that are a list already. It does not look at them: each call checks them, and refuses words that are not a list.
     ///
     /// ```
@@ -819,6 +928,22 @@ impl<'a> List<'a> {
     /// ```
     pub fn sweep(&mut self) -> Result<u32, Refusal> {
         sweep(self.words)
+    }
+
+    /// Writes what waits to a file, as [`write`](fn@write) does.
+    ///
+    /// ```
+    /// # use mdlist_host::*;
+    /// # let mut words = [0u32; words_needed(2, 8)];
+    /// # let mut list = List::set_up(2, 15, 8, &mut words)?;
+    /// let mut file = [0u8; file_length(7)];
+    /// assert_eq!(list.write(&mut file), Ok(33));
+    /// list.insert(6, 60)?;
+    /// assert_eq!(list.write(&mut file), Ok(41));
+    /// # Ok::<(), Refusal>(())
+    /// ```
+    pub fn write(&self, file: &mut [u8]) -> Result<usize, Refusal> {
+        write(self.words, file)
     }
 
     /// Makes many calls after one check of the words, as [`batch`] does.

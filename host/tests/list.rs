@@ -163,6 +163,8 @@ fn refusals_as_texts() {
         (insert(&mut l, 5, 0).unwrap_err(), "refusal 6: no cell is free; cells looked at: 1"),
         (take(&mut fresh(2, 15, 4)).unwrap_err(), "refusal 7: nothing is live; standing keys above the position: 0"),
         (find(&l, 15).unwrap_err(), "refusal 8: the key is not there; cells looked at: 2"),
+        (read(b"", short).unwrap_err(), "refusal 11: the bytes are not a file of a list"),
+        (write(&l, &mut []).unwrap_err(), "refusal 12: there is no room for the file"),
         (record(&mut l, b"", &mut 0).unwrap_err(), "refusal 13: the record breaks the grammar or a field's range"),
         (record(&mut l, b"0,1,0,,65535", &mut 0).unwrap_err(), "refusal 14: the full number does not fit in 32 bits"),
         (
@@ -262,6 +264,8 @@ fn empty_slice_is_no_list() {
     assert_eq!(take(&mut none), Err(Refusal::NotAList));
     assert_eq!(sweep(&mut none), Err(Refusal::NotAList));
     assert_eq!(finish(&mut none, 1), Err(Refusal::NotAList));
+    assert_eq!(write(&none, &mut []), Err(Refusal::NotAList));
+    assert_eq!(read(&[], &mut none), Err(Refusal::BadFile));
     assert_eq!(set_up(2, 15, 8, &mut none), Err(Refusal::WrongLength));
 }
 

@@ -37,6 +37,8 @@ mod sys {
         pub fn mdlist_sweep();
         pub fn mdlist_record();
         pub fn mdlist_batch();
+        pub fn mdlist_write();
+        pub fn mdlist_read();
     }
 }
 
@@ -116,6 +118,8 @@ enum Asked<'a> {
     Sweep,
     Record(&'a [u8], &'a mut u64),
     Batch(&'a [Call], &'a mut [Answered]),
+    Write(&'a mut [u8]),
+    Read(&'a [u8]),
 }
 
 /// Makes a call; answers its refusal and the bytes of stack that it needed.
@@ -135,6 +139,8 @@ fn measured(stack: &mut Stack, list: &mut [u32], asked: Asked<'_>) -> (u32, usiz
             let (calls_len, answers_len) = (size_of_val(calls) / size_of::<u32>(), size_of_val(answers) / size_of::<u32>());
             (sys::mdlist_batch, [words, len, calls.as_ptr() as usize, calls_len, answers.as_mut_ptr() as usize, answers_len])
         }
+        Asked::Write(file) => (sys::mdlist_write, [words, len, file.as_mut_ptr() as usize, file.len(), 0, 0]),
+        Asked::Read(file) => (sys::mdlist_read, [file.as_ptr() as usize, file.len(), words, len, 0, 0]),
     };
     // SAFETY: each function gets its own arguments in order, each pointer with the length of what is borrowed in `list` or `asked`. None
     // unwinds, and an answer of four 32-bit words comes back in two, the refusal lowest
@@ -230,6 +236,14 @@ fn after(list: &[u32], calls: &[Call]) -> Vec<u32> {
     list
 }
 
+/// The file of a list.
+fn written(list: &[u32]) -> Vec<u8> {
+    let mut file = vec![0; file_length(C as usize - 1)];
+    let length = write(list, &mut file).expect("a list and room for any file");
+    file.truncate(length);
+    file
+}
+
 /// Where the words of a cell are: docs/REFERENCE.md, *The words*.
 fn cell(list: &[u32], x: u32) -> Range<usize> {
     let d = list[0] as usize;
@@ -308,7 +322,21 @@ impl Lists {
         }
         measure.make_batch("batch of inserts", &self.empty, &self.inserts.iter().map(|call| (*call, 0)).collect::<Vec<_>>());
         measure.make_batch("batch of every kind", all_taken, &self.mixed());
+        for list in [&self.empty, all, all_taken] {
+            let file = written(list);
+            measure.make("write", list, Asked::Write(&mut file.clone()), 0);
+            measure.make("write", list, Asked::Write(&mut [0; 32]), 12);
+            measure.make("read", all, Asked::Read(&file), 0);
+            measure.make("read", &all[..all.len() - 1], Asked::Read(&file), 2);
+            // a byte is missing, and then the last pair is the one before it again
+            measure.make("read, bytes that are no file", all, Asked::Read(&file[..file.len() - 1]), 11);
+            if let Some(from) = file.len().checked_sub(16).filter(|from| *from >= file_length(0)) {
+                let twice = [&file[..from + 8], &file[from..from + 8]].concat();
+                measure.make("read, bytes that are no file", all, Asked::Read(&twice), 11);
+            }
+        }
         for x in (1..C).step_by(256) {
+            measure.make("write, words that are no list", &damaged(all, x), Asked::Write(&mut [0; 32]), 3);
             measure.make("find, words that are no list", &damaged(all, x), Asked::Find(*live), 3);
         }
     }

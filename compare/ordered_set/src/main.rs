@@ -1,5 +1,6 @@
 //! An ordered-set reading of docs/REFERENCE.md, to compare the proved list with.
 
+mod files;
 mod generators;
 mod lines;
 mod logger;
@@ -30,6 +31,7 @@ ordered_set gen-large SEED COUNT
 ordered_set gen-late SEED COUNT
 ordered_set gen-order SEED COUNT
 ordered_set gen-records SEED COUNT
+ordered_set gen-files SEED COUNT
 ordered_set gen-export SEED COUNT
 ordered_set gen-edges
 ordered_set gen-logger-edges";

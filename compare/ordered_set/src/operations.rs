@@ -38,6 +38,8 @@ pub const NO_FREE_CELL: u32 = 6;
 pub const NOTHING_LIVE: u32 = 7;
 pub const KEY_NOT_THERE: u32 = 8;
 pub const LINE_NOT_READABLE: u32 = 10;
+pub const FILE_BREAKS_RULES: u32 = 11;
+pub const NO_ROOM_FOR_FILE: u32 = 12;
 pub const RECORD_BREAKS_RULES: u32 = 13;
 pub const FULL_NUMBER_DOES_NOT_FIT: u32 = 14;
 
@@ -50,7 +52,7 @@ impl Answer {
         Answer { refusal, ..Answer::done(key, 0, count) }
     }
 
-    fn done(key: u32, value: u32, count: usize) -> Answer {
+    pub fn done(key: u32, value: u32, count: usize) -> Answer {
         Answer { refusal: 0, key, value, count: count as u32 }
     }
 }
@@ -88,14 +90,17 @@ fn set_up(words: &mut [u32], d: u32, k: u32, c: u32) -> Answer {
     Answer::done(0, 0, 0)
 }
 
-/// What a call leaves has to be a list again, and the one that was meant.
 fn draw_again(model: &Model, words: &mut [u32], call: &Call) {
-    let drawn = picture(model);
     if matches!(call, Call::Find { .. }) {
-        assert!(drawn == words, "a find writes: {call:?}");
+        assert!(picture(model) == words, "a find writes: {call:?}");
     }
-    words.copy_from_slice(&drawn);
-    assert!(list(words).as_ref() == Some(model), "no list, or another one, after {call:?}");
+    leave(model, words, call);
+}
+
+/// What a call leaves has to be a list again, and the one that was meant.
+pub fn leave(model: &Model, words: &mut [u32], after: &impl std::fmt::Debug) {
+    words.copy_from_slice(&picture(model));
+    assert!(list(words).as_ref() == Some(model), "no list, or another one, after {after:?}");
 }
 
 fn answer(model: &mut Model, words: &[u32], call: &Call) -> Answer {

@@ -2,6 +2,7 @@
 //! buffer, so that two implementations can be compared word for word. Lines for bytes also show
 //! a checksum of the bytes and the last number. What the takes passed must add up (runs.rs).
 
+use crate::files::{read, write};
 use crate::lines::{answer_each, number};
 use crate::operations::{perform, Answer, Call, LINE_NOT_READABLE};
 use crate::records::{record, NONE_YET};
@@ -33,7 +34,7 @@ pub enum Line {
     Bytes(BytesLine),
 }
 
-/// The lines for bytes: B, H, Q, O and G.
+/// The lines for bytes: B, H, Q, O, G, W and R.
 #[derive(Debug)]
 pub enum BytesLine {
     Make(u32),
@@ -41,6 +42,8 @@ pub enum BytesLine {
     Put { index: u32, value: u8 },
     Last(u64),
     Record,
+    Write,
+    Read,
 }
 
 /// What a replay holds between two lines.
@@ -123,6 +126,8 @@ fn run_bytes(state: &mut State, line: &BytesLine) -> Option<Answer> {
         }
         BytesLine::Last(number) => *last = *number,
         BytesLine::Record => return Some(record(words, bytes, last)),
+        BytesLine::Write => return Some(write(words, bytes)),
+        BytesLine::Read => return Some(read(bytes, words)),
     }
     None
 }
@@ -154,6 +159,8 @@ fn parse_bytes(fields: &[&str]) -> Option<BytesLine> {
         }
         ["O", last] => BytesLine::Last(number(last, 0..=NONE_YET)?),
         ["G"] => BytesLine::Record,
+        ["W"] => BytesLine::Write,
+        ["R"] => BytesLine::Read,
         _ => return None,
     })
 }

@@ -5,7 +5,7 @@ use crate::operations::{Answer, Call};
 use crate::reading::list;
 use crate::replay::{BytesLine, Line};
 
-/// A run goes on over takes, finds, finishes and refused calls.
+/// A run goes on over takes, finds, finishes, writes and refused calls.
 struct Run {
     /// The key of the position at the start.
     from: u32,
@@ -55,7 +55,7 @@ fn ends_a_run(line: &Line, done: Option<Answer>) -> bool {
         Line::Make { .. } | Line::Put { .. } | Line::Length(_) => true,
         Line::Call(Call::Take | Call::Find { .. } | Call::Finish { .. }) => false,
         Line::Call(Call::SetUp { .. } | Call::Insert { .. } | Call::Sweep) => done.is_some(),
-        Line::Bytes(BytesLine::Record) => done.is_some(),
+        Line::Bytes(BytesLine::Record | BytesLine::Read) => done.is_some(),
         Line::Bytes(_) => false,
     }
 }

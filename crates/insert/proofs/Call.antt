@@ -19,9 +19,9 @@ use Rattle.meaning.specs.State.{State, positionKey}
 use Rattle.meaning.specs.Picture.{mark, path, picture}
 use Rattle.meaning.specs.Reading.{read}
 use Rattle.meaning.specs.Refusals.{answer, Meets, accepted}
-use Rattle.meaning.specs.Words.{wordIndex, wordAt, markAt, firstFreeAt, linkField}
+use Rattle.meaning.specs.Words.{wordIndex, wordAt, markAt, owedAt, firstFreeAt, linkField}
 use Rattle.meaning.specs.Operations.{positionAfter, revived, Slot, slotFor, added, insertOut}
-use Rattle.meaning.specs.Layer.Stores.{store, finishWords, writePath, writeNode, newWords, insertWords, paidWords}
+use Rattle.meaning.specs.Layer.Stores.{store, finishWords, writePath, writeNode, newWords, insertWords, hungWords, paidWords}
 use Rattle.meaning.specs.declared.Answer.{Answer}
 use Rattle.meaning.specs.Layer.Listed.{Listed}
 use Rattle.meaning.proofs.State.{Sound, sound-valid}
@@ -32,7 +32,7 @@ use Rattle.meaning.proofs.ReadBack.{mark-live, read-of-picture}
 use Rattle.meaning.proofs.Placed.{place-mark}
 use Rattle.meaning.proofs.BookRow.{node-key}
 use Rattle.meaning.proofs.Stores.{Exact, picture-exact, exact-set, exact-sets, exact-finished, header-set-path, store-below, cell-sets-below}
-use Rattle.meaning.proofs.Stores.{path-sets-same, finishWords-below}
+use Rattle.meaning.proofs.Stores.{path-sets-same, finishWords-none, finishWords-below}
 use Rattle.meaning.proofs.Changed.{picture-path-word}
 use Rattle.meaning.proofs.KeepsFinish.{finished-sound}
 use Rattle.meaning.proofs.KeepsInsert.{revived-sound, added-sound}
@@ -49,7 +49,7 @@ use Rattle.search.proofs.Slots.{Present, SlotFound, node-placed, found-standing
 use Rattle.new_cell.specs.NewCell.{slotOf, Fits}
 use Rattle.finish.specs.Payable.{Payable}
 use Rattle.finish.proofs.Debts.{payable, listed-payable}
-use Rattle.insert.specs.Inserting.{Ending, EndsInSome, PathWritten}
+use Rattle.insert.specs.Inserting.{Ending, EndsInSome, PathWritten, ComesLast}
 
 -- what holds of each state in order, its picture and its settings, where the search has answered so, holds of the list
 on-sought :
@@ -170,14 +170,19 @@ same-slot : (D : ℕ) (ws : List ℕ) (key value n : ℕ) {f : Found} {t : Slot}
 unfolding insertWords
 same-slot D ws key value n g e = rw (same-words D key value n g, g .parent, g .p, g .c, e) refl
 
--- the steps of the code write what the definition says of the slot that was found, but for the path
+-- the steps of the code hang the new cell as the definition says
+pub hung :
+    {ws : List ℕ} {s : Settings} → Shaped ws s → (key value n : ℕ) (f : Found) {next : ℕ} {cell us : List ℕ} → next ≡ wordAt ws n 0 →
+    cell ≡ sets (set ws 4 next) (wordIndex (s .dimensions) n 0) (newWords (s .dimensions) key value (slotOf n f)) →
+    us ≡ store (s .dimensions) cell (f .parent) (linkField (f .p)) n → us ≡ hungWords (s .dimensions) ws key value (slotOf n f)
+hung h key value n f reads writes links = rw (links, writes, reads, ← word-is h n 0 refl) refl
+
+-- .. and with the debts finished before, write what it says of the slot that was found, but for the path
 pub new-written :
-    {paid : List ℕ} {s : Settings} → Shaped paid s → (ws : List ℕ) (key value n : ℕ) (f : Found) {next : ℕ} {cell us : List ℕ} →
-    paid ≡ paidWords (s .dimensions) ws (f .parent) (f .c) → next ≡ wordAt paid n 0 →
-    cell ≡ sets (set paid 4 next) (wordIndex (s .dimensions) n 0) (newWords (s .dimensions) key value (slotOf n f)) →
-    us ≡ store (s .dimensions) cell (f .parent) (linkField (f .p)) n → us ≡ insertWords (s .dimensions) ws key value (slotOf n f)
+    (D : ℕ) (ws : List ℕ) (key value : ℕ) (t : Slot) {paid us : List ℕ} → paid ≡ paidWords D ws (t .parent) (t .c) → us ≡ hungWords D paid key value t →
+    us ≡ insertWords D ws key value t
 unfolding insertWords
-new-written h ws key value n f pays reads writes links = rw (links, writes, reads, ← word-is h n 0 refl, pays) refl
+new-written D ws key value t pays hangs = rw (hangs, pays) refl
 
 -- The path's words stay
 
@@ -311,3 +316,40 @@ module _ {ws : List ℕ} {s : Settings} {key : ℕ} {f : Found} (k : Sought ws s
       let first = word ∙ picture-free t in
       added-leads v key value (k .least) most q missing (free-some (t .free) first h) first)
       e
+
+-- A key that comes last
+
+-- with no c and a parent that owes nothing, there is no debt to be finished
+nothing-paid : (D : ℕ) (ws : List ℕ) (parent c : ℕ) → c ≡ 0 → owedAt ws parent ≡ 0 → ws ≡ paidWords D ws parent c
+nothing-paid D ws parent c none owes = sym (rw (eq-eqb c 0 none) (finishWords-none D ws parent owes))
+
+module _ {ws : List ℕ} {s : Settings} {key parent p : ℕ} (k : ComesLast ws s key parent p) where
+  pub last-parent : parent < s .cells
+  last-parent = subst (λ x. x < s .cells) (k .parent-is) (parent-cell (k .sought) (k .missing))
+
+  pub last-link : p < s .dimensions
+  last-link = subst (λ d. d < s .dimensions) (k .p-is) (p-link (k .sought) (k .missing))
+
+  -- the slot, as the code has it
+  abbrev lastSlot : ℕ → Slot
+  lastSlot n = record { n = n; parent = parent; p = p; c = 0; q = 0 }
+
+  found-last : (n : ℕ) → slotOf n (k .found) ≡ lastSlot n
+  found-last n =
+      let q = q-none (k .sought) (k .missing) (k .none) in
+      λ i. record { n = n; parent = k .parent-is i; p = k .p-is i; c = k .none i; q = q i }
+
+  pub last-cell : {n : ℕ} → n ≡ firstFreeAt ws → 0 < n → n < s .cells
+  last-cell = new-cell (k .sought) (k .missing)
+
+  -- hung so, the words are those of the state with the new node
+  pub last-left : {n : ℕ} → n ≡ firstFreeAt ws → 0 < n → (value : ℕ) {us : List ℕ} → us ≡ hungWords (s .dimensions) ws key value (lastSlot n) →
+      us ≡ insertOut ws key value .left
+  last-left {n} first some value {us} hangs =
+      let leads = new-leads (k .sought) (k .missing) value first some in
+      let D = s .dimensions in
+      let f = k .found in
+      let paid = nothing-paid D ws (f .parent) (f .c) (k .none) (ap (owedAt ws) (k .parent-is) ∙ k .owes-nothing) in
+      new-written D ws key value (slotOf n f) paid (hangs ∙ ap (hungWords D ws key value) (sym (found-last n)))
+      ∙ sym (leads .ending .kept (k .above))
+      ∙ sym (ap (λ o. o .left) (leads .outcome))

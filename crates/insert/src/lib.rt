@@ -1,4 +1,5 @@
-// Insert: a new cell in the slot that the search found, its own adoption left owing; or a dead key revived.
+// Insert: a new cell in the slot that the search found, its own adoption left owing; or a dead key revived. And a new cell for a key that comes
+// last, whose slot is known without a search.
 ghost use mathlib.Core.Path.{_≡_};
 ghost use mathlib.Core.Bool.{true, false};
 ghost use Prim.Native.Nat.{_<_};
@@ -8,12 +9,13 @@ ghost use Rattle.meaning.specs.Reading.{read};
 ghost use Rattle.meaning.specs.Refusals.{Meets};
 ghost use Rattle.meaning.specs.Operations.{positionAfter, insertOut};
 ghost use Rattle.meaning.specs.Words.{markAt};
-ghost use Rattle.meaning.specs.Layer.Stores.{finishWords, paidWords};
+ghost use Rattle.meaning.specs.Layer.Stores.{finishWords, paidWords, hungWords};
 ghost use Rattle.meaning.specs.Layer.Listed.{Listed};
 ghost use Rattle.words.specs.Shaped.{Shaped};
 ghost use Rattle.finish.specs.Payable.{Payable};
 ghost use Rattle.search.specs.Found.{Sought};
-ghost use Rattle.insert.specs.Inserting.{EndsInSome, PathWritten};
+ghost use Rattle.new_cell.specs.NewCell.{slotOf, Fits};
+ghost use Rattle.insert.specs.Inserting.{EndsInSome, PathWritten, ComesLast};
 use meaning::Answer;
 use search::Found;
 use settings::Settings;
@@ -74,6 +76,17 @@ fn finish_neighbours(list: &mut [u32], s: Settings, f: Found)
     finish::finish_cell(list, s, f.c);
 }
 
+// Cell n, the first free one, is taken off its chain and written, and hung from the parent.
+fn hang(list: &mut [u32], s: Settings, n: u32, f: Found, key: u32, value: u32)
+    requires { ⌜ Shaped (now list) s × (Fits s n f × ((f .parent < s .cells) × (f .p < s .dimensions))) ⌝ }
+    ensures { λ r. ⌜ (now (list .exit) ≡ hungWords (s .dimensions) (now (list .entry)) key value (slotOf n f)) × Shaped (now (list .exit)) s ⌝ }
+{
+    // as any free cell's, n's first word holds the next free cell
+    list[words::FIRST_FREE] = words::word(list, s, n, words::KEY);
+    new_cell::write_cell(list, s, n, f, key, value);
+    words::store_link(list, s, f.parent, f.p, n);
+}
+
 // A new cell n, the first free one, in the slot that was found.
 fn add(list: &mut [u32], s: Settings, n: u32, f: Found, key: u32, value: u32)
     requires { ⌜ Sought (now list) s key f × ((f .standing ≡ false) × ((n ≡ getD (now list) 4 0) × (0 < n))) ⌝ }
@@ -82,11 +95,25 @@ fn add(list: &mut [u32], s: Settings, n: u32, f: Found, key: u32, value: u32)
     let top = position_key(list, s);
     let position = position_after(list, s, top, key, f);
     finish_neighbours(list, s, f);
-    // as any free cell's, n's first word holds the next free cell
-    list[words::FIRST_FREE] = words::word(list, s, n, words::KEY);
-    new_cell::write_cell(list, s, n, f, key, value);
-    words::store_link(list, s, f.parent, f.p, n);
+    hang(list, s, n, f, key, value);
     move_position(list, s, top, key, position);
+}
+
+// A new cell n, the first free one, for a key of which it is known without a search that no cell has its slot, that its parent owes nothing
+// and that it is above the position: so nothing is finished, and the path stays.
+pub fn add_last(list: &mut [u32], s: Settings, n: u32, parent: u32, p: u32, key: u32, value: u32)
+    requires { ⌜ ComesLast (now list) s key parent p × ((n ≡ getD (now list) 4 0) × (0 < n)) ⌝ }
+    ensures { λ r. ⌜ now (list .exit) ≡ insertOut (now (list .entry)) key value .left ⌝ }
+{
+    let f = Found {
+        standing: false,
+        parent,
+        p,
+        c: 0,
+        q: 0,
+        looked: 0,
+    };
+    hang(list, s, n, f, key, value);
 }
 
 // A key that stands: refused if it is live.

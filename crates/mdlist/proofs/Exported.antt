@@ -10,7 +10,8 @@ use Rattle.meaning.specs.Refusals.{Outcome, Meets, answer, notAList, refused}
 use Rattle.meaning.specs.declared.Answer.{Answer}
 use Rattle.meaning.specs.Operations.{findOut}
 use Rattle.meaning.specs.Records.{Lent, lentOf, noteOn, noteOut, recordOut}
-use Rattle.meaning.specs.Calls.{onWords}
+use Rattle.meaning.specs.Saved.{FileLent, fileLent}
+use Rattle.meaning.specs.Calls.{onWords, onFile}
 use Rattle.meaning.specs.Batch.{BatchLent, callsIn, fits, batchDone, batchOn, batchOut}
 use Rattle.meaning.specs.declared.Reading.the-variants.{IsList, NotAList}
 use Rattle.settings.specs.declared.Settings.{Settings}
@@ -21,6 +22,11 @@ use Rattle.meaning.proofs.Outcomes.{find-writes-nothing}
 pub words-meets :
     {o : Outcome (List ℕ)} {r : Answer} {us : List ℕ} (lent : Lent) → Meets o r us → Meets (onWords lent o) r (lentOf us (lent .bytes) (lent .last))
 words-meets lent meets = record { answered = meets .answered; left = λ i. lentOf (meets .left i) (lent .bytes) (lent .last) }
+
+-- a write and a read leave the last number
+pub file-meets :
+    {o : Outcome FileLent} {r : Answer} {us file : List ℕ} (lent : Lent) → Meets o r (fileLent us file) → Meets (onFile lent o) r (lentOf us file (lent .last))
+file-meets lent meets = record { answered = meets .answered; left = λ i. lentOf (meets .left i .words) (meets .left i .file) (lent .last) }
 
 -- a note on words that are no list
 pub no-note-meets :
@@ -42,8 +48,8 @@ record-meets {ws = ws} {us = us} {last = last} {after = after} {r = r} bytes say
     subst (λ (l : Logged). Meets (noteOut l (lentOf ws bytes last)) r (lentOf us bytes after)) says (noted .meets bytes)
 
 -- words that are no list
-pub refused-meets : {o : Outcome (List ℕ)} {ws : List ℕ} {r : Answer} → o ≡ refused notAList ws → r ≡ answer 3 0 0 0 → Meets o r ws
-refused-meets e q = record { answered = q ∙ sym (ap (λ (p : Outcome (List ℕ)). p .answered) e); left = sym (ap (λ (p : Outcome (List ℕ)). p .left) e) }
+pub refused-meets : {L : Type 0} {o : Outcome L} {lent : L} {r : Answer} → o ≡ refused notAList lent → r ≡ answer 3 0 0 0 → Meets o r lent
+refused-meets {L} e q = record { answered = q ∙ sym (ap (λ (p : Outcome L). p .answered) e); left = sym (ap (λ (p : Outcome L). p .left) e) }
 
 -- a find writes nothing
 pub find-meets : (ws : List ℕ) (key : ℕ) {r : Answer} → r ≡ findOut ws key .answered → Meets (findOut ws key) r ws

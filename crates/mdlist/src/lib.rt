@@ -1,11 +1,12 @@
-// The waiting list as a Rust host calls it: seven operations by number and slice, and a batch of them. Each is a thin exported function: it checks that the
+// The waiting list as a Rust host calls it: nine operations by number and slice, and a batch of calls. Each is a thin exported function: it checks that the
 // lent words are a list, refuses by number 3 if they are not, and calls the inner function of the crate of its name. No one has a
-// `requires`, and each contract is the whole outcome of the call (docs/REFERENCE.md): the four numbers, every word, and the last number.
+// `requires`, and each contract is the whole outcome of the call (docs/REFERENCE.md): the four numbers, every word, the last number, and the bytes of a file.
 ghost use Rattle.records.specs.Notes.{Within};
 ghost use Rattle.insert_record.specs.Noted.{Noted};
 ghost use Rattle.meaning.specs.Refusals.{Meets};
 ghost use Rattle.meaning.specs.Operations.{setUpOut, insertOut, findOut, finishOut, takeOut, sweepOut};
 ghost use Rattle.meaning.specs.Records.{lentOf, recordOut};
+ghost use Rattle.meaning.specs.Saved.{fileLent, writeOut, readOut};
 ghost use Rattle.meaning.specs.Calls.{outcome};
 ghost use Rattle.meaning.specs.Batch.{batchLent, batchOut};
 use meaning::Answer;
@@ -95,6 +96,25 @@ pub fn enter(list: &mut [u32], logged: Logged, last: &mut u64) -> Answer
     insert_record::insert_record(list, s, logged, last)
 }
 
+// Writes what waits in the list into the bytes of a file; the list stays as it is.
+#[no_mangle]
+pub extern "C" fn mdlist_write(list: &[u32], file: &mut [u8]) -> Answer
+    ensures { λ r. ⌜ Meets (writeOut (fileLent (now (list .entry)) (now (file .entry)))) r (fileLent (now (list .entry)) (now (file .exit))) ⌝ }
+{
+    let Reading::IsList(s) = is_list::is_list(list) else {
+        return meaning::refused(meaning::NOT_A_LIST);
+    };
+    write_file::write_file(list, s, file)
+}
+
+// Makes the lent words the list that a file keeps, whatever they held.
+#[no_mangle]
+pub extern "C" fn mdlist_read(file: &[u8], list: &mut [u32]) -> Answer
+    ensures { λ r. ⌜ Meets (readOut (fileLent (now (list .entry)) (now (file .entry)))) r (fileLent (now (list .exit)) (now (file .entry))) ⌝ }
+{
+    read_file::read_file(file, list)
+}
+
 // Makes many calls on the list after one check, and puts four words of answer for each.
 #[no_mangle]
 pub extern "C" fn mdlist_batch(list: &mut [u32], calls: &[u32], answers: &mut [u32]) -> Answer
@@ -109,9 +129,9 @@ pub extern "C" fn mdlist_batch(list: &mut [u32], calls: &[u32], answers: &mut [u
     meaning::refused(meaning::BAD_BATCH)
 }
 
-// Makes a call: for programs that read calls and make them one after the other. A call that is no record leaves the bytes unread.
-pub fn make(list: &mut [u32], bytes: &[u8], last: &mut u64, call: Call) -> Answer
-    ensures { λ r. ⌜ Meets (outcome call (lentOf (now (list .entry)) (now (bytes .entry)) (now (last .entry)))) r (lentOf (now (list .exit)) (now (bytes .entry)) (now (last .exit))) ⌝ }
+// Makes a call: for programs that read calls and make them one after the other. A call that needs no bytes leaves them unread.
+pub fn make(list: &mut [u32], bytes: &mut [u8], last: &mut u64, call: Call) -> Answer
+    ensures { λ r. ⌜ Meets (outcome call (lentOf (now (list .entry)) (now (bytes .entry)) (now (last .entry)))) r (lentOf (now (list .exit)) (now (bytes .exit)) (now (last .exit))) ⌝ }
 {
     match call {
         Call::SetUp(d, k, c) => return mdlist_set_up(d, k, c, list),
@@ -121,5 +141,7 @@ pub fn make(list: &mut [u32], bytes: &[u8], last: &mut u64, call: Call) -> Answe
         Call::Take => return mdlist_take(list),
         Call::Sweep => return mdlist_sweep(list),
         Call::Record => return mdlist_record(list, bytes, last),
+        Call::Write => return mdlist_write(list, bytes),
+        Call::Read => return mdlist_read(bytes, list),
     }
 }

@@ -1,15 +1,15 @@
 -- Calls on lists, and what they do to the live pairs and the standing keys: a list is the picture of the state that it holds, so what a
 -- call does to a state in order (BookCalls.antt) it does to a list. Takes hand out the first live pair each time, as long as there is
 -- one; and a key is live on the words exactly if the node with that key is.
-use mathlib.Core.Path.{_≡_, refl, sym, _∙_, ap, ap₂, subst}
+use mathlib.Core.Path.{_≡_, refl, sym, _∙_, ap, ap₂}
 use mathlib.Core.Bool.{Bool, true, false}
 use mathlib.Core.List.{List, [], _∷_, cons≢nil}
 use mathlib.Core.Logic.{_↔_}
-use Prim.Native.Nat.{ℕ, zero, suc, _≤_}
+use Prim.Native.Nat.{ℕ, zero, suc}
 use native.Mathlib.Decide.{ℕ-discrete}
 use native.Mathlib.Omega.{arith}
 use lib.Dec.{eqb}
-use lib.ListN.{length}
+use lib.ListN.{length, take}
 use Rattle.settings.specs.Numbers.{inRange, lengthOf}
 use Rattle.meaning.specs.Row.{Node}
 use Rattle.meaning.specs.State.{State, positionKey}
@@ -18,7 +18,9 @@ use Rattle.meaning.specs.Reading.{read, settingsAt, isList}
 use Rattle.meaning.specs.Refusals.{Outcome, accepted, nothingLive, refused}
 use Rattle.meaning.specs.Operations.{fresh, setUpOut, fromLive, keysAbove, keysPassed, taken, takeOut}
 use Rattle.meaning.specs.Calls.{Made, madeOn, afterCalls}
-use Rattle.meaning.specs.Book.{Pair, pair, livePairs, bookOf, bookedAll}
+use Rattle.files.specs.Files.{Pair}
+use Rattle.meaning.specs.Pairs.{pair, livePairs}
+use Rattle.meaning.specs.Book.{bookOf, bookedAll}
 use Rattle.meaning.specs.Promises.{ListsStayLists, CallsKeepLists, keepsSettings, CallsKeepSettings, takes, TakesInTurn, TakesEnd, CallsAreBooked}
 use Rattle.meaning.proofs.State.{Sound}
 use Rattle.meaning.proofs.Picture.{picture-largest, picture-cells}
@@ -107,29 +109,22 @@ takes-first n s v x later e =
     takes-by n (picture s) (accepted (x .key) (x .value) (keysPassed (positionKey s) (x .key) (s .row)) (picture (taken s x)))
     (take-outcome-first s v x later e)
 
-takes-pairs : (n : ℕ) (s : State) → Sound s → length (pairsIn (s .row)) ≤ n → takes n (picture s) ≡ pairsIn (s .row)
+takes-pairs : (n : ℕ) (s : State) → Sound s → takes n (picture s) ≡ take n (pairsIn (s .row))
 unfolding takes
-takes-pairs zero s v h = at (pairsIn (s .row)) h
+takes-pairs zero s v = refl
+takes-pairs (suc n) s v = at (fromLive (s .row)) refl (λ t w. takes-pairs n t w)
   where
-    at : (pairs : List Pair) → length pairs ≤ 0 → [] ≡ pairs
-    at [] l = refl
-    at (p ∷ pairs) l = absurd (omega arith)
-takes-pairs (suc n) s v h = at (fromLive (s .row)) refl (λ t w. takes-pairs n t w)
-  where
-    at : (rest : List Node) → fromLive (s .row) ≡ rest → ((t : State) → Sound t → length (pairsIn (t .row)) ≤ n → takes n (picture t) ≡ pairsIn (t .row)) →
-        takes (suc n) (picture s) ≡ pairsIn (s .row)
-    at [] e more = takes-none n s v e ∙ sym (pairs-empty (s .row) e)
+    at : (rest : List Node) → fromLive (s .row) ≡ rest → ((t : State) → Sound t → takes n (picture t) ≡ take n (pairsIn (t .row))) →
+        takes (suc n) (picture s) ≡ take (suc n) (pairsIn (s .row))
+    at [] e more = takes-none n s v e ∙ sym (ap (take (suc n)) (pairs-empty (s .row) e))
     at (x ∷ later) e more =
-        let all = ap length (pairs-first (s .row) x later e) in
-        let left = ap length (taken-pairs s v x later e) in
         takes-first n s v x later e
-        ∙ ap {B = List Pair} (λ r. pair x ∷ r) (more (taken s x) (taken-sound s x later v e) (omega arith) ∙ taken-pairs s v x later e)
-        ∙ sym (pairs-first (s .row) x later e)
+        ∙ ap {B = List Pair} (λ r. pair x ∷ r) (more (taken s x) (taken-sound s x later v e) ∙ ap (take n) (taken-pairs s v x later e))
+        ∙ sym (ap (take (suc n)) (pairs-first (s .row) x later e))
 
 pub takes-in-turn : TakesInTurn
 takes-in-turn =
-    on-lists (λ ws. (n : ℕ) → length (livePairs ws) ≤ n → takes n ws ≡ livePairs ws) (λ s v n h.
-    takes-pairs n s v (subst (λ pairs. length pairs ≤ n) (live-pairs s v) h) ∙ sym (live-pairs s v))
+    on-lists (λ ws. (n : ℕ) → takes n ws ≡ take n (livePairs ws)) (λ s v n. takes-pairs n s v ∙ sym (ap (take n) (live-pairs s v)))
 
 pub takes-end : TakesEnd
 takes-end = on-lists (λ ws. (takeOut ws .answered .refusal ≡ 7) ↔ (livePairs ws ≡ [])) (λ s v. at s v (fromLive (s .row)) refl)

@@ -11,7 +11,9 @@ use lib.Dec.{eqb, leb}
 use lib.ListN.{length, drop, length-map}
 use borrow.Author.Tests.{eq-eqb, ne-eqb, lt-ltb, le-ltb, le-leb, lt-leb}
 use Rattle.settings.specs.Numbers.{inRange, lengthOf}
+use Rattle.settings.specs.declared.Settings.{Settings}
 use Rattle.lists.specs.Lists.{those}
+use Rattle.files.proofs.Files.{file-keeps}
 use Rattle.meaning.specs.Row.{Node, nodeAt}
 use Rattle.meaning.specs.State.{State}
 use Rattle.meaning.specs.Picture.{picture}
@@ -20,16 +22,21 @@ use Rattle.meaning.specs.Operations.{fromLive, deadNode, taken, swept}
 use Rattle.meaning.specs.Operations.{setUpOut, insertOut, findOut, finishOut, takeOut, sweepOut}
 use Rattle.meaning.specs.Refusals.{Outcome}
 use Rattle.meaning.specs.Records.{Lent, Asked, nothing, insertion, askedOut}
+use Rattle.meaning.specs.Saved.{FileLent, fileLent, writeOut, readOut}
 use Rattle.meaning.specs.Calls.{outcome, Made, lending, madeOn}
 use Rattle.meaning.specs.Promises.{keepsSettings}
-use Rattle.meaning.specs.Book.{Pair, pair, Book, hasKey, putPair, putKey, inserted, keyInserted, keptFrom, bookedCall, askedIn, booked}
-use Rattle.meaning.specs.declared.Call.the-variants.{SetUp, Insert, Find, Finish, Take, Sweep, Record}
+use Rattle.files.specs.Files as files
+use Rattle.files.specs.Files.{Pair, settingsIn, contentsOf}
+use Rattle.meaning.specs.Pairs.{pair}
+use Rattle.meaning.specs.Book.{Book, hasKey, putPair, putKey, inserted, keyInserted, keptFrom, bookedCall, askedIn, booked}
+use Rattle.meaning.specs.Layer.ReadState.{readState}
+use Rattle.meaning.specs.declared.Call.the-variants.{SetUp, Insert, Find, Finish, Take, Sweep, Record, Write, Read}
 use Rattle.meaning.specs.declared.Call.{Call}
 use Rattle.meaning.proofs.AscendingRow.{Asc}
 use Rattle.meaning.proofs.State.{Sound}
 use Rattle.meaning.proofs.StateCells.{free-length}
 use Rattle.meaning.proofs.Picture.{picture-length}
-use Rattle.meaning.proofs.ReadBack.{picture-is-list}
+use Rattle.meaning.proofs.ReadBack.{read-of-picture, picture-is-list}
 use Rattle.meaning.proofs.Places.{asc-smaller, asc-larger, onCell, onCell-cases, keys-changed, asc-changed}
 use Rattle.meaning.proofs.KeepsState.{deadFront-dead, live-split}
 use Rattle.meaning.proofs.KeepsSetUp.{fresh-sound}
@@ -44,6 +51,8 @@ use Rattle.meaning.proofs.Outcomes.{take-outcome-first, sweep-outcome, 
 use Rattle.meaning.proofs.BookRow.{pairsIn, keysIn, pairs-dead, pairs-past, pairs-after, pairs-changed, pairs-put, isThere, isLive, key-stands}
 use Rattle.meaning.proofs.BookRow.{key-lives, node-key, changed-alone, pairs-empty, pairs-first, kept-keys, kept-pairs, absent-changed}
 use Rattle.meaning.proofs.BookRow.{put-pairs, put-keys}
+use Rattle.meaning.proofs.ReadIn.{read-state-sound, read-list}
+use Rattle.meaning.proofs.Saved.{write-keeps-words, read-outcome-bad-file, read-outcome-wrong-length, read-cases, read-leaves}
 
 -- the largest key, the cells, the live pairs and the standing keys of a state
 abbrev pub bookIn : State → Book
@@ -62,9 +71,9 @@ pub record Booking (s : State) (words : List ℕ) (done : Book) (keeps : Bool) :
 still : {keeps : Bool} (s : State) (words : List ℕ) (book : Book) → Sound s → words ≡ picture s → book ≡ bookIn s → Booking s words book keeps
 still s words book v same kept = record { after = s; sound = v; left = same; long = refl; book = sym kept; settings = λ e. refl }
 
--- what a call does to a state's book, where a record asks for this
-abbrev bookedIn : Call → Asked → State → Book
-bookedIn call asked s = bookedCall call asked (length (picture s)) (bookIn s)
+-- what a call does to a state's book, where a record asks for this and these bytes are lent
+abbrev bookedIn : Call → Asked → List ℕ → State → Book
+bookedIn call asked bytes s = bookedCall call asked bytes (length (picture s)) (bookIn s)
 
 -- the book of a state with the settings of another one
 book-is : (s t : State) (pairs : List Pair) (keys : List ℕ) → t .settings ≡ s .settings → pairsIn (t .row) ≡ pairs → keysIn (t .row) ≡ keys →
@@ -78,9 +87,10 @@ same-length s t e = picture-length t ∙ ap (λ n. lengthOf (n .dimensions) (n .
 -- Set up
 
 pub set-up-booked :
-    (asked : Asked) (D K C : ℕ) (s : State) → Sound s → Booking s (setUpOut D K C (picture s) .left) (bookedIn (SetUp D K C) asked s) false
+    (asked : Asked) (bytes : List ℕ) (D K C : ℕ) (s : State) → Sound s →
+    Booking s (setUpOut D K C (picture s) .left) (bookedIn (SetUp D K C) asked bytes s) false
 unfolding bookedCall fresh those
-set-up-booked asked D K C s v = at (inRange D K C) refl (ℕ-discrete (length (picture s)) (lengthOf D C))
+set-up-booked asked bytes D K C s v = at (inRange D K C) refl (ℕ-discrete (length (picture s)) (lengthOf D C))
   where
     long : ℕ
     long = length (picture s)
@@ -88,7 +98,7 @@ set-up-booked asked D K C s v = at (inRange D K C) refl (ℕ-discrete (length (p
     new : Book
     new = record { largest = K; cells = C; pairs = []; standing = [] }
 
-    at : (t : Bool) → inRange D K C ≡ t → Dec (long ≡ lengthOf D C) → Booking s (setUpOut D K C (picture s) .left) (bookedIn (SetUp D K C) asked s) false
+    at : (t : Bool) → inRange D K C ≡ t → Dec (long ≡ lengthOf D C) → Booking s (setUpOut D K C (picture s) .left) (bookedIn (SetUp D K C) asked bytes s) false
     at false e l =
         still s _ _ v (ap (λ o. o .left) (set-up-outcome-out-of-range D K C (picture s) e))
         (ap (λ t. cond (t && eqb long (lengthOf D C)) new (bookIn s)) e)
@@ -274,15 +284,15 @@ insert-booked key value s v =
 
 -- Find
 
-pub find-booked : (asked : Asked) (key : ℕ) (s : State) → Sound s → Booking s (findOut (picture s) key .left) (bookedIn (Find key) asked s) true
+pub find-booked : (asked : Asked) (bytes : List ℕ) (key : ℕ) (s : State) → Sound s → Booking s (findOut (picture s) key .left) (bookedIn (Find key) asked bytes s) true
 unfolding bookedCall
-find-booked asked key s v = still s _ _ v (find-writes-nothing (picture s) key) refl
+find-booked asked bytes key s v = still s _ _ v (find-writes-nothing (picture s) key) refl
 
 -- Finish
 
-pub finish-booked : (asked : Asked) (key : ℕ) (s : State) → Sound s → Booking s (finishOut (picture s) key .left) (bookedIn (Finish key) asked s) true
+pub finish-booked : (asked : Asked) (bytes : List ℕ) (key : ℕ) (s : State) → Sound s → Booking s (finishOut (picture s) key .left) (bookedIn (Finish key) asked bytes s) true
 unfolding bookedCall
-finish-booked asked key s v =
+finish-booked asked bytes key s v =
     key-cases s key
     (λ n. still s _ _ v (ap (λ o. o .left) (finish-outcome-bad-key s v key n)) refl)
     (λ l h e. still s _ _ v (ap (λ o. o .left) (finish-outcome-absent s v key l h e)) refl)
@@ -311,14 +321,14 @@ pub taken-keys : (s : State) (x : Node) → keysIn (taken s x .row) ≡ keysIn (
 unfolding taken
 taken-keys s x = keys-changed (onCell (x .cell) deadNode) (dead-keeping (x .cell)) (s .row)
 
-pub take-booked : (asked : Asked) (s : State) → Sound s → Booking s (takeOut (picture s) .left) (bookedIn Take asked s) true
+pub take-booked : (asked : Asked) (bytes : List ℕ) (s : State) → Sound s → Booking s (takeOut (picture s) .left) (bookedIn Take asked bytes s) true
 unfolding bookedCall taken
-take-booked asked s v = at (fromLive (s .row)) refl
+take-booked asked bytes s v = at (fromLive (s .row)) refl
   where
     gone : List Pair → Book
     gone pairs = record { largest = s .settings .largest; cells = s .settings .cells; pairs = drop 1 pairs; standing = keysIn (s .row) }
 
-    at : (rest : List Node) → fromLive (s .row) ≡ rest → Booking s (takeOut (picture s) .left) (bookedIn Take asked s) true
+    at : (rest : List Node) → fromLive (s .row) ≡ rest → Booking s (takeOut (picture s) .left) (bookedIn Take asked bytes s) true
     at [] e =
         let none = pairs-empty (s .row) e in
         still s _ _ v (ap (λ o. o .left) (take-outcome-none s v e))
@@ -345,9 +355,9 @@ pub swept-keys : (s : State) → Sound s → keysIn (swept s .row) ≡ keptFrom 
 unfolding swept
 swept-keys s v = keys-changed paid paid-all-keeping (keptBy (s .row)) ∙ sym (kept-keys (s .row) (v .ascends))
 
-pub sweep-booked : (asked : Asked) (s : State) → Sound s → Booking s (sweepOut (picture s) .left) (bookedIn Sweep asked s) true
+pub sweep-booked : (asked : Asked) (bytes : List ℕ) (s : State) → Sound s → Booking s (sweepOut (picture s) .left) (bookedIn Sweep asked bytes s) true
 unfolding bookedCall swept
-sweep-booked asked s v =
+sweep-booked asked bytes s v =
     record {
       after = swept s;
       sound = swept-sound s v;
@@ -359,10 +369,53 @@ sweep-booked asked s v =
 
 -- Record
 
-asked-booked : (made : Made) (asked : Asked) (s : State) → Sound s → Booking s (askedOut (lending made (picture s)) asked .left .words) (bookedIn Record asked s) true
+asked-booked : (made : Made) (asked : Asked) (s : State) → Sound s → Booking s (askedOut (lending made (picture s)) asked .left .words) (bookedIn Record asked (made .bytes) s) true
 unfolding bookedCall
 asked-booked made (nothing refusal) s v = still s _ _ v refl refl
 asked-booked made (insertion key number) s v = insert-booked key number s v
+
+-- Write
+
+write-booked : (asked : Asked) (bytes : List ℕ) (s : State) → Sound s →
+    Booking s (writeOut (fileLent (picture s) bytes) .left .words) (bookedIn Write asked bytes s) true
+unfolding bookedCall
+write-booked asked bytes s v = still s _ _ v (write-keeps-words (fileLent (picture s) bytes)) refl
+
+-- Read
+
+read-booked : (asked : Asked) (bytes : List ℕ) (s : State) → Sound s →
+    Booking s (readOut (fileLent (picture s) bytes) .left .words) (bookedIn Read asked bytes s) false
+unfolding bookedCall contentsOf readState
+read-booked asked bytes s v =
+    read-cases lent
+    (λ e. still s _ _ v (ap (λ o. o .left .words) (read-outcome-bad-file lent e)) (rw e refl))
+    (λ e ne. still s _ _ v (ap (λ o. o .left .words) (read-outcome-wrong-length lent e ne))
+    (rw (e, ne-eqb (length (picture s)) (lengthOf (kept .dimensions) (kept .cells)) ne) refl))
+    (λ e exact.
+    let t = readState kept pairs in
+    let sound = read-state-sound kept pairs (file-keeps bytes e) refl in
+    let list = read-list kept pairs (file-keeps bytes e) refl in
+    let back = sym (read-of-picture t sound) in
+    record {
+      after = t;
+      sound = sound;
+      left = read-leaves lent e exact;
+      long = picture-length t ∙ sym exact;
+      book =
+          book-is t t pairs (map (λ p. p .key) pairs) refl
+          (ap (λ u. pairsIn (u .row)) back ∙ list .live) (ap (λ u. keysIn (u .row)) back ∙ list .standing)
+          ∙ sym (rw (e, eq-eqb (length (picture s)) (lengthOf (kept .dimensions) (kept .cells)) exact) refl);
+      settings = λ f. absurd (true≢false (sym f));
+    })
+  where
+    lent : FileLent
+    lent = fileLent (picture s) bytes
+
+    kept : Settings
+    kept = settingsIn bytes
+
+    pairs : List Pair
+    pairs = files.pairsIn bytes
 
 -- Every call
 
@@ -372,13 +425,15 @@ pub call-booked :
 unfolding outcome bookedCall
 call-booked made s v = at (made .call)
   where
-    at : (call : Call) → Booking s (outcome call (lending made (picture s)) .left .words) (bookedIn call (askedIn made) s) (keepsSettings call)
-    at (SetUp D K C) = set-up-booked (askedIn made) D K C s v
+    at : (call : Call) → Booking s (outcome call (lending made (picture s)) .left .words) (bookedIn call (askedIn made) (made .bytes) s) (keepsSettings call)
+    at (SetUp D K C) = set-up-booked (askedIn made) (made .bytes) D K C s v
     at (Insert key value) = insert-booked key value s v
-    at (Find key) = find-booked (askedIn made) key s v
-    at (Finish key) = finish-booked (askedIn made) key s v
-    at Take = take-booked (askedIn made) s v
-    at Sweep = sweep-booked (askedIn made) s v
+    at (Find key) = find-booked (askedIn made) (made .bytes) key s v
+    at (Finish key) = finish-booked (askedIn made) (made .bytes) key s v
+    at Take = take-booked (askedIn made) (made .bytes) s v
+    at Sweep = sweep-booked (askedIn made) (made .bytes) s v
     at Record =
-        subst (λ (o : Outcome Lent). Booking s (o .left .words) (bookedIn Record (askedIn made) s) true) (sym (record-asks (lending made (picture s)) (picture-is-list s v)))
+        subst (λ (o : Outcome Lent). Booking s (o .left .words) (bookedIn Record (askedIn made) (made .bytes) s) true) (sym (record-asks (lending made (picture s)) (picture-is-list s v)))
         (asked-booked made (askedIn made) s v)
+    at Write = write-booked (askedIn made) (made .bytes) s v
+    at Read = read-booked (askedIn made) (made .bytes) s v

@@ -11,16 +11,22 @@ use lib.Dec.{leb}
 use lib.ListN.{length}
 use borrow.Author.Tests.{eq-eqb, ne-eqb, lt-ltb, le-ltb, le-leb, lt-leb}
 use Rattle.settings.specs.Numbers.{inRange, lengthOf}
+use Rattle.settings.specs.declared.Settings.{Settings}
+use Rattle.files.specs.Files.{Pair, fileLength, settingsIn, contentsOf}
+use Rattle.files.proofs.Written.{file-length}
 use Rattle.meaning.specs.Row.{Node, nodeAt}
 use Rattle.meaning.specs.State.{State}
 use Rattle.meaning.specs.Picture.{picture}
+use Rattle.meaning.specs.Reading.{settingsAt, isList}
+use Rattle.meaning.specs.Pairs.{livePairs}
 use Rattle.meaning.specs.Refusals.{Outcome}
 use Rattle.meaning.specs.Operations.{setUpOut, insertOut, findOut, finishOut, fromLive, takeOut}
 use Rattle.meaning.specs.Records.{Lent, Asked, nothing, insertion, askedOut}
+use Rattle.meaning.specs.Saved.{FileLent, fileLent, writeOut, readOut}
 use Rattle.meaning.specs.Calls.{outcome, Made, lending, madeOn}
 use Rattle.meaning.specs.Book.{Book, bookOf, Reply, replies, replyIn, hasKey, valueIn, liveIn, keyed, insertReply, takeReply, replyToCall, askedIn, replyTo}
 use Rattle.meaning.specs.Promises.{AnswersAreBooked}
-use Rattle.meaning.specs.declared.Call.the-variants.{SetUp, Insert, Find, Finish, Take, Sweep, Record}
+use Rattle.meaning.specs.declared.Call.the-variants.{SetUp, Insert, Find, Finish, Take, Sweep, Record, Write, Read}
 use Rattle.meaning.specs.declared.Call.{Call}
 use Rattle.meaning.proofs.State.{Sound}
 use Rattle.meaning.proofs.Outcomes.{on-lists, set-up-outcome-out-of-range, set-up-outcome-wrong-length, set-up-outcome, insert-outcome-bad-key}
@@ -31,7 +37,9 @@ use Rattle.meaning.proofs.Outcomes.{key-cases, live-cases, free-cases, 
 use Rattle.meaning.proofs.ReadBack.{picture-is-list}
 use Rattle.meaning.proofs.BookRow.{pairsIn, keysIn, pairs-live, pairs-dead, isThere, isLive, key-stands, key-lives, pairs-empty, pairs-first}
 use Rattle.meaning.proofs.BookCalls.{bookIn, room}
-use Rattle.meaning.proofs.Book.{book-of-picture}
+use Rattle.meaning.proofs.Book.{live-pairs, book-of-picture}
+use Rattle.meaning.proofs.Saved.{fileFor, write-outcome-no-room, write-outcome, room-cases, read-outcome-bad-file, read-outcome-wrong-length}
+use Rattle.meaning.proofs.Saved.{read-outcome, read-cases}
 
 -- the value of a live key among the pairs is its node's
 pair-value : (key : ℕ) (x : Node) (row : List Node) → nodeAt key row ≡ some x → x .live ≡ true → valueIn key (pairsIn row) ≡ x .value
@@ -64,19 +72,19 @@ keyed-bad key k reply f = at (decLe 1 key)
     at (yes l) = rw (le-leb 1 key l, lt-leb key (k .largest) (f l)) refl
     at (no l) = let below : key < 1 = omega arith in rw (lt-leb 1 key below) refl
 
--- what an outcome on a state answers is what the state's book tells, where a record asks for this
-abbrev Replied : Call → Asked → State → Outcome (List ℕ) → Type 0
-Replied call asked s o = replyIn (o .answered) ≡ replyToCall call asked (length (picture s)) (bookIn s)
+-- what an outcome on a state answers is what the state's book tells, where a record asks for this and these bytes are lent
+abbrev Replied : {Lent : Type 0} → Call → Asked → List ℕ → State → Outcome Lent → Type 0
+Replied call asked bytes s o = replyIn (o .answered) ≡ replyToCall call asked bytes (length (picture s)) (bookIn s)
 
 -- what an outcome answers
-answering : {o p : Outcome (List ℕ)} → o ≡ p → replyIn (o .answered) ≡ replyIn (p .answered)
-answering e = ap (λ (o : Outcome (List ℕ)). replyIn (o .answered)) e
+answering : {Lent : Type 0} {o p : Outcome Lent} → o ≡ p → replyIn (o .answered) ≡ replyIn (p .answered)
+answering {Lent} e = ap (λ (o : Outcome Lent). replyIn (o .answered)) e
 
-set-up-reply : (asked : Asked) (D K C : ℕ) (s : State) → Replied (SetUp D K C) asked s (setUpOut D K C (picture s))
+set-up-reply : (asked : Asked) (bytes : List ℕ) (D K C : ℕ) (s : State) → Replied (SetUp D K C) asked bytes s (setUpOut D K C (picture s))
 unfolding replyToCall
-set-up-reply asked D K C s = at (inRange D K C) refl (ℕ-discrete (length (picture s)) (lengthOf D C))
+set-up-reply asked bytes D K C s = at (inRange D K C) refl (ℕ-discrete (length (picture s)) (lengthOf D C))
   where
-    at : (t : Bool) → inRange D K C ≡ t → Dec (length (picture s) ≡ lengthOf D C) → Replied (SetUp D K C) asked s (setUpOut D K C (picture s))
+    at : (t : Bool) → inRange D K C ≡ t → Dec (length (picture s) ≡ lengthOf D C) → Replied (SetUp D K C) asked bytes s (setUpOut D K C (picture s))
     at false e l = answering (set-up-outcome-out-of-range D K C (picture s) e) ∙ rw e refl
     at true e (no l) = answering (set-up-outcome-wrong-length D K C (picture s) e l) ∙ rw (e, ne-eqb (length (picture s)) (lengthOf D C) l) refl
     at true e (yes l) = answering (set-up-outcome D K C (picture s) e l) ∙ rw (e, eq-eqb (length (picture s)) (lengthOf D C) l) refl
@@ -104,9 +112,9 @@ module _ (s : State) (v : Sound s) (key : ℕ) where
       (λ q. answering (insert-outcome-dead s v key value l h x e q) ∙ sym (keyed-good key (bookIn s) _ l h
       ∙ rw (lives (some x) e ∙ q, stands (some x) e) refl)))
 
-  find-reply : (asked : Asked) → Replied (Find key) asked s (findOut (picture s) key)
+  find-reply : (asked : Asked) (bytes : List ℕ) → Replied (Find key) asked bytes s (findOut (picture s) key)
   unfolding replyToCall
-  find-reply asked =
+  find-reply asked bytes =
       key-cases s key
       (λ n. answering (find-outcome-bad-key s v key n) ∙ sym (keyed-bad key (bookIn s) _ n))
       (λ l h e. answering (find-outcome-absent s v key l h e) ∙ sym (keyed-good key (bookIn s) _ l h ∙ rw (lives none e) refl))
@@ -115,28 +123,59 @@ module _ (s : State) (v : Sound s) (key : ℕ) where
       ∙ rw (lives (some x) e ∙ q, pair-value key x (s .row) e q) refl))
       (λ q. answering (find-outcome-dead s v key l h x e q) ∙ sym (keyed-good key (bookIn s) _ l h ∙ rw (lives (some x) e ∙ q) refl)))
 
-  finish-reply : (asked : Asked) → Replied (Finish key) asked s (finishOut (picture s) key)
+  finish-reply : (asked : Asked) (bytes : List ℕ) → Replied (Finish key) asked bytes s (finishOut (picture s) key)
   unfolding replyToCall
-  finish-reply asked =
+  finish-reply asked bytes =
       key-cases s key
       (λ n. answering (finish-outcome-bad-key s v key n) ∙ sym (keyed-bad key (bookIn s) _ n))
       (λ l h e. answering (finish-outcome-absent s v key l h e) ∙ sym (keyed-good key (bookIn s) _ l h ∙ rw (stands none e) refl))
       (λ l h x e. answering (finish-outcome-standing s v key l h x e) ∙ sym (keyed-good key (bookIn s) _ l h ∙ rw (stands (some x) e) refl))
 
-take-reply : (asked : Asked) (s : State) → Sound s → Replied Take asked s (takeOut (picture s))
+take-reply : (asked : Asked) (bytes : List ℕ) (s : State) → Sound s → Replied Take asked bytes s (takeOut (picture s))
 unfolding replyToCall
-take-reply asked s v = at (fromLive (s .row)) refl
+take-reply asked bytes s v = at (fromLive (s .row)) refl
   where
-    at : (rest : List Node) → fromLive (s .row) ≡ rest → Replied Take asked s (takeOut (picture s))
+    at : (rest : List Node) → fromLive (s .row) ≡ rest → Replied Take asked bytes s (takeOut (picture s))
     at [] e = answering (take-outcome-none s v e) ∙ sym (ap takeReply (pairs-empty (s .row) e))
     at (x ∷ later) e = answering (take-outcome-first s v x later e) ∙ sym (ap takeReply (pairs-first (s .row) x later e))
 
 asked-reply :
     (made : Made) (asked : Asked) (s : State) → Sound s →
-    replyIn (askedOut (lending made (picture s)) asked .answered) ≡ replyToCall Record asked (length (picture s)) (bookIn s)
+    replyIn (askedOut (lending made (picture s)) asked .answered) ≡ replyToCall Record asked (made .bytes) (length (picture s)) (bookIn s)
 unfolding replyToCall
 asked-reply made (nothing refusal) s v = refl
 asked-reply made (insertion key number) s v = insert-reply s v key number
+
+-- the file of a state is as long as its pairs say
+write-reply : (asked : Asked) (bytes : List ℕ) (s : State) → Sound s → Replied Write asked bytes s (writeOut (fileLent (picture s) bytes))
+unfolding replyToCall
+write-reply asked bytes s v =
+    room-cases lent
+    (λ h. answering (write-outcome-no-room lent list h) ∙ rw (lt-leb (fileLength (length (pairsIn (s .row)))) (length bytes) (omega (arith, long, h))) refl)
+    (λ h. answering (write-outcome lent list h) ∙ rw (le-leb (fileLength (length (pairsIn (s .row)))) (length bytes) (omega (arith, long, h))) refl)
+  where
+    lent : FileLent
+    lent = fileLent (picture s) bytes
+
+    list : isList (picture s) ≡ true
+    list = picture-is-list s v
+
+    long : length (fileFor (picture s)) ≡ fileLength (length (pairsIn (s .row)))
+    long = file-length (settingsAt (picture s)) (livePairs (picture s)) ∙ ap (λ (pairs : List Pair). fileLength (length pairs)) (live-pairs s v)
+
+read-reply : (asked : Asked) (bytes : List ℕ) (s : State) → Replied Read asked bytes s (readOut (fileLent (picture s) bytes))
+unfolding replyToCall contentsOf
+read-reply asked bytes s =
+    read-cases lent
+    (λ e. answering (read-outcome-bad-file lent e) ∙ rw e refl)
+    (λ e ne. answering (read-outcome-wrong-length lent e ne) ∙ rw (e, ne-eqb (length (picture s)) (lengthOf (kept .dimensions) (kept .cells)) ne) refl)
+    (λ e exact. answering (read-outcome lent e exact) ∙ rw (e, eq-eqb (length (picture s)) (lengthOf (kept .dimensions) (kept .cells)) exact) refl)
+  where
+    lent : FileLent
+    lent = fileLent (picture s) bytes
+
+    kept : Settings
+    kept = settingsIn bytes
 
 call-reply : (made : Made) (s : State) → Sound s → replyIn (madeOn made (picture s) .answered) ≡ replyTo made (length (picture s)) (bookIn s)
 unfolding outcome replyToCall
@@ -144,14 +183,16 @@ call-reply made s v = at (made .call)
   where
     at :
         (call : Call) →
-        replyIn (outcome call (lending made (picture s)) .answered) ≡ replyToCall call (askedIn made) (length (picture s)) (bookIn s)
-    at (SetUp D K C) = set-up-reply (askedIn made) D K C s
+        replyIn (outcome call (lending made (picture s)) .answered) ≡ replyToCall call (askedIn made) (made .bytes) (length (picture s)) (bookIn s)
+    at (SetUp D K C) = set-up-reply (askedIn made) (made .bytes) D K C s
     at (Insert key value) = insert-reply s v key value
-    at (Find key) = find-reply s v key (askedIn made)
-    at (Finish key) = finish-reply s v key (askedIn made)
-    at Take = take-reply (askedIn made) s v
+    at (Find key) = find-reply s v key (askedIn made) (made .bytes)
+    at (Finish key) = finish-reply s v key (askedIn made) (made .bytes)
+    at Take = take-reply (askedIn made) (made .bytes) s v
     at Sweep = answering (sweep-outcome s v)
-    at Record = ap (λ (o : Outcome Lent). replyIn (o .answered)) (record-asks (lending made (picture s)) (picture-is-list s v)) ∙ asked-reply made (askedIn made) s v
+    at Record = answering (record-asks (lending made (picture s)) (picture-is-list s v)) ∙ asked-reply made (askedIn made) s v
+    at Write = write-reply (askedIn made) (made .bytes) s v
+    at Read = read-reply (askedIn made) (made .bytes) s
 
 pub answers-are-booked : AnswersAreBooked
 answers-are-booked made =

@@ -16,7 +16,9 @@ use Rattle.lists.proofs.All.{All, all-map, all-right, all-of-map, all-mapped, a
 use Rattle.meaning.specs.Row.{Node, put, nodeAt}
 use Rattle.meaning.specs.State.{State}
 use Rattle.meaning.specs.Operations.{deadFront, fromLive, lastAlone}
-use Rattle.meaning.specs.Book.{Pair, pair, hasKey, putPair, putKey, keptFrom}
+use Rattle.files.specs.Files.{Pair}
+use Rattle.meaning.specs.Pairs.{pair}
+use Rattle.meaning.specs.Book.{hasKey, putPair, putKey, keptFrom}
 use Rattle.meaning.proofs.AgainstSlips.{present-is-that-key}
 use Rattle.meaning.proofs.AscendingRow.{Asc, asc-above}
 use Rattle.meaning.proofs.State.{Sound}

@@ -14,7 +14,7 @@ use Rattle.meaning.specs.Words.{keyAt, owedAt, linkAt}
 use Rattle.meaning.specs.Walk.{walk}
 use Rattle.meaning.specs.Operations.{setUpOut, insertOut, finishOut}
 use Rattle.meaning.specs.Calls.{Made, alone, madeOn, afterCalls}
-use Rattle.meaning.specs.Book.{standingKeys}
+use Rattle.meaning.specs.Pairs.{standingKeys}
 use Rattle.meaning.specs.Runs.{passedSum, onlyOf, ofRun, ofRunWithInserts, positionKeyAt, keysFromTo, keysAhead, addedSum}
 use Rattle.meaning.specs.Promises.{FromFresh, Live}
 use Rattle.meaning.specs.declared.Call.the-variants.{Insert, Find, Finish, Take, Sweep}

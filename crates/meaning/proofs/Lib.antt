@@ -57,8 +57,13 @@ pub mod SweepWords
 -- The outcome of each call, case by case, and what an ordered map would do.
 pub mod Outcomes
 pub mod BookRow
+pub mod ReadState
+pub mod ReadIn
+pub mod ReadInPath
+pub mod Saved
 pub mod BookCalls
 pub mod Book
+pub mod Restart
 pub mod BookReplies
 pub mod Listed
 pub mod BookPresent

@@ -17,20 +17,26 @@ use Rattle.settings.specs.Checked.{checkedOf, settingsOf}
 use Rattle.settings.specs.declared.Checked.the-variants.{Accepted, OutOfRange}
 use Rattle.lists.proofs.Tests.{cond-has}
 use Rattle.records.specs.Notes.{noteBy}
+use Rattle.files.specs.Files.{fileOf, contentsOf}
+use Rattle.files.specs.declared.Contents.{Contents}
+use Rattle.files.specs.declared.Contents.the-variants.{IsFile, NotAFile}
+use Rattle.meaning.specs.Pairs.{livePairs}
 use Rattle.meaning.specs.Row.{Node, placeOf, nodeAt}
 use Rattle.meaning.specs.State.{State, positionKey, placesOf}
 use Rattle.meaning.specs.Picture.{picture}
 use Rattle.meaning.specs.Reading.{read, settingsAt, isList, readingOf}
 use Rattle.meaning.specs.Refusals.{Outcome, accepted, Refusal, outOfRange, wrongLength, notAList, badKey, keyLive, noFreeCell, nothingLive}
-use Rattle.meaning.specs.Refusals.{keyNotLive, keyNotStanding, lineNotReadable, badRecord, numberOutside, badBatch, answerOf, refused}
+use Rattle.meaning.specs.Refusals.{keyNotLive, keyNotStanding, lineNotReadable, badFile, noRoom, badRecord, numberOutside, badBatch, answerOf}
+use Rattle.meaning.specs.Refusals.{refused}
 use Rattle.meaning.specs.Operations.{onList, onKey, looked, fresh, setUpOut, finished, withRow, linksMoved, finishAt, finishOut, onReading, setUpBy}
 use Rattle.meaning.specs.Operations.{findAt, findOut, revived, slotFor, added, insertNew, insertAt, insertOut, fromLive, keysAbove, keysPassed}
 use Rattle.meaning.specs.Operations.{taken, takeFrom, takeOut, freedBy, swept, sweepOut}
 use Rattle.meaning.specs.Records.{Lent, lentOf, Asked, nothing, insertion, noteAsks, recorded, askedOut, noteOn, noteOut, recordOut}
-use Rattle.meaning.specs.Calls.{onWords, outcome}
+use Rattle.meaning.specs.Saved.{FileLent, fileLent, writeOn, writeOut, readFrom, readOut}
+use Rattle.meaning.specs.Calls.{onWords, onFile, outcome}
 use Rattle.meaning.specs.Promises.{RefusedAltersNothing}
 use Rattle.meaning.specs.declared.Call.{Call}
-use Rattle.meaning.specs.declared.Call.the-variants.{SetUp, Insert, Find, Finish, Take, Sweep, Record}
+use Rattle.meaning.specs.declared.Call.the-variants.{SetUp, Insert, Find, Finish, Take, Sweep, Record, Write, Read}
 use Rattle.meaning.specs.declared.Reading.{Reading}
 use Rattle.meaning.specs.declared.Reading.the-variants.{IsList, NotAList}
 use Rattle.meaning.proofs.State.{Sound}
@@ -307,6 +313,10 @@ ends-lent : (lent : Lent) (o : Outcome (List ℕ)) → Ends (lent .words) o → 
 ends-lent lent o (well z) = well z
 ends-lent lent o (refusing r e) = refusing r (ap (onWords lent) e)
 
+ends-file : (lent : Lent) (o : Outcome FileLent) → Ends (fileLent (lent .words) (lent .bytes)) o → Ends lent (onFile lent o)
+ends-file lent o (well z) = well z
+ends-file lent o (refusing r e) = refusing r (ap (onFile lent) e)
+
 -- the numbers of the table
 pub table : (r : Refusal) → (answerOf r .refusal ≡ 0 → ⊥) × (answerOf r .refusal ≡ 9 → ⊥)
 table outOfRange = (λ e. omega arith, λ e. omega arith)
@@ -319,6 +329,8 @@ table (nothingLive above) = (λ e. omega arith, λ e. omega arith)
 table (keyNotLive key count) = (λ e. omega arith, λ e. omega arith)
 table (keyNotStanding key) = (λ e. omega arith, λ e. omega arith)
 table lineNotReadable = (λ e. omega arith, λ e. omega arith)
+table badFile = (λ e. omega arith, λ e. omega arith)
+table noRoom = (λ e. omega arith, λ e. omega arith)
 table badRecord = (λ e. omega arith, λ e. omega arith)
 table numberOutside = (λ e. omega arith, λ e. omega arith)
 table badBatch = (λ e. omega arith, λ e. omega arith)
@@ -337,6 +349,25 @@ asked-ends : (lent : Lent) (asked : Asked) → Ends lent (askedOut lent asked)
 asked-ends lent (nothing r) = refusing r refl
 asked-ends lent (insertion key number) = ends-recorded lent number (insertOut (lent .words) key number) (insert-ends (lent .words) key number)
 
+write-ends : (lent : FileLent) → Ends lent (writeOut lent)
+unfolding writeOut
+write-ends lent = at (readingOf (lent .words))
+  where
+    at : (reading : Reading) → Ends lent (writeOn lent reading)
+    at (IsList s) =
+        let file = fileOf s (livePairs (lent .words)) in
+        cond-has (Ends lent) (leb (length file) (length (lent .file))) _ _ (well refl) (turned-away lent noRoom)
+    at NotAList = turned-away lent notAList
+
+read-ends : (lent : FileLent) → Ends lent (readOut lent)
+unfolding readOut
+read-ends lent = at (contentsOf (lent .file))
+  where
+    at : (contents : Contents) → Ends lent (readFrom lent contents)
+    at (IsFile s n) =
+        cond-has (Ends lent) (eqb (length (lent .words)) (lengthOf (s .dimensions) (s .cells))) _ _ (well refl) (turned-away lent wrongLength)
+    at NotAFile = turned-away lent badFile
+
 ends : (call : Call) (lent : Lent) → Ends lent (outcome call lent)
 unfolding outcome recordOut noteOut
 ends (SetUp D K C) lent = ends-lent lent _ (set-up-has (Ends (lent .words)) (lent .words) (turned-away (lent .words)) D K C (well refl))
@@ -350,6 +381,8 @@ ends Record lent = at (readingOf (lent .words))
     at : (reading : Reading) → Ends lent (noteOn lent (noteBy (lent .bytes)) reading)
     at (IsList s) = asked-ends lent (noteAsks (lent .last) (noteBy (lent .bytes)))
     at NotAList = refusing notAList refl
+ends Write lent = ends-file lent _ (write-ends (fileLent (lent .words) (lent .bytes)))
+ends Read lent = ends-file lent _ (read-ends (fileLent (lent .words) (lent .bytes)))
 
 pub refused-alters-nothing : RefusedAltersNothing
 refused-alters-nothing call lent ne = at (ends call lent)

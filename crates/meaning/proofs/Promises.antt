@@ -21,7 +21,7 @@ use Rattle.meaning.specs.Rule.{rule}
 use Rattle.meaning.specs.Words.{keyAt, dimensionsAt, largestAt, baseAt}
 use Rattle.meaning.specs.Walk.{trailFrom, trail, ends, walk}
 use Rattle.meaning.specs.Lower.{lowerWayFor, lowerFor}
-use Rattle.meaning.specs.Book.{standingKeys}
+use Rattle.meaning.specs.Pairs.{standingKeys}
 use Rattle.meaning.specs.Promises.{ListsStayLists, CallsKeepLists, CallsKeepSettings, RefusedAltersNothing, Looks, answersLooked, LookedIsWalk}
 use Rattle.meaning.specs.Promises.{PresentMeansThatKey, TakesInTurn, TakesEnd, CallsAreBooked, FindWritesNothing, TakeWrites, ReviveWrites}
 use Rattle.meaning.specs.Promises.{InsertWrites, FinishWrites, SweepWrites, EachCellOnce, SweptCellsFirst, InsertUsesFirst, SharedMeansLeading}
@@ -29,6 +29,7 @@ use Rattle.meaning.specs.Promises.{ListMeansSentences, WalkIsRule, WalkO
 use Rattle.meaning.specs.Promises.{ShapeByKeysAlone, AnswersAreBooked, OneOutcome, RecordIsInsert, LastIsValue, BatchIsCalls, RefusedBatchAltersNothing, BatchRefusals}
 use Rattle.meaning.specs.Promises.{OwedCellsStand, OwedCellsStandFromFresh, OwedCellsStandInSweep, NineIsRetired, WayToLower, LateInserts}
 use Rattle.meaning.specs.Promises.{RunPasses, RunPassesAtMost, RunWithInsertsPasses}
+use Rattle.meaning.specs.Promises.{ReadIsCalls, ReadGivesList, ReadIsFresh, WriteThenRead, FileIsWritten}
 use Rattle.meaning.proofs.Keys.{shared-agreed, lexicographic, coordinates-determine}
 use Rattle.meaning.proofs.AscendingKeys.{asc-rising, rising-equal}
 use Rattle.meaning.proofs.State.{Sound, base-positive, base-above}
@@ -45,6 +46,8 @@ use Rattle.meaning.proofs.OwedCells as owed
 use Rattle.meaning.proofs.Lower as lower
 use Rattle.meaning.proofs.FallsBack as back
 use Rattle.meaning.proofs.Runs as runs
+use Rattle.meaning.proofs.Saved as saved
+use Rattle.meaning.proofs.Restart as restart
 use Rattle.meaning.proofs.Serves as serves
 use Rattle.meaning.proofs.BookPresent as present
 use Rattle.meaning.proofs.Walk as walks
@@ -257,6 +260,21 @@ run-passes-at-most = runs.run-passes-at-most
 
 pub run-with-inserts-passes : RunWithInsertsPasses
 run-with-inserts-passes = runs.run-with-inserts-passes
+
+pub read-is-calls : ReadIsCalls
+read-is-calls = saved.read-is-calls
+
+pub read-gives-list : ReadGivesList
+read-gives-list = saved.read-gives-list
+
+pub read-is-fresh : ReadIsFresh
+read-is-fresh = restart.read-is-fresh
+
+pub write-then-read : WriteThenRead
+write-then-read = restart.write-then-read
+
+pub file-is-written : FileIsWritten
+file-is-written = restart.file-is-written
 
 pub refused-alters-nothing : RefusedAltersNothing
 refused-alters-nothing = outcomes.refused-alters-nothing

@@ -23,12 +23,14 @@ use Rattle.meaning.specs.Refusals.{Outcome, refused, badKey, keyLive}
 use Rattle.meaning.specs.Operations.{looked, insertOut, finishOut, takeOut, fromLive, keysPassed, taken, revived, revivedNode, slotFor, added}
 use Rattle.meaning.specs.Operations.{paid, finished, withRow, deadFront, deadNode, positionAfter}
 use Rattle.meaning.specs.Records.{Lent, Asked, nothing, insertion, askedOut}
+use Rattle.meaning.specs.Saved.{fileLent}
 use Rattle.meaning.specs.Calls.{outcome, Made, alone, lending, madeOn, afterCalls}
-use Rattle.meaning.specs.Book.{standingKeys, hasKey, putKey, askedIn}
+use Rattle.meaning.specs.Pairs.{standingKeys}
+use Rattle.meaning.specs.Book.{hasKey, putKey, askedIn}
 use Rattle.meaning.specs.Runs.{passedIn, passedSum, onlyOf, ofRun, ofRunWithInserts, positionKeyAt, keysFromTo, keysAhead, insertAdds, askedAdds}
 use Rattle.meaning.specs.Runs.{callAdds, addedSum}
 use Rattle.meaning.specs.Promises.{RunPasses, RunPassesAtMost, RunWithInsertsPasses}
-use Rattle.meaning.specs.declared.Call.the-variants.{SetUp, Insert, Find, Finish, Take, Sweep, Record}
+use Rattle.meaning.specs.declared.Call.the-variants.{SetUp, Insert, Find, Finish, Take, Sweep, Record, Write, Read}
 use Rattle.meaning.specs.declared.Call.{Call}
 use Rattle.meaning.proofs.State.{Sound}
 use Rattle.meaning.proofs.ReadBack.{read-of-picture}
@@ -46,6 +48,7 @@ use Rattle.meaning.proofs.BookRow.{keysIn, isThere, key-stands, node-ke
 use Rattle.meaning.proofs.BookCalls.{finished-keys, revived-keys, added-keys, taken-keys}
 use Rattle.meaning.proofs.Book.{calls-keep-lists}
 use Rattle.meaning.proofs.Serves.{refused-not, new-accepted}
+use Rattle.meaning.proofs.Saved.{write-keeps-words}
 use Rattle.meaning.proofs.FallsBack.{late-inserts}
 
 -- Counting keys
@@ -236,7 +239,7 @@ finish-moved key =
 
 -- Every call of a run
 
--- takes, finds and finishes
+-- takes, finds, finishes and writes
 of-run-moved : (call : Call) (lent : Lent) → isList (lent .words) ≡ true → ofRun call ≡ true →
     Moved (lent .words) (outcome call lent .left .words) (passedIn call (outcome call lent .answered))
 unfolding outcome
@@ -247,6 +250,8 @@ of-run-moved (Finish key) lent list kind = finish-moved key (lent .words) list
 of-run-moved Take lent list kind = take-moved (lent .words) list
 of-run-moved Sweep lent list kind = absurd (false≢true kind)
 of-run-moved Record lent list kind = absurd (false≢true kind)
+of-run-moved Write lent list kind = moved-nowhere (lent .words) _ 0 (write-keeps-words (fileLent (lent .words) (lent .bytes))) refl
+of-run-moved Read lent list kind = absurd (false≢true kind)
 
 -- a refused call passes nothing
 passed-refused : (call : Call) (a : Answer) → (a .refusal ≡ 0 → ⊥) → passedIn call a ≡ 0
@@ -257,6 +262,8 @@ passed-refused (Find key) a ne = refl
 passed-refused (Finish key) a ne = refl
 passed-refused Sweep a ne = refl
 passed-refused Record a ne = refl
+passed-refused Write a ne = refl
+passed-refused Read a ne = refl
 
 refused-moved : (made : Made) (ws : List ℕ) → (madeOn made ws .answered .refusal ≡ 0 → ⊥) →
     Moved ws (madeOn made ws .left .words) (passedIn (made .call) (madeOn made ws .answered))
@@ -439,6 +446,8 @@ accepted-adds made ws list Record kind z =
     let asks = record-asks (lending made ws) list in
     let same = ap (λ (o : Outcome Lent). keysAhead (o .left .words)) asks in
     omega (arith, same, asked-adds (lending made ws) (askedIn made) list (sym (ap (λ (o : Outcome Lent). o .answered .refusal) asks) ∙ z))
+accepted-adds made ws list Write kind z = moved-adds ws _ _ (of-run-moved Write (lending made ws) list refl)
+accepted-adds made ws list Read kind z = absurd (false≢true kind)
 
 call-adds : (made : Made) (ws : List ℕ) → isList ws ≡ true → (ofRunWithInserts (made .call) || not (eqb (madeOn made ws .answered .refusal) 0)) ≡ true →
     Adds ws (madeOn made ws .left .words) (passedIn (made .call) (madeOn made ws .answered))

@@ -10,7 +10,7 @@ use Rattle.lists.proofs.All.{All, all-map, all-of-map, all-mapped}
 use Rattle.meaning.specs.Keys.{coordinate, coordinates}
 use Rattle.meaning.specs.Reading.{isList}
 use Rattle.meaning.specs.Words.{keyAt, owedAt, linkAt, dimensionsAt, baseAt, coordinateAt}
-use Rattle.meaning.specs.Book.{standingKeys}
+use Rattle.meaning.specs.Pairs.{standingKeys}
 use Rattle.meaning.specs.Sentences.{sharedAt, Standing, NextSmaller, Dimension, of-head, of-other, LargerAt, Settled, leads}
 use Rattle.meaning.specs.Sentences.{leads-nowhere, below-dimension, AList}
 use Rattle.meaning.proofs.Placed.{placed-node, place-key, place-standing, cell-standing}

@@ -5,31 +5,18 @@ use Prim.Native.Nat.{ℕ, suc}
 use lib.Dec.{eqb, leb, ltb}
 use lib.ListN.{length, drop}
 use Rattle.settings.specs.Numbers.{inRange, lengthOf}
-use Rattle.lists.specs.Lists.{those}
 use Rattle.records.specs.Notes.{noteBy}
 use Rattle.meaning.specs.declared.Answer.{Answer}
-use Rattle.meaning.specs.Row.{Node}
-use Rattle.meaning.specs.Reading.{read}
+use Rattle.files.specs.Files.{Pair, fileLength, pairsIn, contentsOf}
+use Rattle.files.specs.declared.Contents.{Contents}
+use Rattle.files.specs.declared.Contents.the-variants.{IsFile, NotAFile}
+use Rattle.meaning.specs.Pairs.{livePairs, standingKeys}
 use Rattle.meaning.specs.Words.{largestAt, cellsAt}
 use Rattle.meaning.specs.Refusals.{answerOf}
 use Rattle.meaning.specs.Records.{Asked, nothing, insertion, noteAsks}
 use Rattle.meaning.specs.Calls.{Made}
-use Rattle.meaning.specs.declared.Call.the-variants.{SetUp, Insert, Find, Finish, Take, Sweep, Record}
+use Rattle.meaning.specs.declared.Call.the-variants.{SetUp, Insert, Find, Finish, Take, Sweep, Record, Write, Read}
 use Rattle.meaning.specs.declared.Call.{Call}
-
-pub record Pair : Type 0 where
-  pub key : ℕ
-  pub value : ℕ
-
-abbrev pub pair : Node → Pair
-pair x = record { key = x .key; value = x .value }
-
--- the live key-value pairs of a buffer, and its standing keys, ascending
-abbrev pub livePairs : List ℕ → List Pair
-livePairs ws = map pair (those (λ x. x .live) (read ws .row))
-
-abbrev pub standingKeys : List ℕ → List ℕ
-standingKeys ws = map (λ x. x .key) (read ws .row)
 
 -- The largest key, how many keys may stand at once and one more (the head), the live pairs, the standing keys.
 pub record Book : Type 0 where
@@ -74,25 +61,35 @@ keptFrom (p ∷ pairs) (x ∷ y ∷ keys) = cond (ltb y (p .key)) (keptFrom (p �
 unfoldable pub keyInserted : ℕ → ℕ → Book → Book
 keyInserted key value k = cond (leb 1 key && leb key (k .largest)) (inserted key value k) k
 
--- what a call on a buffer of `long` words does, where a record asks for this
-unfoldable pub bookedCall : Call → Asked → ℕ → Book → Book
-bookedCall (SetUp D K C) asked long k =
+-- a file is read into a buffer of `long` words: what it keeps is all that stands
+abbrev pub fileBooked : Contents → List Pair → ℕ → Book → Book
+fileBooked (IsFile s n) pairs long k =
+    cond (eqb long (lengthOf (s .dimensions) (s .cells)))
+    (record { largest = s .largest; cells = s .cells; pairs = pairs; standing = map (λ p. p .key) pairs })
+    k
+fileBooked NotAFile pairs long k = k
+
+-- what a call on a buffer of `long` words does, where a record asks for this and these bytes are lent
+unfoldable pub bookedCall : Call → Asked → List ℕ → ℕ → Book → Book
+bookedCall (SetUp D K C) asked bytes long k =
     cond (inRange D K C && eqb long (lengthOf D C)) (record { largest = K; cells = C; pairs = []; standing = [] }) k
-bookedCall (Insert key value) asked long k = keyInserted key value k
-bookedCall (Find key) asked long k = k
-bookedCall (Finish key) asked long k = k
-bookedCall Take asked long k = record { largest = k .largest; cells = k .cells; pairs = drop 1 (k .pairs); standing = k .standing }
-bookedCall Sweep asked long k =
+bookedCall (Insert key value) asked bytes long k = keyInserted key value k
+bookedCall (Find key) asked bytes long k = k
+bookedCall (Finish key) asked bytes long k = k
+bookedCall Take asked bytes long k = record { largest = k .largest; cells = k .cells; pairs = drop 1 (k .pairs); standing = k .standing }
+bookedCall Sweep asked bytes long k =
     record { largest = k .largest; cells = k .cells; pairs = k .pairs; standing = keptFrom (k .pairs) (k .standing) }
-bookedCall Record (nothing refusal) long k = k
-bookedCall Record (insertion key number) long k = keyInserted key number k
+bookedCall Record (nothing refusal) bytes long k = k
+bookedCall Record (insertion key number) bytes long k = keyInserted key number k
+bookedCall Write asked bytes long k = k
+bookedCall Read asked bytes long k = fileBooked (contentsOf bytes) (pairsIn bytes) long k
 
 -- what the record asks for that is lent to a call
 abbrev pub askedIn : Made → Asked
 askedIn made = noteAsks (made .last) (noteBy (made .bytes))
 
 abbrev pub booked : Made → ℕ → Book → Book
-booked made long k = bookedCall (made .call) (askedIn made) long k
+booked made long k = bookedCall (made .call) (askedIn made) (made .bytes) long k
 
 -- what a sequence of calls does
 unfoldable pub bookedAll : List Made → ℕ → Book → Book
@@ -135,16 +132,23 @@ abbrev pub takeReply : List Pair → Reply
 takeReply [] = replies 7 0 0
 takeReply (p ∷ pairs) = replies 0 (p .key) (p .value)
 
+-- .. a read: 11 if the bytes are no file, 2 if the buffer has not its length
+abbrev pub readReply : Contents → ℕ → Reply
+readReply (IsFile s n) long = cond (eqb long (lengthOf (s .dimensions) (s .cells))) (replies 0 0 0) (replies 2 0 0)
+readReply NotAFile long = replies 11 0 0
+
 -- what a call on a list of `long` words replies: *The operations*, with the refusals in the order of *Refusals 1*; 3 is no list's
-unfoldable pub replyToCall : Call → Asked → ℕ → Book → Reply
-replyToCall (SetUp D K C) asked long k = cond (inRange D K C) (cond (eqb long (lengthOf D C)) (replies 0 0 0) (replies 2 0 0)) (replies 1 0 0)
-replyToCall (Insert key value) asked long k = keyed key k (insertReply key k)
-replyToCall (Find key) asked long k = keyed key k (cond (liveIn key k) (replies 0 key (valueIn key (k .pairs))) (replies 8 key 0))
-replyToCall (Finish key) asked long k = keyed key k (cond (hasKey key (k .standing)) (replies 0 key 0) (replies 8 key 0))
-replyToCall Take asked long k = takeReply (k .pairs)
-replyToCall Sweep asked long k = replies 0 0 0
-replyToCall Record (nothing refusal) long k = replyIn (answerOf refusal)
-replyToCall Record (insertion key number) long k = keyed key k (insertReply key k)
+unfoldable pub replyToCall : Call → Asked → List ℕ → ℕ → Book → Reply
+replyToCall (SetUp D K C) asked bytes long k = cond (inRange D K C) (cond (eqb long (lengthOf D C)) (replies 0 0 0) (replies 2 0 0)) (replies 1 0 0)
+replyToCall (Insert key value) asked bytes long k = keyed key k (insertReply key k)
+replyToCall (Find key) asked bytes long k = keyed key k (cond (liveIn key k) (replies 0 key (valueIn key (k .pairs))) (replies 8 key 0))
+replyToCall (Finish key) asked bytes long k = keyed key k (cond (hasKey key (k .standing)) (replies 0 key 0) (replies 8 key 0))
+replyToCall Take asked bytes long k = takeReply (k .pairs)
+replyToCall Sweep asked bytes long k = replies 0 0 0
+replyToCall Record (nothing refusal) bytes long k = replyIn (answerOf refusal)
+replyToCall Record (insertion key number) bytes long k = keyed key k (insertReply key k)
+replyToCall Write asked bytes long k = cond (leb (fileLength (length (k .pairs))) (length bytes)) (replies 0 0 0) (replies 12 0 0)
+replyToCall Read asked bytes long k = readReply (contentsOf bytes) long
 
 abbrev pub replyTo : Made → ℕ → Book → Reply
-replyTo made long k = replyToCall (made .call) (askedIn made) long k
+replyTo made long k = replyToCall (made .call) (askedIn made) (made .bytes) long k

@@ -4,12 +4,17 @@ use Prim.Native.Nat.{ℕ}
 use Rattle.meaning.specs.Refusals.{Outcome}
 use Rattle.meaning.specs.Operations.{setUpOut, insertOut, findOut, finishOut, takeOut, sweepOut}
 use Rattle.meaning.specs.Records.{Lent, lentOf, recordOut}
+use Rattle.meaning.specs.Saved.{FileLent, fileLent, writeOut, readOut}
 use Rattle.meaning.specs.declared.Call.{Call}
-use Rattle.meaning.specs.declared.Call.the-variants.{SetUp, Insert, Find, Finish, Take, Sweep, Record}
+use Rattle.meaning.specs.declared.Call.the-variants.{SetUp, Insert, Find, Finish, Take, Sweep, Record, Write, Read}
 
 -- an outcome on the words alone: what else was lent stays as it is
 abbrev pub onWords : Lent → Outcome (List ℕ) → Outcome Lent
 onWords lent o = record { answered = o .answered; left = lentOf (o .left) (lent .bytes) (lent .last) }
+
+-- an outcome on the words and the bytes, which are a file's: the last number stays
+abbrev pub onFile : Lent → Outcome FileLent → Outcome Lent
+onFile lent o = record { answered = o .answered; left = lentOf (o .left .words) (o .left .file) (lent .last) }
 
 -- the outcome of one call
 unfoldable pub outcome : Call → Lent → Outcome Lent
@@ -20,6 +25,8 @@ outcome (Finish key) lent = onWords lent (finishOut (lent .words) key)
 outcome Take lent = onWords lent (takeOut (lent .words))
 outcome Sweep lent = onWords lent (sweepOut (lent .words))
 outcome Record lent = recordOut lent
+outcome Write lent = onFile lent (writeOut (fileLent (lent .words) (lent .bytes)))
+outcome Read lent = onFile lent (readOut (fileLent (lent .words) (lent .bytes)))
 
 -- A call as a host makes it: with the bytes and the last number that it lends beside the words, whatever they are.
 pub record Made : Type 0 where

@@ -7,3 +7,4 @@ pub mod Resting
 pub mod Paths
 pub mod Stores
 pub mod SweepStores
+pub mod ReadState

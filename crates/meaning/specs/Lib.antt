@@ -1,5 +1,5 @@
 -- The meaning: docs/REFERENCE.md, rule by rule, in its words and its order.
--- What to believe: who believes these files, and those of the crates settings, lists, text, entries and records, believes all that is proved.
+-- What to believe: who believes these files, and those of the crates settings, lists, text, entries, records and files, believes all that is proved.
 pub mod Keys
 pub mod Row
 pub mod State
@@ -12,6 +12,8 @@ pub mod Rule
 pub mod Walk
 pub mod Lower
 pub mod Records
+pub mod Pairs
+pub mod Saved
 pub mod Calls
 pub mod Batch
 -- What cross-checks it: the conditions on the words one by one, what a call writes, what an ordered map would do, what a run of takes costs, the fourteen steps, and

@@ -6,9 +6,9 @@ use mathlib.Core.List.{List, [], _∷_, _++_, map, reverseAux}
 use mathlib.Core.Logic.{_↔_}
 use mathlib.Core.Option.{none, some}
 use Prim.Native.Nat.{ℕ, zero, suc, _+_, _*_, _-_, _≤_, _<_}
-use lib.Dec.{eqb}
+use lib.Dec.{eqb, ltb}
 use lib.ListN.{length, take, drop}
-use Rattle.lists.specs.Lists.{occurrences, firstNumber}
+use Rattle.lists.specs.Lists.{every, occurrences, firstNumber}
 use Rattle.lists.specs.Compared.{agreed, precedes}
 use Rattle.records.specs.Notes.{noteBy}
 use Rattle.meaning.specs.declared.Answer.{Answer}
@@ -16,21 +16,25 @@ use Rattle.meaning.specs.Keys.{coordinates, shared}
 use Rattle.meaning.specs.Row.{Node, headNode, nodeAt, smallerThan}
 use Rattle.meaning.specs.State.{keyOf, positionKey}
 use Rattle.meaning.specs.Reading.{read, settingsAt, isList}
-use Rattle.meaning.specs.Refusals.{answer, Outcome, Meets, Refusal, notAList, badBatch, answerOf, refused}
+use Rattle.meaning.specs.Refusals.{answer, Outcome, accepted, Meets, Refusal, notAList, badBatch, answerOf, refused}
 use Rattle.meaning.specs.Rule.{rule}
 use Rattle.meaning.specs.Words.{keyAt, markAt, owedAt, lowAt, highAt, linkAt, dimensionsAt, largestAt, cellsAt, baseAt, positionAt, liveMark}
 use Rattle.meaning.specs.Walk.{walk, trailFrom, trail, ends}
 use Rattle.meaning.specs.Lower.{lowerWayFor, lowerFor}
 use Rattle.meaning.specs.Operations.{setUpOut, insertOut, findOut, finishOut, takeOut, sweepOut, freedBy, parentIn, slotFor, keysPassed}
 use Rattle.meaning.specs.Records.{Lent, insertion, noteAsks, recordOut}
+use Rattle.meaning.specs.Saved.{FileLent, fileLent, writeOut, readOut}
 use Rattle.meaning.specs.Writes.{OwesNothing, OwesSame, Finished, Inserted, Taken, Revived, Swept}
 use Rattle.meaning.specs.Calls.{outcome, Made, alone, madeOn, afterCalls}
 use Rattle.meaning.specs.Batch.{BatchLent, callsIn, answerWords, fits, batchOut}
 use Rattle.meaning.specs.Sentences.{Standing, AList}
 use Rattle.meaning.specs.Layer.SweepStores.{finishAll}
 use Rattle.meaning.specs.Runs.{passedSum, onlyOf, ofRun, ofRunWithInserts, positionKeyAt, keysFromTo, keysAhead, addedSum}
-use Rattle.meaning.specs.Book.{Pair, livePairs, standingKeys, bookOf, bookedAll, replyIn, replyTo}
-use Rattle.meaning.specs.declared.Call.the-variants.{SetUp, Insert, Find, Finish, Take, Sweep, Record}
+use Rattle.settings.specs.declared.Settings.{Settings}
+use Rattle.files.specs.Files.{Pair, settingsIn, pairsIn}
+use Rattle.meaning.specs.Pairs.{livePairs, standingKeys}
+use Rattle.meaning.specs.Book.{bookOf, bookedAll, replyIn, replyTo}
+use Rattle.meaning.specs.declared.Call.the-variants.{SetUp, Insert, Find, Finish, Take, Sweep, Record, Write, Read}
 use Rattle.meaning.specs.declared.Call.{Call}
 
 -- a buffer after an accepted set up and any calls since
@@ -58,7 +62,7 @@ ListsStayLists = (ws : List ℕ) → FromFresh ws → isList ws ≡ true
 abbrev pub CallsKeepLists : Type 0
 CallsKeepLists = (made : Made) (ws : List ℕ) → isList ws ≡ true → isList (madeOn made ws .left .words) ≡ true
 
--- .. with the dimensions, largest key, cells and base that it had, unless it is set up anew.
+-- .. with the dimensions, largest key, cells and base that it had, unless it is set up or read anew.
 abbrev pub keepsSettings : Call → Bool
 keepsSettings (SetUp D K C) = false
 keepsSettings (Insert key value) = true
@@ -67,6 +71,8 @@ keepsSettings (Finish key) = true
 keepsSettings Take = true
 keepsSettings Sweep = true
 keepsSettings Record = true
+keepsSettings Write = true
+keepsSettings Read = false
 
 abbrev pub CallsKeepSettings : Type 0
 CallsKeepSettings =
@@ -165,7 +171,7 @@ PresentMeansThatKey =
     → ((insertOut ws key value .answered .refusal ≡ 5) ↔ Live ws key)
     × ((findOut ws key .answered .refusal ≡ 0) ↔ Live ws key)
 
--- 7. Each node once, in its turn: taking until 7 hands out exactly the live pairs, ascending.
+-- 7. Each node once, in its turn: n takes hand out the first n live pairs, ascending, and all of them if there are no more than n.
 unfoldable pub takes : ℕ → List ℕ → List Pair
 takes zero ws = []
 takes (suc n) ws =
@@ -175,7 +181,7 @@ takes (suc n) ws =
     ]
 
 abbrev pub TakesInTurn : Type 0
-TakesInTurn = (ws : List ℕ) → isList ws ≡ true → (n : ℕ) → length (livePairs ws) ≤ n → takes n ws ≡ livePairs ws
+TakesInTurn = (ws : List ℕ) → isList ws ≡ true → (n : ℕ) → takes n ws ≡ take n (livePairs ws)
 
 -- .. and a take answers 7 exactly if nothing is live.
 abbrev pub TakesEnd : Type 0
@@ -339,7 +345,7 @@ LateInserts =
     (ws : List ℕ) → isList ws ≡ true → (key value : ℕ) → insertOut ws key value .answered .refusal ≡ 0 → key ≤ keyAt ws (positionAt ws)
     → FellBack (insertOut ws key value .left) key value
 
--- 16. What a run of takes costs. Where every call is a take, a find or a finish, or is refused, the passed figures add up to exactly the
+-- 16. What a run of takes costs. Where every call is a take, a find, a finish or a write, or is refused, the passed figures add up to exactly the
 -- standing keys above the position at the start and up to the position at the end;
 abbrev pub RunPasses : Type 0
 RunPasses =
@@ -357,7 +363,62 @@ RunWithInsertsPasses =
     (calls : List Made) (ws : List ℕ) → isList ws ≡ true → onlyOf ofRunWithInserts calls ws ≡ true
     → passedSum calls ws + keysAhead (afterCalls calls ws) ≡ keysAhead ws + addedSum calls ws
 
--- Any two outcomes that a contract allows are equal: the seven exported functions all ensure `Meets o r lent`, of the outcome o of their call
+-- 17. A list over a restart. Reading leaves what the calls leave that it stands for: set up, the file's pairs inserted in ascending order, and
+-- each finished.
+abbrev pub fileCalls : Settings → List Pair → List Made
+fileCalls s pairs =
+    alone (SetUp (s .dimensions) (s .largest) (s .cells))
+    ∷ (map (λ p. alone (Insert (p .key) (p .value))) pairs ++ map (λ p. alone (Finish (p .key))) pairs)
+
+abbrev pub ReadIsCalls : Type 0
+ReadIsCalls =
+    (lent : FileLent) → readOut lent .answered .refusal ≡ 0
+    → (readOut lent .answered ≡ answer 0 0 0 (length (pairsIn (lent .file))))
+    × ((readOut lent .left .words ≡ afterCalls (fileCalls (settingsIn (lent .file)) (pairsIn (lent .file))) (lent .words))
+    × (readOut lent .left .file ≡ lent .file))
+
+-- .. The list that they leave is settled, its pairs are the file's and all that stands, and its position is the head.
+pub record ReadList (ws : List ℕ) (s : Settings) (pairs : List Pair) : Type 0 where
+  pub list : isList ws ≡ true
+  pub settings : settingsAt ws ≡ s
+  pub live : livePairs ws ≡ pairs
+  pub standing : standingKeys ws ≡ map (λ p. p .key) pairs
+  pub settled : (x : ℕ) → Standing ws x → owedAt ws x ≡ 0
+  pub position : positionAt ws ≡ 0
+
+abbrev pub ReadGivesList : Type 0
+ReadGivesList =
+    (lent : FileLent) → readOut lent .answered .refusal ≡ 0 → ReadList (readOut lent .left .words) (settingsIn (lent .file)) (pairsIn (lent .file))
+
+-- .. and whatever lay in the words before, it is as if they had been set up: all that is promised from a fresh list on (1, 5, 13) is promised of it.
+abbrev pub ReadIsFresh : Type 0
+ReadIsFresh = (lent : FileLent) → readOut lent .answered .refusal ≡ 0 → FromFresh (readOut lent .left .words)
+
+-- Each value that waits is a number of 32 bits: every lent word is one, and a file has no room for more.
+abbrev pub ValuesFit : List ℕ → Type 0
+ValuesFit ws = every (λ p. ltb (p .value) 4294967296) (livePairs ws) ≡ true
+
+-- .. Write then read gives a list with the same settings and live pairs, and the same takes, whatever the bytes past the file and the words held.
+pub record Restarted (ws us : List ℕ) : Type 0 where
+  pub list : ReadList us (settingsAt ws) (livePairs ws)
+  pub takes-same : (n : ℕ) → takes n us ≡ takes n ws
+
+abbrev pub WriteThenRead : Type 0
+WriteThenRead =
+    (lent : FileLent) (words : List ℕ) → ValuesFit (lent .words) → writeOut lent .answered .refusal ≡ 0 → length words ≡ length (lent .words)
+    → let file = take (writeOut lent .answered .count) (writeOut lent .left .file) in
+    (readOut (fileLent words file) .answered ≡ answer 0 0 0 (length (livePairs (lent .words))))
+    × Restarted (lent .words) (readOut (fileLent words file) .left .words)
+
+-- .. Each accepted file is what writing its list gives, into bytes of whatever content that are enough.
+abbrev pub FileIsWritten : Type 0
+FileIsWritten =
+    (lent : FileLent) (file : List ℕ) → readOut lent .answered .refusal ≡ 0 → length (lent .file) ≤ length file
+    → let ws = readOut lent .left .words in
+    let written = lent .file ++ drop (length (lent .file)) file in
+    writeOut (fileLent ws file) ≡ accepted 0 0 (length (lent .file)) (fileLent ws written)
+
+-- Any two outcomes that a contract allows are equal: the exported functions all ensure `Meets o r lent`, of the outcome o of their call
 -- and whatever was lent to it.
 abbrev pub OneOutcome : Type 1
 OneOutcome =

@@ -18,7 +18,8 @@ use Rattle.meaning.specs.Operations.{insertOut}
 use Rattle.meaning.specs.declared.Reading.{Reading}
 use Rattle.meaning.specs.declared.Reading.the-variants.{IsList, NotAList}
 
--- All that is lent to a call: the words of a list; beside them, to record, the bytes of a record and the last full number.
+-- All that is lent to a call: the words of a list; beside them, to record, the bytes of a record and the last full number; to write and
+-- read, the bytes of a file.
 pub record Lent : Type 0 where
   pub words : List ℕ
   pub bytes : List ℕ

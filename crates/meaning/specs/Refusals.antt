@@ -24,9 +24,9 @@ accepted key value count left = record { answered = answer 0 key value count; le
 pub data Refusal : Type 0 where
   -- set up: D, K or C out of range
   outOfRange : Refusal
-  -- set up: length not the exact one
+  -- set up, read: length not the exact one
   wrongLength : Refusal
-  -- the buffer is not a list (all but set up)
+  -- the buffer is not a list (all but set up and read)
   notAList : Refusal
   -- key 0 or above K
   badKey : Refusal
@@ -42,6 +42,10 @@ pub data Refusal : Type 0 where
   keyNotStanding : (key : ℕ) → Refusal
   -- program: line not readable
   lineNotReadable : Refusal
+  -- read: the file breaks the layout, its settings are out of range, or its keys are not what a list may keep
+  badFile : Refusal
+  -- write: the lent bytes are too few
+  noRoom : Refusal
   -- record: it breaks the grammar, or a field's range
   badRecord : Refusal
   -- record: the full number does not fit into 32 bits
@@ -61,6 +65,8 @@ answerOf (nothingLive above) = answer 7 0 0 above
 answerOf (keyNotLive key looked) = answer 8 key 0 looked
 answerOf (keyNotStanding key) = answer 8 key 0 0
 answerOf lineNotReadable = answer 10 0 0 0
+answerOf badFile = answer 11 0 0 0
+answerOf noRoom = answer 12 0 0 0
 answerOf badRecord = answer 13 0 0 0
 answerOf numberOutside = answer 14 0 0 0
 answerOf badBatch = answer 19 0 0 0

@@ -9,8 +9,9 @@ use Rattle.meaning.specs.declared.Answer.{Answer}
 use Rattle.meaning.specs.Words.{keyAt, positionAt}
 use Rattle.meaning.specs.Records.{Asked, nothing, insertion}
 use Rattle.meaning.specs.Calls.{Made, madeOn}
-use Rattle.meaning.specs.Book.{standingKeys, hasKey, askedIn}
-use Rattle.meaning.specs.declared.Call.the-variants.{SetUp, Insert, Find, Finish, Take, Sweep, Record}
+use Rattle.meaning.specs.Pairs.{standingKeys}
+use Rattle.meaning.specs.Book.{hasKey, askedIn}
+use Rattle.meaning.specs.declared.Call.the-variants.{SetUp, Insert, Find, Finish, Take, Sweep, Record, Write, Read}
 use Rattle.meaning.specs.declared.Call.{Call}
 
 -- the passed figure that a call answers: that of a successful take
@@ -22,6 +23,8 @@ passedIn (Find key) a = 0
 passedIn (Finish key) a = 0
 passedIn Sweep a = 0
 passedIn Record a = 0
+passedIn Write a = 0
+passedIn Read a = 0
 
 -- the passed figures of a sequence of calls, added up
 unfoldable pub passedSum : List Made → List ℕ → ℕ
@@ -34,7 +37,7 @@ onlyOf kinds [] ws = true
 onlyOf kinds (made ∷ calls) ws =
     (kinds (made .call) || not (eqb (madeOn made ws .answered .refusal) 0)) && onlyOf kinds calls (madeOn made ws .left .words)
 
--- A run of takes has takes, finds and finishes, and refused calls of every kind.
+-- A run of takes has takes, finds, finishes and writes, and refused calls of every kind.
 abbrev pub ofRun : Call → Bool
 ofRun (SetUp D K C) = false
 ofRun (Insert key value) = false
@@ -43,6 +46,8 @@ ofRun (Finish key) = true
 ofRun Take = true
 ofRun Sweep = false
 ofRun Record = false
+ofRun Write = true
+ofRun Read = false
 
 -- In a run with inserts, records may insert too.
 abbrev pub ofRunWithInserts : Call → Bool
@@ -53,6 +58,8 @@ ofRunWithInserts (Finish key) = true
 ofRunWithInserts Take = true
 ofRunWithInserts Sweep = false
 ofRunWithInserts Record = true
+ofRunWithInserts Write = true
+ofRunWithInserts Read = false
 
 -- the position's key
 abbrev pub positionKeyAt : List ℕ → ℕ
@@ -84,6 +91,8 @@ callAdds (Finish key) asked ws = 0
 callAdds Take asked ws = 0
 callAdds Sweep asked ws = 0
 callAdds Record asked ws = askedAdds asked ws
+callAdds Write asked ws = 0
+callAdds Read asked ws = 0
 
 -- what the accepted inserts of a sequence of calls add, each on the words that it is made on
 unfoldable pub addedSum : List Made → List ℕ → ℕ

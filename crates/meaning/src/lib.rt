@@ -34,6 +34,10 @@ pub const KEY_NOT_STANDING: u32 = 8;
 
 pub const LINE_NOT_READABLE: u32 = 10;
 
+pub const BAD_FILE: u32 = 11;
+
+pub const NO_ROOM: u32 = 12;
+
 pub const BAD_RECORD: u32 = 13;
 
 pub const NUMBER_OUTSIDE: u32 = 14;
@@ -54,6 +58,9 @@ pub enum Call {
     Sweep,
     // its bytes and the last number are lent beside the list
     Record,
+    // the bytes for a file, and those of one, are lent beside the list
+    Write,
+    Read,
 }
 
 // What a buffer is read as: a list with its settings, or none, which is refused by number 3.

@@ -14,7 +14,8 @@ use Rattle.meaning.specs.Reading.{isList}
 use Rattle.meaning.specs.Calls.{outcome, Made, alone, madeOn, afterCalls}
 use Rattle.meaning.specs.declared.Answer.{Answer}
 use Rattle.meaning.specs.declared.Call.the-variants as calls
-use Rattle.meaning.specs.Book.{Pair, Book, bookOf, hasKey, liveIn, inserted, keyInserted, bookedCall, booked, bookedAll}
+use Rattle.files.specs.Files.{Pair}
+use Rattle.meaning.specs.Book.{Book, bookOf, hasKey, liveIn, inserted, keyInserted, bookedCall, booked, bookedAll}
 use Rattle.meaning.specs.Book.{Reply, keyed, insertReply, takeReply, replyToCall, replyTo}
 use Rattle.settings.specs.declared.Settings.{Settings}
 use Rattle.meaning.specs.Promises.{keepsSettings}

@@ -1,13 +1,14 @@
 -- Paths as structs: what is the path while its cells are written one after the other, read from the words or written to them; and the
 -- search for the next cell, from the highest link of the path's cells down.
-use mathlib.Core.Path.{_≡_, refl, sym, ap, ap₂, _∙_}
-use mathlib.Core.List.{List, [], _∷_, _++_, append-nil, append-assoc}
+use mathlib.Core.Path.{_≡_, refl, sym, ap, ap₂, _∙_, subst}
+use mathlib.Core.List.{List, [], _∷_, _++_, append-assoc}
 use Prim.Native.Nat.{ℕ, zero, suc, _+_, _-_, _≤_, _<_}
 use native.Mathlib.Decide.{decLt}
 use native.Mathlib.Numerals.{add-one}
 use native.Mathlib.Omega.{arith}
-use lib.ListN.{length, getD, take, drop, set, replicate, length-set, length-replicate, length-drop, replicate-append-replicate}
-use lib.Seq.{take-suc, take-suc-set, take-take, getD-take, getD-drop, length-take-le, sets}
+use lib.ListN.{length, getD, take, drop, set, replicate, length-set, length-replicate, length-drop, length-append}
+use borrow.Rule.Slice.PartMut.{midOf, putMid, mid-len}
+use lib.Seq.{drop-drop, take-suc, take-suc-set, take-at, take-take, getD-take, getD-drop, length-take-le, sets}
 use Rattle.settings.specs.Numbers.{headerWords, mostDimensions}
 use Rattle.settings.specs.declared.Settings.{Settings}
 use Rattle.meaning.specs.Walk.{linkRead}
@@ -18,7 +19,8 @@ use Rattle.meaning.proofs.PathNext.{next-none, next-down, next-here}
 use Rattle.words.specs.Shaped.{Shaped}
 use Rattle.words.proofs.Shaped.{set-shaped}
 use Rattle.paths.specs.declared.Path.{Path}
-use Rattle.paths.specs.Paths.{pathOf, Formed, PathIn, Walkable, NextIs}
+use Rattle.paths.specs.declared.NextCell.{NextCell}
+use Rattle.paths.specs.Paths.{pathOf, Formed, held, PathIn, Walkable, NextFound, NextIs}
 
 -- Structs
 
@@ -39,45 +41,42 @@ zeros-formed D h = record { long = length-replicate {A = ℕ} mostDimensions 0; 
 
 -- Onward
 
--- cell y is written from word d up to word i of a path
-pub record Going (D : ℕ) (path : Path) (d y : ℕ) (next : Path) (i : ℕ) : Type 0 where
-  pub from : d ≤ i
-  pub upto : i ≤ D
-  pub formed : Formed D next
-  pub front : take i (next .cells) ≡ take d (path .cells) ++ replicate (i - d) y
+-- cell y written from word d up to word D of some cell numbers, ..
+pub onward-put : (D d y : ℕ) (cells : List ℕ) {ys : List ℕ} → d ≤ D → D ≤ length cells → ys ≡ replicate (length (midOf d (D - d) cells)) y →
+    putMid d (D - d) cells ys ≡ onward D cells d y ++ drop D cells
+onward-put D d y cells {ys} h long filled =
+    let count : length (midOf d (D - d) cells) ≡ D - d = mid-len d D cells (omega arith) in
+    let past : drop (D - d) (drop d cells) ≡ drop D cells =
+    drop-drop (D - d) d cells ∙ ap (λ n. drop n cells) (let all : d + (D - d) ≡ D = omega arith in all) in
+    ap₂ (λ l m. take d cells ++ (l ++ m)) (filled ∙ ap (λ n. replicate n y) count) past
+    ∙ sym (append-assoc (take d cells) (replicate (D - d) y) (drop D cells))
 
-pub going-start : {D : ℕ} {path : Path} → Formed D path → (d y : ℕ) → d ≤ D → Going D path d y path d
-going-start {path = path} f d y h =
-    let none : d - d ≡ 0 = omega arith in
-    record { from = omega arith; upto = h; formed = f; front = rw none (sym (append-nil (take d (path .cells)))) }
+-- .. as many as before: the first D are ..
+onward-long : (D d y : ℕ) (cells : List ℕ) → d ≤ D → D ≤ length cells → length (onward D cells d y) ≡ D
+onward-long D d y cells h long =
+    length-append (take d cells) (replicate (D - d) y) ∙ omega (arith, length-take-le d cells (omega arith), length-replicate {A = ℕ} (D - d) y)
 
-pub going-more :
-    {D : ℕ} {path : Path} {d y : ℕ} {next : Path} {i : ℕ} → Going D path d y next i → i < D →
-    Going D path d y (record { cells = set (next .cells) i y; used = next .used }) (i + 1)
-going-more {D} {path} {d} {y} {next} {i} g h =
-    let f = g .formed in
-    let from = g .from in
-    let inside : i < length (next .cells) = omega (arith, f .long, f .most) in
-    let more : suc i - d ≡ (i - d) + 1 = omega arith in
-    rw (add-one i)
-    (record {
-      from = omega arith;
-      upto = omega arith;
-      formed = record { long = length-set (next .cells) i y ∙ f .long; used = f .used; most = f .most };
-      front =
-          take-suc-set (next .cells) i y inside
-          ∙ ap (λ l. l ++ (y ∷ [])) (g .front)
-          ∙ append-assoc (take d (path .cells)) (replicate (i - d) y) (y ∷ [])
-          ∙ ap (λ l. take d (path .cells) ++ l) (replicate-append-replicate (i - d) 1 y ∙ ap (λ n. replicate n y) (sym more));
-    })
+-- .. the path with y from word d on
+pub onward-path :
+    {D : ℕ} (d y : ℕ) {p q : Path} → Formed D p → d ≤ D → q .used ≡ D → q .cells ≡ onward D (p .cells) d y ++ drop D (p .cells) →
+    (pathOf q ≡ onward D (pathOf p) d y) × Formed D q
+onward-path {D} d y {p} {q} f h used is = (path, record { long = long; used = used; most = f .most })
+  where
+    inside : D ≤ length (p .cells)
+    inside = omega (arith, f .long, f .most)
 
-pub going-end :
-    {D : ℕ} {path : Path} {d y : ℕ} {next : Path} {i : ℕ} → Formed D path → Going D path d y next i → D ≤ i →
-    pathOf next ≡ onward D (pathOf path) d y
-going-end {D} {path} {d} {y} {next} {i} f g h =
-    let last : next .used ≡ i = omega (arith, g .formed .used, g .upto) in
-    let count : i - d ≡ D - d = omega (arith, g .upto) in
-    rw last (g .front ∙ ap₂ (λ l n. l ++ replicate n y) (sym (take-take d (path .used) (path .cells) (omega (arith, g .from, g .upto, f .used)))) count)
+    front : length (onward D (p .cells) d y) ≡ D
+    front = onward-long D d y (p .cells) h inside
+
+    path : pathOf q ≡ onward D (pathOf p) d y
+    path =
+        ap₂ take used is
+        ∙ take-at (onward D (p .cells) d y) (drop D (p .cells)) D front
+        ∙ ap (λ l. l ++ replicate (D - d) y) (sym (take-take d D (p .cells) h) ∙ ap (λ n. take d (take n (p .cells))) (sym (f .used)))
+
+    long : length (q .cells) ≡ mostDimensions
+    long =
+        ap length is ∙ length-append (onward D (p .cells) d y) (drop D (p .cells)) ∙ omega (arith, front, length-drop D (p .cells), f .long, f .most)
 
 -- every cell of it is one of the list's
 pub onward-in :
@@ -195,28 +194,58 @@ module _ {ws : List ℕ} {s : Settings} {p : Path} (i : PathIn s p) {e : ℕ} (k
     seeking-down none =
         record { upto = omega (arith, k .upto); rest = k .rest ∙ ap (nextFrom ws (pathOf p)) one-less ∙ next-down ws (pathOf p) (e - 1) (read-at ∙ none) }
 
-    pub next-found :
-        Walkable ws s → (y ≡ 0 → ⊥) → {q : Path} → pathOf q ≡ onward (p .used) (pathOf p) (e - 1) y → Formed (p .used) q →
-        NextIs ws s p (record { cell = y; number = e - 1; path = q })
-    next-found w some {q} way f =
-        let used = i .formed .used in
+    pub next-found : Walkable ws s → (y ≡ 0 → ⊥) → NextFound ws s (p .cells) (record { cell = y; number = e - 1 })
+    next-found w some =
         let l : e - 1 < s .dimensions = omega (arith, k .upto) in
-        let below : y < s .cells = omega (arith, w .links (getD (p .cells) (e - 1) 0) (e - 1) (cell-below (e - 1) (omega arith)) l) in
-        let g : Formed (s .dimensions) q = rw used at f in
-        let there : pathOf q ≡ onward (s .dimensions) (pathOf p) (e - 1) y = way ∙ ap (λ n. onward n (pathOf p) (e - 1) y) used in
         record {
-          is = k .rest ∙ ap (nextFrom ws (pathOf p)) one-less ∙ next-here ws (pathOf p) (e - 1) y read-at (omega arith);
-          way = λ c. there;
-          below = below;
-          path-in = onward-in {d = e - 1} i (omega arith) below g there;
+          is =
+              ap (λ n. nextFrom ws (take n (p .cells)) (s .dimensions)) (sym (i .formed .used))
+              ∙ k .rest ∙ ap (nextFrom ws (pathOf p)) one-less ∙ next-here ws (pathOf p) (e - 1) y read-at (omega arith);
+          below = omega (arith, is, w .links (getD (p .cells) (e - 1) 0) (e - 1) (cell-below (e - 1) (omega arith)) l);
+          number = omega arith;
         }
 
-  pub next-nowhere : Walkable ws s → e ≤ 0 → NextIs ws s p (record { cell = 0; number = 0; path = p })
+  pub next-nowhere : Walkable ws s → e ≤ 0 → NextFound ws s (p .cells) (record { cell = 0; number = 0 })
   next-nowhere w h =
       let none : e ≡ 0 = omega arith in
       record {
-        is = k .rest ∙ ap (nextFrom ws (pathOf p)) none ∙ next-none ws (pathOf p);
-        way = λ some. absurd (some refl);
+        is =
+            ap (λ n. nextFrom ws (take n (p .cells)) (s .dimensions)) (sym (i .formed .used))
+            ∙ k .rest ∙ ap (nextFrom ws (pathOf p)) none ∙ next-none ws (pathOf p);
         below = w .head;
-        path-in = i;
+        number = omega arith;
       }
+
+-- the path that a path's own cell numbers begin with is that path
+held-is : {s : Settings} {p : Path} → PathIn s p → held s (p .cells) ≡ p
+held-is {p = p} i = λ j. record { cells = p .cells; used = sym (i .formed .used) j }
+
+pub held-in : {s : Settings} {p : Path} → PathIn s p → PathIn s (held s (p .cells))
+held-in {s} i = subst (PathIn s) (sym (held-is i)) i
+
+-- .. and with the path that leads to it
+module _ {ws : List ℕ} {s : Settings} {p : Path} (i : PathIn s p) {r : NextCell} (n : NextFound ws s (p .cells) r) where
+  found-is : nextFrom ws (pathOf p) (s .dimensions) ≡ record { cell = r .cell; number = r .number }
+  found-is = ap (λ m. nextFrom ws (take m (p .cells)) (s .dimensions)) (i .formed .used) ∙ n .is
+
+  pub found-none : r .cell ≡ 0 → NextIs ws s p (record { cell = r .cell; number = r .number; path = p })
+  found-none none = record { is = found-is; way = λ some. absurd (some none); below = n .below; path-in = i }
+
+  pub found-onward : {q : Path} → (pathOf q ≡ onward (p .used) (pathOf p) (r .number) (r .cell)) × Formed (p .used) q →
+      NextIs ws s p (record { cell = r .cell; number = r .number; path = q })
+  found-onward {q} w =
+      let used = i .formed .used in
+      let way = w .0 ∙ ap (λ D. onward D (pathOf p) (r .number) (r .cell)) used in
+      record {
+        is = found-is;
+        way = λ some. way;
+        below = n .below;
+        path-in = onward-in {d = r .number} i (n .number) (n .below) (subst (λ D. Formed D q) used (w .1)) way;
+      }
+
+-- .. which cell numbers begin with once they are written onward
+pub found-held :
+    {ws : List ℕ} {s : Settings} {cells : List ℕ} → PathIn s (held s cells) → {r : NextCell} → NextFound ws s cells r →
+    let D = s .dimensions in
+    NextIs ws s (held s cells) (record { cell = r .cell; number = r .number; path = held s (onward D cells (r .number) (r .cell) ++ drop D cells) })
+found-held i {r} n = found-onward i n (onward-path (r .number) (r .cell) (i .formed) (n .number) refl refl)

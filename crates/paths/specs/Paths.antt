@@ -17,6 +17,7 @@ use Rattle.meaning.specs.Layer.Paths.{pathFor, onward, nextFrom}
 use Rattle.meaning.specs.Layer.Stores.{writePath}
 use Rattle.words.specs.Shaped.{Shaped}
 use Rattle.paths.specs.declared.Path.{Path}
+use Rattle.paths.specs.declared.NextCell.{NextCell}
 use Rattle.paths.specs.declared.Reached.{Reached}
 
 -- the path: the cells used
@@ -28,6 +29,10 @@ pub record Formed (D : ℕ) (p : Path) : Type 0 where
   pub long : length (p .cells) ≡ mostDimensions
   pub used : p .used ≡ D
   pub most : D ≤ mostDimensions
+
+-- the path that some cell numbers begin with
+abbrev pub held : Settings → List ℕ → Path
+held s cells = record { cells = cells; used = s .dimensions }
 
 -- a path with as many cells as there are dimensions, each one of the list's
 pub record PathIn (s : Settings) (p : Path) : Type 0 where
@@ -45,6 +50,12 @@ pub record Walkable (ws : List ℕ) (s : Settings) : Type 0 where
 pub record WalkEnds (ws : List ℕ) (s : Settings) (k : ℕ) : Type 0 where
   pub ended : ends (trail ws k) ≡ true
   pub near : NearAlong (s .base) (s .dimensions) k (keyAt ws) 0 0 (trail ws k)
+
+-- What `next_from` answers from the path that some cell numbers begin with: the next cell, and the number of the link that leads to it.
+pub record NextFound (ws : List ℕ) (s : Settings) (cells : List ℕ) (r : NextCell) : Type 0 where
+  pub is : nextFrom ws (take (s .dimensions) cells) (s .dimensions) ≡ record { cell = r .cell; number = r .number }
+  pub below : r .cell < s .cells
+  pub number : r .number ≤ s .dimensions
 
 -- What `next` answers from path p: the next cell, the number of the link that leads to it, and, where there is a next cell, its path.
 pub record NextIs (ws : List ℕ) (s : Settings) (p : Path) (r : Reached) : Type 0 where

@@ -2,17 +2,17 @@
 // position as the words have it, the path of any standing cell, and the next standing cell in key order from a path (the deletion stack
 // of the MDList paper).
 ghost use mathlib.Core.Path.{_≡_};
+ghost use mathlib.Core.List.{_++_};
 ghost use Prim.Native.Nat.{_≤_, _<_};
-ghost use lib.ListN.{getD, take, drop, replicate};
+ghost use lib.ListN.{length, take, drop, replicate};
 ghost use Rattle.settings.specs.Numbers.{headerWords, mostDimensions};
-ghost use Rattle.meaning.specs.Words.{owedAt};
-ghost use Rattle.meaning.specs.Walk.{linkRead, trail};
+ghost use Rattle.meaning.specs.Walk.{trail};
 ghost use Rattle.meaning.specs.Layer.Paths.{pathOver};
 ghost use Rattle.meaning.specs.Layer.Paths as definitions;
 ghost use Rattle.meaning.specs.Layer.Stores.{writePath};
 ghost use Rattle.words.specs.Shaped.{Shaped};
 ghost use Rattle.words.specs.Sought.{Sought};
-ghost use Rattle.paths.specs.Paths.{pathOf, Formed, PathIn, Walkable, WalkEnds, NextIs, StandsInSome, CellPath};
+ghost use Rattle.paths.specs.Paths.{pathOf, Formed, held, PathIn, Walkable, WalkEnds, NextFound, NextIs, StandsInSome, CellPath};
 use meaning::Step;
 use settings::Settings;
 
@@ -20,6 +20,12 @@ use settings::Settings;
 pub struct Path {
     pub cells: [u32; 16],
     pub used: u32,
+}
+
+// The next standing cell in key order and the number of the link that leads to it; cell 0 where there is none.
+pub struct NextCell {
+    pub cell: u32,
+    pub number: u32,
 }
 
 // The next standing cell in key order, the number of the link that leads to it, and its path; cell 0 where there is none.
@@ -40,18 +46,27 @@ pub fn head_path(s: Settings) -> Path
     }
 }
 
+// Cell y from word d on, of a path that is the first `used` of some cell numbers.
+pub fn put_onward(cells: &mut [u32], used: u32, d: u32, y: u32)
+    requires { ⌜ (d ≤ used) × (used ≤ length (now cells)) ⌝ }
+    ensures { λ r. ⌜ now (cells .exit) ≡ definitions.onward used (now (cells .entry)) d y ++ drop used (now (cells .entry)) ⌝ }
+{
+    let start = d as usize;
+    let end = used as usize;
+    lists::fill(&mut cells[start..end], y);
+}
+
 // The path with cell y from word d on.
 pub fn onward(path: Path, d: u32, y: u32) -> Path
     requires { ⌜ Formed (path .used) path × (d ≤ path .used) ⌝ }
     ensures { λ r. ⌜ (pathOf r ≡ definitions.onward (path .used) (pathOf path) d y) × Formed (path .used) r ⌝ }
 {
-    let mut next = path;
-    let mut i = d as usize;
-    while i < path.used as usize {
-        next.cells[i] = y;
-        i += 1;
+    let mut cells = path.cells;
+    put_onward(&mut cells, path.used, d, y);
+    Path {
+        cells,
+        used: path.used,
     }
-    next
 }
 
 // The position's path, as the words have it.
@@ -120,37 +135,40 @@ pub fn path_of(list: &[u32], s: Settings, x: u32) -> Path
     path_along(list, s, &starts, &powers.of, k)
 }
 
-// Link d of cell d of a path, owed links read through.
-fn link_on(list: &[u32], s: Settings, path: Path, d: u32) -> u32
-    requires { ⌜ Shaped (now list) s × ((d < s .dimensions) × ((getD (path .cells) d 0 < s .cells) × (owedAt (now list) (getD (path .cells) d 0) < s .cells))) ⌝ }
-    ensures { λ r. ⌜ r ≡ linkRead (now (list .entry)) (getD (path .cells) d 0) d ⌝ }
-{
-    let i = d as usize;
-    words::link_read(list, s, path.cells[i], d)
-}
-
-// The next standing cell in key order after the cell that a path leads to: the highest link d of the path's cell d that is not 0 leads
-// to it.
-pub fn next(list: &[u32], s: Settings, path: Path) -> Reached
-    requires { ⌜ Walkable (now list) s × PathIn s path ⌝ }
-    ensures { λ r. ⌜ NextIs (now (list .entry)) s path r ⌝ }
+// The next standing cell in key order after the cell that a path leads to, whose words these cell numbers begin with: the highest link d of
+// the path's cell d that is not 0 leads to it.
+pub fn next_from(list: &[u32], s: Settings, cells: &[u32]) -> NextCell
+    requires { ⌜ Walkable (now list) s × PathIn s (held s (now cells)) ⌝ }
+    ensures { λ r. ⌜ NextFound (now (list .entry)) s (now (cells .entry)) r ⌝ }
 {
     let mut above = s.dimensions;
     while 0 < above {
         let d = above - 1;
-        let y = link_on(list, s, path, d);
+        let y = words::link_read(list, s, cells[d as usize], d);
         if y != 0 {
-            return Reached {
-                cell: y,
-                number: d,
-                path: onward(path, d, y),
-            };
+            return NextCell { cell: y, number: d };
         }
         above = d;
     }
+    NextCell { cell: 0, number: 0 }
+}
+
+// The next standing cell, with its path.
+pub fn next(list: &[u32], s: Settings, path: Path) -> Reached
+    requires { ⌜ Walkable (now list) s × PathIn s path ⌝ }
+    ensures { λ r. ⌜ NextIs (now (list .entry)) s path r ⌝ }
+{
+    let next = next_from(list, s, &path.cells);
+    if next.cell == 0 {
+        return Reached {
+            cell: 0,
+            number: next.number,
+            path,
+        };
+    }
     Reached {
-        cell: 0,
-        number: 0,
-        path,
+        cell: next.cell,
+        number: next.number,
+        path: onward(path, next.number, next.cell),
     }
 }

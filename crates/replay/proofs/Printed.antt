@@ -1,5 +1,5 @@
 -- A line of a trace is answered: the call is made on what the line leaves it, and what is put tells of what is held afterwards.
-use mathlib.Core.Path.{_≡_, sym, _∙_, ap, ap₂}
+use mathlib.Core.Path.{_≡_, _∙_, ap, ap₂}
 use mathlib.Core.Bool.{Bool}
 use mathlib.Core.List.{List, _++_}
 use Prim.Native.Nat.{ℕ, _-_, _≤_}
@@ -27,32 +27,30 @@ module _
       λ i. lentOf (first i) (front i) (is-last i)
 
   module _
-      {reply : Reply} {called after : List ℕ} {now-last : ℕ}
-      (made : Called kind (lentOf (take (n - 0) words) (take (m - 0) bytes) last) reply (lentOf called (take (m - 0) bytes) now-last))
-      (held : Held mostWords after n) (first : take n after ≡ called) where
-    left-is : lentOf called (take (m - 0) bytes) now-last ≡ leftBy kind line before
+      {reply : Reply} {called after called-bytes after-bytes : List ℕ} {now-last : ℕ}
+      (made : Called kind (lentOf (take (n - 0) words) (take (m - 0) bytes) last) reply (lentOf called called-bytes now-last))
+      (held : Held mostWords after n) (first : take n after ≡ called) (held-bytes : Held mostHeld after-bytes m)
+      (first-bytes : take m after-bytes ≡ called-bytes) where
+    left-is : lentOf called called-bytes now-last ≡ leftBy kind line before
     unfolding leftBy
     left-is = made .left ∙ ap (afterCall kind) altered-is
 
-    told-is : lentOf (take (n - 0) after) (take (m - 0) bytes) now-last ≡ leftBy kind line before
+    told-is : lentOf (take (n - 0) after) (take (m - 0) after-bytes) now-last ≡ leftBy kind line before
     told-is =
         let front = ap (λ (k : ℕ). take k after) (sub-zero n) ∙ first in
-        ap (λ (ws : List ℕ). lentOf ws (take (m - 0) bytes) now-last) front ∙ left-is
+        let front-bytes = ap (λ (k : ℕ). take k after-bytes) (sub-zero m) ∙ first-bytes in
+        ap₂ (λ (ws bs : List ℕ). lentOf ws bs now-last) front front-bytes ∙ left-is
 
     pub line-answered :
         {room middle out : List ℕ} {at end : ℕ} {told : Bool} → told ≡ tells kind → Put room 0 (headText reply) middle at →
-        Put middle at (tailText told (lentOf (take (n - 0) after) (take (m - 0) bytes) now-last)) out end → end ≤ length room →
-        LineAnswered kind line before after bytes now-last out (record { used = n; filled = m; text = end })
+        Put middle at (tailText told (lentOf (take (n - 0) after) (take (m - 0) after-bytes) now-last)) out end → end ≤ length room →
+        LineAnswered kind line before after after-bytes now-last out (record { used = n; filled = m; text = end })
     unfolding lineText
     line-answered tell head tail fits =
         let put = put-start (put-more head tail) fits in
         record {
           words-are = record { held = held; is = first ∙ ap (λ (l : Lent). l .words) left-is };
-          bytes-are =
-              record {
-                held = holds-bytes .held;
-                is = sym (ap (λ (k : ℕ). take k bytes) (sub-zero m)) ∙ ap (λ (l : Lent). l .bytes) left-is;
-              };
+          bytes-are = record { held = held-bytes; is = first-bytes ∙ ap (λ (l : Lent). l .bytes) left-is };
           last-is = ap (λ (l : Lent). l .last) left-is;
           is =
               put .0 ∙

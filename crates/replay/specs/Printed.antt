@@ -11,7 +11,7 @@ use Rattle.text.specs.declared.feed.Told.{Told}
 use Rattle.text.specs.declared.feed.Told.the-variants.{NoLine, Line, LongLine}
 use Rattle.meaning.specs.Records.{Lent}
 use Rattle.meaning.specs.declared.Call.{Call}
-use Rattle.meaning.specs.declared.Call.the-variants.{SetUp, Insert, Find, Finish, Take, Sweep, Record}
+use Rattle.meaning.specs.declared.Call.the-variants.{SetUp, Insert, Find, Finish, Take, Sweep, Record, Write, Read}
 use Rattle.report.specs.Report.{decimal, answerText, checksumOf, checksumText, fieldBytes, answerBytes}
 use Rattle.trace.specs.Trace.{mostWords, mostHeld, Holds, alteredBy}
 use Rattle.trace.specs.Calling.{replyOf, afterCall}
@@ -34,19 +34,21 @@ unfoldable pub lentText : Lent → List ℕ
 lentText lent =
     decimal (checksumOf (lent .words)) ++ (space ∷ (decimal (checksumOf (lent .bytes)) ++ (space ∷ (decimal (lent .last) ++ (lineFeed ∷ [])))))
 
--- B, H, Q, O and G tell of the bytes and the last number
-abbrev pub isRecord : Call → Bool
-isRecord (SetUp D K C) = false
-isRecord (Insert key value) = false
-isRecord (Find key) = false
-isRecord (Finish key) = false
-isRecord Take = false
-isRecord Sweep = false
-isRecord Record = true
+-- B, H, Q, O, G, W and R tell of the bytes and the last number
+abbrev pub onBytes : Call → Bool
+onBytes (SetUp D K C) = false
+onBytes (Insert key value) = false
+onBytes (Find key) = false
+onBytes (Finish key) = false
+onBytes Take = false
+onBytes Sweep = false
+onBytes Record = true
+onBytes Write = true
+onBytes Read = true
 
 abbrev pub tells : Kind → Bool
 tells (Fresh n call) = false
-tells (Make call) = isRecord call
+tells (Make call) = onBytes call
 tells (Put index value) = false
 tells (Length n) = false
 tells (Bytes n) = true

@@ -6,7 +6,7 @@ ghost use Rattle.meaning.specs.Records.{lentOf};
 ghost use Rattle.report.specs.Report.{fieldBytes, answerBytes, Put};
 ghost use Rattle.trace.specs.Trace.{Fits};
 ghost use Rattle.replay.specs.Kept.{Room, heldIn};
-ghost use Rattle.replay.specs.Printed.{headText, lentText, isRecord, tells, tailText, lineBytes, LineAnswered, ReadAs, TextOf};
+ghost use Rattle.replay.specs.Printed.{headText, lentText, onBytes, tells, tailText, lineBytes, LineAnswered, ReadAs, TextOf};
 use meaning::Call;
 use text::feed::Told;
 use trace::Kind;
@@ -50,7 +50,7 @@ fn put_lent(out: &mut [u8], at: usize, list: &[u32], bytes: &[u8], last: u64) ->
 }
 
 fn call_tells(call: Call) -> bool
-    ensures { λ r. ⌜ r ≡ isRecord call ⌝ }
+    ensures { λ r. ⌜ r ≡ onBytes call ⌝ }
 {
     match call {
         Call::SetUp(_, _, _) => return false,
@@ -60,6 +60,8 @@ fn call_tells(call: Call) -> bool
         Call::Take => return false,
         Call::Sweep => return false,
         Call::Record => return true,
+        Call::Write => return true,
+        Call::Read => return true,
     }
 }
 
@@ -108,7 +110,7 @@ pub fn line_text(
     let m = trace::bytes::altered(bytes, sizes.filled, kind, line);
     let before = *last;
     *last = trace::bytes::last_after(before, kind);
-    let reply = trace::call::call(&mut words[0..n], &bytes[0..m], last, kind);
+    let reply = trace::call::call(&mut words[0..n], &mut bytes[0..m], last, kind);
     let at = put_head(out, reply);
     let after = *last;
     let end = put_tail(out, at, kind_tells(kind), &words[0..n], &bytes[0..m], after);

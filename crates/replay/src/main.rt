@@ -14,13 +14,15 @@
 //     Q index value    writes one byte; nothing where the index is past the end
 //     O number         makes the last number this one
 //     G                record: hands the bytes over as one record of the logger's export, with the last number
+//     W                write: writes the list into the bytes
+//     R                read: reads the bytes into the list's words
 //
 // LEN of U and L is 0 to 155,670, of B 0 to 40,000; value of Q 0 to 255, number of O 0 to 4,294,967,296, every other number 0 to
 // 4,294,967,295. One space between fields, decimal, no leading zeros, at most 64 bytes before the line feed; a last line without line feed
 // counts. Before the first U the buffer has no words; there are no bytes at first, and the last number is 4,294,967,296: no record accepted yet.
 //
 // A call prints refusal, key, value, count and the checksum of the buffer afterwards; P and L print `- - - -` and the checksum. B, H, Q and O
-// print `- - - -`, G its four numbers; then the words' checksum, the bytes' checksum and the last number. A line that is none of these, or
+// print `- - - -`, G, W and R their four numbers; then the words' checksum, the bytes' checksum and the last number. A line that is none of these, or
 // empty, or longer, prints `10 0 0 0` and the words' checksum, and nothing is done. The checksum h starts at the number of words, or bytes; for
 // each in order h becomes (h x 1,000,003 + it) mod 2,147,483,647.
 //

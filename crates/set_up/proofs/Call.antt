@@ -1,17 +1,17 @@
 -- Each way out of set up has the outcome of the definition: what the checked constructor answers says whether the ranges hold.
 use mathlib.Core.Path.{_≡_, refl, sym, _∙_}
-use mathlib.Core.Bool.{Bool, true, false, cond}
 use mathlib.Core.List.{List}
 use Prim.Native.Nat.{ℕ, _≤_}
 use native.Mathlib.Omega.{arith}
 use lib.ListN.{length}
 use borrow.Author.Tests.{ne-eqb}
-use Rattle.settings.specs.Numbers.{inRange, lengthOf, mostDimensions, mostCells}
-use Rattle.settings.specs.Checked.{settingsOf, checkedOf}
+use Rattle.settings.specs.Numbers.{lengthOf, mostDimensions, mostCells}
+use Rattle.settings.specs.Checked.{checkedOf}
 use Rattle.settings.specs.declared.Settings.{Settings}
 use Rattle.settings.specs.declared.Checked.{Checked}
 use Rattle.settings.specs.declared.Checked.the-variants.{Accepted, OutOfRange}
 use Rattle.settings.proofs.Numbers.{ranges}
+use Rattle.settings.proofs.Ranges.{checked-in}
 use Rattle.meaning.specs.declared.Answer.{Answer}
 use Rattle.meaning.specs.Refusals.{answer, Meets}
 use Rattle.meaning.specs.Operations.{setUpOut, setUpBy}
@@ -20,26 +20,10 @@ use Rattle.set_up.specs.Fresh.{freshList}
 use Rattle.set_up.proofs.Fresh.{fresh-picture}
 
 module _ (D K C : ℕ) (checked : Checked) (is : checked ≡ checkedOf D K C) where
-  not-in-range : checked ≡ OutOfRange → inRange D K C ≡ false
-  unfolding checkedOf
-  not-in-range e = at-test (inRange D K C) (sym is ∙ e)
-    where
-      at-test : (t : Bool) → cond t (Accepted (settingsOf D K C)) OutOfRange ≡ OutOfRange → t ≡ false
-      at-test true e = absurd (let z : _≡_ {A = ℕ} 0 1 = cc in omega arith)
-      at-test false e = refl
-
-  in-range : {s : Settings} → checked ≡ Accepted s → (inRange D K C ≡ true) × (s ≡ settingsOf D K C)
-  unfolding checkedOf
-  in-range {s} e = at-test (inRange D K C) (sym is ∙ e)
-    where
-      at-test : (t : Bool) → cond t (Accepted (settingsOf D K C)) OutOfRange ≡ Accepted s → (t ≡ true) × (s ≡ settingsOf D K C)
-      at-test true e = (refl, (cc))
-      at-test false e = absurd (let z : _≡_ {A = ℕ} 0 1 = cc in omega arith)
-
   -- accepted settings keep the limits
   pub limits : {s : Settings} → checked ≡ Accepted s → (s .dimensions ≤ mostDimensions) × (s .cells ≤ mostCells)
   limits e =
-      let r = in-range e in
+      let r = checked-in D K C is e in
       let b = ranges D K C (r .0) in
       rw (r .1) (b .dimensions-most, b .cells-most)
 
@@ -60,7 +44,7 @@ module _ (D K C : ℕ) (checked : Checked) (is : checked ≡ checkedOf D K C) wh
         left ≡ freshList s → Meets (setUpOut D K C ws) r left
     unfolding setUpOut
     fresh-meets left e long a written =
-        let i = in-range e in
+        let i = checked-in D K C is e in
         let b = ranges D K C (i .0) in
         rw (set-up-outcome D K C ws (i .0) (rw (i .1) at long))
         (record { answered = a; left = written ∙ rw (i .1) (sym (fresh-picture D K C (omega arith))) })

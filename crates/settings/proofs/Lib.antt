@@ -1,4 +1,5 @@
--- What holds of the base and of the length, and how a rule is shown of a table.
+-- What holds of the base and of the length, how a rule is shown of a table, and what the checked constructor says.
 pub mod Numbers
 pub mod Table
+pub mod Ranges
 pub mod Levels

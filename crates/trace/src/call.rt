@@ -11,8 +11,8 @@ pub enum Reply {
 }
 
 // The line's call; a line that is not readable is answered 10.
-pub fn call(list: &mut [u32], bytes: &[u8], last: &mut u64, kind: Kind) -> Reply
-    ensures { λ r. ⌜ Called kind (lentOf (now (list .entry)) (now (bytes .entry)) (now (last .entry))) r (lentOf (now (list .exit)) (now (bytes .entry)) (now (last .exit))) ⌝ }
+pub fn call(list: &mut [u32], bytes: &mut [u8], last: &mut u64, kind: Kind) -> Reply
+    ensures { λ r. ⌜ Called kind (lentOf (now (list .entry)) (now (bytes .entry)) (now (last .entry))) r (lentOf (now (list .exit)) (now (bytes .exit)) (now (last .exit))) ⌝ }
 {
     match kind {
         Kind::Fresh(_, call) => return Reply::Four(mdlist::make(list, bytes, last, call)),

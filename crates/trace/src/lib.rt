@@ -23,7 +23,7 @@ const MOST_NUMBERS: usize = 4;
 pub enum Kind {
     // U: the length of a new buffer, and the set up on it
     Fresh(u32, Call),
-    // N, F, A, T, S, G
+    // N, F, A, T, S, G, W, R
     Make(Call),
     // P: index, value
     Put(u32, u32),
@@ -131,6 +131,12 @@ fn alone(letter: u8) -> Kind
     }
     if letter == b'G' {
         return Kind::Make(Call::Record);
+    }
+    if letter == b'W' {
+        return Kind::Make(Call::Write);
+    }
+    if letter == b'R' {
+        return Kind::Make(Call::Read);
     }
     Kind::Unreadable
 }

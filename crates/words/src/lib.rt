@@ -2,9 +2,10 @@
 // walk, and a key's blocks. What takes a list asks that its words have the shape of one (Shaped), and what writes a
 // cell's word hands that on.
 ghost use mathlib.Core.Path.{_≡_};
-ghost use Prim.Native.Nat.{_-_, _%_, _<_, _≤_};
+ghost use Prim.Native.Nat.{_-_, _%_, _^_, _<_, _≤_};
 ghost use Rattle.settings.specs.Numbers.{mostDimensions, mostCells};
 ghost use Rattle.settings.specs.Levels.{PowersOf};
+ghost use Rattle.meaning.specs.Keys as keys;
 ghost use Rattle.meaning.specs.Words.{wordIndex, wordAt, positionAt, owedAt, linkField, linkAt};
 ghost use Rattle.meaning.specs.Walk.{linkRead, stepAt};
 ghost use Rattle.meaning.specs.Layer.Stores as stores;
@@ -134,6 +135,22 @@ pub fn block_starts(k: u32, s: Settings, powers: &[u64]) -> [u64; 16]
         d += 1;
     }
     starts
+}
+
+// How many coordinates key x shares with a larger key y: x is not before y's block of that level, and before the next one.
+pub fn shared(s: Settings, powers: &[u64], x: u32, y: u32) -> u32
+    requires { ⌜ (s .dimensions ≤ mostDimensions) × (PowersOf s (now powers) × ((x < y) × (y < s .base ^ s .dimensions))) ⌝ }
+    ensures { λ r. ⌜ (r ≡ keys.shared (s .base) (s .dimensions) x y) × (r < s .dimensions) ⌝ }
+{
+    let key = x as u64;
+    let mut d: u32 = 0;
+    while d < s.dimensions {
+        if key < block_start(y, powers[d as usize + 1]) {
+            return d;
+        }
+        d += 1;
+    }
+    d
 }
 
 // One step of the walk for k from cell x and coordinate d. The cell shares the coordinates before d with k, so at d it is below k before

@@ -1,5 +1,7 @@
 //! The ends of every range of docs/REFERENCE.md, and those of the trace's own format.
 
+use super::file_forms::{Form, C, D, K};
+use super::files::UNREADABLE as UNREADABLE_FOR_FILES;
 use super::records::{append, UNREADABLE as UNREADABLE_FOR_BYTES};
 use super::Trace;
 use crate::records::NONE_YET;
@@ -36,7 +38,14 @@ const RECORDS_AT_FIRST: &str = "G|Q 0 1|H 2c|G|Q 0 1|Q 1 1|B 1|G|O 0|G|O 4294967
 const MANY_BYTES: &str = "B 40000|G|H 2c|Q 39999 44|Q 40000 44|Q 4294967295 255|G|B 39999|H 2c2c|\
     H 2c|H 2c|G|B 0|G|H 00|H ff|H 0123456789abcdef|Q 0 0|Q 0 255|Q 9 0|Q 10 0|G|B 3|G|B 1|G";
 
+/// No words and no list, with room for a file and without.
+const FILES_AT_FIRST: &str = "W|R|B 33|W|R|B 0|W|R";
+
+/// Two keys wait and one is dead; their file has 49 bytes.
+const TWO_WAIT: &str = "U 2 15 8 71|N 6 60|N 5 50|N 9 90|T";
+
 pub fn edges(trace: &mut Trace) {
+    say_all(trace, FILES_AT_FIRST);
     say_all(trace, RECORDS_AT_FIRST);
     few_words(trace);
     set_ups(trace);
@@ -53,6 +62,15 @@ pub fn edges(trace: &mut Trace) {
     many_bytes(trace);
     last_numbers(trace);
     unreadable_lines_for_bytes(trace);
+    files_of_empty_and_full_lists(trace);
+    every_byte_of_a_file(trace);
+    every_cut_of_a_file(trace);
+    into_other_lists(trace);
+    settings_of_files(trace);
+    keys_of_files(trace);
+    bodies_of_files(trace);
+    greatest_files(trace);
+    unreadable_lines_for_files(trace);
     trace.write(b"T", b""); // A last line without line feed.
 }
 
@@ -71,6 +89,7 @@ fn few_words(trace: &mut Trace) {
     for length in [1, 4, 5, 6, 0] {
         trace.say(format!("L {length}"));
         every_operation(trace, length);
+        say_all(trace, "W|R");
     }
 }
 
@@ -80,7 +99,8 @@ fn set_ups(trace: &mut Trace) {
             let exact = exact_length(d, c) as u32;
             // with a cell's coordinates beside its links, as buffers were before
             let old = exact + c as u32 * d as u32;
-            for length in [0, exact - 1, exact, exact + 1, old].map(|length| length.min(MOST_WORDS)) {
+            for length in [0, exact - 1, exact, exact + 1, old].map(|length| length.min(MOST_WORDS))
+            {
                 say_all(trace, &format!("U {d} 0 {c} {length}|U {d} 1 {c} {length}"));
                 trace.say(format!("U {d} 4294967295 {c} {length}"));
             }
@@ -167,4 +187,162 @@ fn unreadable_lines_for_bytes(trace: &mut Trace) {
         trace.write(format!("H {}", "0".repeat(digits)).as_bytes(), b"\n");
     }
     trace.say("G");
+}
+
+/// Into one byte fewer than the file has, as many, one more and none; then read back.
+fn write_and_read(trace: &mut Trace, file_length: usize) {
+    for room in [file_length - 1, 0, file_length + 1, file_length] {
+        say_all(trace, &format!("B {room}|W|R"));
+    }
+}
+
+fn files_of_empty_and_full_lists(trace: &mut Trace) {
+    for (d, k, c) in [(2, 1, 3), (2, 15, 3), (2, 15, 8), (15, u32::MAX, 8), (16, u32::MAX, 8)] {
+        trace.make(&Settings::new(d, k, c).expect("settings in range"));
+        write_and_read(trace, 33);
+        let keys = (k - (c - 1).min(k) + 1)..=k;
+        let many = keys.clone().count();
+        keys.rev().for_each(|key| trace.say(format!("N {key} {}", key / 2)));
+        write_and_read(trace, 33 + 8 * many);
+        // full of dead keys, and then of one live key and dead ones
+        (0..many).for_each(|_| trace.say("T"));
+        say_all(trace, "B 33|W");
+        trace.say(format!("N {k} 4294967295"));
+        write_and_read(trace, 41);
+        say_all(trace, "T|T|S");
+    }
+}
+
+/// Each byte is altered in three ways and put back.
+fn every_byte_of_a_file(trace: &mut Trace) {
+    say_all(trace, TWO_WAIT);
+    say_all(trace, "B 49|W");
+    let file = trace.state.bytes.clone();
+    for (index, byte) in file.iter().enumerate() {
+        for other in [byte.wrapping_add(1), byte.wrapping_sub(1), byte ^ 128] {
+            say_all(trace, &format!("Q {index} {other}|R"));
+        }
+        trace.say(format!("Q {index} {byte}"));
+    }
+    say_all(trace, "R|T|T|T");
+}
+
+/// The first bytes of a file, more and more of them, and then more than it has.
+fn every_cut_of_a_file(trace: &mut Trace) {
+    say_all(trace, TWO_WAIT);
+    say_all(trace, "B 49|W");
+    let file = trace.state.bytes.clone();
+    say_all(trace, "B 0|R");
+    for byte in file.iter().chain(&[0, 0]) {
+        append(trace, &[*byte]);
+        trace.say("R");
+    }
+}
+
+/// A file goes into every list of its length, whatever its D, K and C: that of D = 3, C = 7 is
+/// the same. Of another length it goes into none, and then the file decides which refusal it is.
+fn into_other_lists(trace: &mut Trace) {
+    say_all(trace, TWO_WAIT);
+    say_all(trace, "B 49|W");
+    for other in
+        ["2 16 8 71", "2 4294967295 8 71", "3 15 7 71", "0 0 0 71", "2 15 9 79", "16 1 3 87"]
+    {
+        say_all(trace, &format!("U {other}|N 1 1|R|T|W"));
+        say_all(trace, "Q 0 3|R|Q 0 2|L 70|R|W|L 72|R|L 0|R|L 71|R|W|F 9");
+    }
+}
+
+/// Lays a file, and reads it into words of the length that it asks for, one fewer and one more.
+fn read_form(trace: &mut Trace, form: &Form, length: usize) {
+    trace.say("B 0");
+    for part in form.bytes().chunks(MOST_BYTES_OF_A_LINE) {
+        append(trace, part);
+    }
+    for length in [length - 1, length + 1, length].map(|length| length.min(MOST_WORDS as usize)) {
+        say_all(trace, &format!("L {length}|R"));
+    }
+}
+
+fn settings_of_files(trace: &mut Trace) {
+    let ends = [
+        (D, [0, 1, 2, 15, 16, 17, u32::MAX]),
+        (K, [0, 1, 2, 3, 15, 1 << 31, u32::MAX]),
+        (C, [0, 2, 3, 4, 4096, 4097, u32::MAX]),
+    ];
+    for (place, numbers) in ends {
+        for number in numbers {
+            for pairs in [&[][..], &[(1, 7)], &[(1, 7), (2, 0)], &[(1, 7), (2, 0), (3, u32::MAX)]] {
+                let mut form = Form::new([2, 15, 8], pairs);
+                form.set(place, number);
+                let [d, c] = [D, C].map(|place| form.get(place) as usize);
+                read_form(trace, &form, exact_length(d.min(17), c.min(4097)));
+                say_all(trace, "T|F 1");
+            }
+        }
+    }
+    // every one of them at its end
+    for settings in [[2, 1, 3], [16, u32::MAX, 4096], [1, 0, 2], [17, 0, 4097]] {
+        let form = Form::new(settings, &[(1, 1)]);
+        read_form(trace, &form, exact_length(settings[0] as usize, settings[2] as usize));
+        say_all(trace, "W|T|T");
+    }
+}
+
+/// Keys at and past the ends of their range, equal, descending; C - 1 of them, C, and one more.
+fn keys_of_files(trace: &mut Trace) {
+    for k in [15, u32::MAX] {
+        let past = k.wrapping_add(1);
+        for keys in [
+            &[0][..],
+            &[1],
+            &[k],
+            &[past],
+            &[k - 1, k],
+            &[k, past],
+            &[0, 1],
+            &[1, 1],
+            &[2, 1],
+            &[1, 3, 2],
+            &[1, 2, 2],
+            &[2, 2, 3],
+            &[1, 2, 3],
+            &[1, 2, k],
+            &[1, k, k],
+            &[1, 2, 3, 4],
+            &[1, 2, 3, 4, 5],
+        ] {
+            let pairs: Vec<(u32, u32)> = keys.iter().map(|&key| (key, key ^ 5)).collect();
+            read_form(trace, &Form::new([2, k, 4], &pairs), exact_length(2, 4));
+            say_all(trace, "N 4 4|T|T");
+        }
+    }
+}
+
+fn bodies_of_files(trace: &mut Trace) {
+    for pairs in [&[][..], &[(1, 7), (2, 0)]] {
+        for form in Form::new([2, 15, 4], pairs).other_bodies() {
+            read_form(trace, &form, exact_length(2, 4));
+        }
+    }
+}
+
+/// As many keys as there can be, with the fewest dimensions and with the most; then one key more,
+/// which count and length say too. No words stand while the bytes are laid.
+fn greatest_files(trace: &mut Trace) {
+    let pairs: Vec<(u32, u32)> = (1..4096).map(|i| (1_048_575 * i + 1, i)).collect();
+    trace.say("L 0");
+    read_form(trace, &Form::new([2, u32::MAX, 4096], &pairs), exact_length(2, 4096));
+    say_all(trace, "F 1048576|F 1048577|N 1 1|B 32792|W|B 40000|W|R|B 32793|W|R");
+    say_all(trace, &format!("Q 22 16|R|L {}|R|T|N 1 1|S|T|S|N 1 1|R", exact_length(16, 4096)));
+    append(trace, &[u32::MAX.to_be_bytes(), [0; 4]].concat());
+    say_all(trace, "R|Q 31 16|Q 32 0|R|Q 17 128|Q 18 2|R|L 0|R");
+}
+
+fn unreadable_lines_for_files(trace: &mut Trace) {
+    say_all(trace, TWO_WAIT);
+    say_all(trace, "B 49|W");
+    for line in UNREADABLE_FOR_FILES.split(|&byte| byte == b'|') {
+        trace.write(line, b"\n");
+    }
+    say_all(trace, "W|R");
 }

@@ -6,6 +6,8 @@ mod damage;
 mod dice;
 pub mod edges;
 mod exports;
+pub mod file_forms;
+mod files;
 mod keys;
 mod large;
 mod late;
@@ -32,6 +34,7 @@ pub fn named(name: &str) -> Option<Generator> {
         "gen-late" => late::schedule,
         "gen-order" => order_lines::order_lines,
         "gen-records" => records::records,
+        "gen-files" => files::files,
         "gen-export" => exports::export,
         _ => return None,
     })

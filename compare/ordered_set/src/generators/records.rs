@@ -111,7 +111,7 @@ fn hand_over(trace: &mut Trace, entry: &str, is_good: bool) {
 }
 
 /// Mostly by lines of many bytes, at times each byte by a line of its own.
-fn lay(trace: &mut Trace, bytes: &[u8]) {
+pub fn lay(trace: &mut Trace, bytes: &[u8]) {
     let dice = &mut trace.dice;
     if bytes.len() < 20 && dice.one_in(12) {
         trace.say(format!("B {}", bytes.len()));

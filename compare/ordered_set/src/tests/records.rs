@@ -191,7 +191,6 @@ fn logger_prints_answers_and_takes() {
     assert_eq!(logged(&forms(export.as_bytes())[0]), output);
 }
 
-/// W and R, which belong to saved lists, are not readable.
 #[test]
 fn lines_for_bytes() {
     let lines_and_answers = [
@@ -202,8 +201,10 @@ fn lines_for_bytes() {
         ("B 40001", "10 0 0 0 0"),
         ("Q 0 256", "10 0 0 0 0"),
         ("O 4294967297", "10 0 0 0 0"),
-        ("W", "10 0 0 0 0"),
-        ("R", "10 0 0 0 0"),
+        ("W", "3 0 0 0 0 655366460 4294967296"),
+        ("R", "11 0 0 0 0 655366460 4294967296"),
+        ("W 0", "10 0 0 0 0"),
+        ("R 0", "10 0 0 0 0"),
         ("B 1", "- - - - 0 1000168 4294967296"),
         ("Q 0 48", "- - - - 0 1000051 4294967296"),
         ("Q 1 48", "- - - - 0 1000051 4294967296"),

@@ -2,7 +2,7 @@
 use borrow.Author.Needs.{needs}
 use Rattle.meaning.specs.Records.{lentOf}
 use Rattle.meaning.specs.Calls.{outcome}
-use Rattle.mdlist.proofs.Exported.{words-meets}
+use Rattle.mdlist.proofs.Exported.{words-meets, file-meets}
 use Rattle.mdlist.proofs.make.Statement.{statement}
 use Rattle.mdlist.proofs.make.Tie as tie
 
@@ -32,7 +32,15 @@ returns-6 c = let a = c .before .before .before .before .before .before .before 
 
 returns-7 : tie.Need-returns-7
 unfolding outcome
-returns-7 c = rw (c .before .before .before .before .before .enum-told3 .given .1) (c .before .before .mdlist-record .ensures)
+returns-7 c = rw (c .before .before .before .before .before .before .enum-told3 .given .1) (c .before .before .mdlist-record .ensures)
+
+returns-8 : tie.Need-returns-8
+unfolding outcome
+returns-8 c = let a = c .before .before .before .before .before .before .before .before .before .args in rw (c .before .before .before .before .before .enum-told4 .given .1) (file-meets (lentOf (a .list .now) (a .bytes .now) (a .last .now)) (c .before .before .mdlist-write .ensures))
+
+returns-9 : tie.Need-returns-9
+unfolding outcome
+returns-9 c = let a = c .before .before .before .before .before .before .before .before .before .args in rw (c .before .before .before .before .before .enum-told5 .given .1) (file-meets (lentOf (a .list .now) (a .bytes .now) (a .last .now)) (c .before .before .mdlist-read .ensures))
 
 pub make-spec : {M : Type 1} → statement M
 make-spec =
@@ -40,4 +48,6 @@ make-spec =
     (tie.spec (λ c. search needs) (λ c κs. search needs) (λ c. search needs) returns (λ c. search needs) (λ c κs. search needs) (λ c. search needs)
     returns-2 (λ c. search needs) (λ c κs. search needs) (λ c. search needs) returns-3 (λ c. search needs) (λ c κs. search needs) (λ c. search needs)
     returns-4 (λ c. search needs) (λ c κs. search needs) (λ c. search needs) returns-5 (λ c. search needs) (λ c κs. search needs)
-    (λ c. search needs) returns-6 (λ c. search needs) (λ c κs. search needs) (λ c. search needs) returns-7)
+    (λ c. search needs) returns-6 (λ c. search needs) (λ c κs. search needs) (λ c. search needs) (λ c. search needs) returns-7 (λ c. search needs)
+    (λ c κs. search needs) (λ c. search needs) (λ c. search needs) returns-8 (λ c. search needs) (λ c κs. search needs) (λ c. search needs)
+    (λ c. search needs) returns-9)

@@ -51,10 +51,12 @@ newWords D key value t =
 abbrev pub paidWords : ℕ → List ℕ → ℕ → ℕ → List ℕ
 paidWords D ws parent c = cond (eqb c 0) (finishWords D ws parent) (finishWords D (finishWords D ws parent) c)
 
--- An insert of a key that does not stand, but for the path: the parent's debt and then c's finished, the first free cell taken off its
--- chain and written, and link p of the parent set to it.
-unfoldable pub insertWords : ℕ → List ℕ → ℕ → ℕ → Slot → List ℕ
-insertWords D ws key value t =
-    let paid = paidWords D ws (t .parent) (t .c) in
-    let off = set paid 4 (getD paid (wordIndex D (t .n) 0) 0) in
+-- the first free cell is taken off its chain and written, and link p of the parent set to it
+abbrev pub hungWords : ℕ → List ℕ → ℕ → ℕ → Slot → List ℕ
+hungWords D ws key value t =
+    let off = set ws 4 (getD ws (wordIndex D (t .n) 0) 0) in
     store D (sets off (wordIndex D (t .n) 0) (newWords D key value t)) (t .parent) (linkField (t .p)) (t .n)
+
+-- An insert of a key that does not stand, but for the path: the parent's debt and then c's finished, and the new cell hung from the parent.
+unfoldable pub insertWords : ℕ → List ℕ → ℕ → ℕ → Slot → List ℕ
+insertWords D ws key value t = hungWords D (paidWords D ws (t .parent) (t .c)) key value t

@@ -20,10 +20,10 @@ called :
 called meets reply left = record { reply = four (meets .answered) ∙ reply; left = meets .left ∙ left }
 
 returns : tie.Need-returns
-returns c = rw (c .before .before .before .before .before .before .kind .given .1) (called (c .before .before .make .ensures) refl refl)
+returns c = rw (c .before .before .before .before .before .before .before .before .before .kind .given .1) (called (c .before .before .before .before .make .ensures) refl refl)
 
 returns-2 : tie.Need-returns-2
-returns-2 c = rw (c .before .before .before .before .before .before .kind2 .given .1) (called (c .before .before .make2 .ensures) refl refl)
+returns-2 c = rw (c .before .before .before .before .before .before .before .before .before .kind2 .given .1) (called (c .before .before .before .before .make2 .ensures) refl refl)
 
 returns-3 : tie.Need-returns-3
 returns-3 c = rw (c .enum-told .given .1) (record { reply = refl; left = refl })
@@ -49,6 +49,6 @@ returns-9 c = rw (c .before .enum-told7 .given .1) (record { reply = four (c .re
 pub call-spec : {M : Type 1} → statement M
 call-spec =
     tie.close
-    (tie.spec (λ c. search needs) (λ c κs. search needs) (λ c. search needs) returns (λ c. search needs) (λ c κs. search needs) (λ c. search needs)
-    returns-2 (λ c. search needs) returns-3 (λ c. search needs) returns-4 (λ c. search needs) returns-5 (λ c. search needs) returns-6
+    (tie.spec (λ c. search needs) (λ c κs. search needs) (λ c. search needs) (λ c. search needs) returns (λ c. search needs) (λ c κs. search needs)
+    (λ c. search needs) (λ c. search needs) returns-2 (λ c. search needs) returns-3 (λ c. search needs) returns-4 (λ c. search needs) returns-5 (λ c. search needs) returns-6
     (λ c. search needs) returns-7 (λ c. search needs) returns-8 (λ c. search needs) (λ c κs. search needs) returns-9)

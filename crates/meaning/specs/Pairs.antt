@@ -1,0 +1,16 @@
+-- What waits in a buffer: its live key-value pairs, and its standing keys, both ascending.
+use mathlib.Core.List.{List, map}
+use Prim.Native.Nat.{ℕ}
+use Rattle.lists.specs.Lists.{those}
+use Rattle.files.specs.Files.{Pair}
+use Rattle.meaning.specs.Row.{Node}
+use Rattle.meaning.specs.Reading.{read}
+
+abbrev pub pair : Node → Pair
+pair x = record { key = x .key; value = x .value }
+
+abbrev pub livePairs : List ℕ → List Pair
+livePairs ws = map pair (those (λ x. x .live) (read ws .row))
+
+abbrev pub standingKeys : List ℕ → List ℕ
+standingKeys ws = map (λ x. x .key) (read ws .row)

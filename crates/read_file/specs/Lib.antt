@@ -1,0 +1,2 @@
+-- Where a list stands while it is given a file's pairs.
+pub mod Putting
