@@ -9,18 +9,18 @@ use lib.Seq.{sets, sets-eq}
 use borrow.Author.Tests.{ne-eqb}
 use Rattle.settings.specs.declared.Settings.{Settings}
 use Rattle.lists.proofs.Sets.{sets-append}
-use Rattle.meaning.specs.Refusals.{answer, Meets}
+use Rattle.answers.specs.Refusals.{answer, Meets}
 use Rattle.meaning.specs.Operations.{insertOut, findOut, finishOut, takeOut, sweepOut}
-use Rattle.meaning.specs.Calls.{outcome, alone, madeOn, afterCalls}
-use Rattle.meaning.specs.Batch.{BatchLent, callOf, callsIn, answerWords, answersTo, batchLent, batchDone}
-use Rattle.meaning.specs.Promises.{keepsSettings}
+use Rattle.calls.specs.Calls.{outcome, alone, madeOn, afterCalls}
+use Rattle.calls.specs.Batch.{BatchLent, callOf, callsIn, answerWords, answersTo, batchLent, batchDone}
+use Rattle.calls.specs.Promises.{keepsSettings}
 use Rattle.meaning.specs.Layer.Listed.{Listed}
-use Rattle.meaning.specs.declared.Answer.{Answer}
-use Rattle.meaning.specs.declared.Call.{Call}
-use Rattle.meaning.specs.declared.Call.the-variants.{Insert, Find, Finish, Take, Sweep}
+use Rattle.answers.specs.declared.Answer.{Answer}
+use Rattle.calls.specs.declared.Call.{Call}
+use Rattle.calls.specs.declared.Call.the-variants.{Insert, Find, Finish, Take, Sweep}
 use Rattle.meaning.proofs.Outcomes.{find-writes-nothing}
-use Rattle.meaning.proofs.Listed.{call-listed}
-use Rattle.meaning.proofs.Batch.{answers-length}
+use Rattle.calls.proofs.Listed.{call-listed}
+use Rattle.calls.proofs.Batch.{answers-length}
 use Rattle.batch.specs.Batching.{CallMade}
 use Rattle.batch.proofs.Calls.{calls-length}
 

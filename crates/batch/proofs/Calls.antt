@@ -9,7 +9,7 @@ use lib.Dec.{leb, eqb}
 use lib.ListN.{length, getD, drop, length-drop}
 use lib.Seq.{drop-cons}
 use borrow.Author.Tests.{le-leb, lt-leb}
-use Rattle.meaning.specs.Batch.{isKind, callOf, areCalls, callsIn, fits}
+use Rattle.calls.specs.Batch.{isKind, callOf, areCalls, callsIn, fits}
 
 -- three words from an index on
 three : (k : ℕ) (words : List ℕ) → k + 2 < length words →

@@ -4,11 +4,11 @@ ghost use mathlib.Core.Bool.{true};
 ghost use Prim.Native.Nat.{_+_, _≤_};
 ghost use lib.ListN.{length};
 ghost use lib.Seq.{sets};
-ghost use Rattle.meaning.specs.Refusals.{Meets};
-ghost use Rattle.meaning.specs.Batch.{isKind, callOf, areCalls, callsIn, answerWords, fits, batchLent, batchDone};
+ghost use Rattle.answers.specs.Refusals.{Meets};
+ghost use Rattle.calls.specs.Batch.{isKind, callOf, areCalls, callsIn, answerWords, fits, batchLent, batchDone};
 ghost use Rattle.meaning.specs.Layer.Listed.{Listed};
 ghost use Rattle.batch.specs.Batching.{CallMade};
-use meaning::Answer;
+use answers::Answer;
 use settings::Settings;
 
 const INSERT: u32 = 1;
@@ -110,5 +110,5 @@ pub fn batch(list: &mut [u32], s: Settings, calls: &[u32], answers: &mut [u32]) 
         put(answers, WORDS_PER_ANSWER * i, a);
         i += 1;
     }
-    meaning::accepted(0, 0, n as u32)
+    answers::accepted(0, 0, n as u32)
 }

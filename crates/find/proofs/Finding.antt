@@ -8,12 +8,12 @@ use Rattle.meaning.specs.Row.{Node}
 use Rattle.meaning.specs.State.{State}
 use Rattle.meaning.specs.Picture.{mark, picture}
 use Rattle.meaning.specs.Reading.{read}
-use Rattle.meaning.specs.Refusals.{answer, keyNotLive, answerOf}
+use Rattle.answers.specs.Refusals.{answer, keyNotLive, answerOf}
 use Rattle.meaning.specs.Operations.{looked, findOut}
 use Rattle.meaning.specs.Words.{valueAt, markAt}
 use Rattle.meaning.specs.Layer.Listed.{Listed}
-use Rattle.meaning.proofs.State.{Sound}
-use Rattle.meaning.proofs.Placed.{mark-one, mark-other, place-value, place-mark}
+use Rattle.meaning.proofs.Pictures.State.{Sound}
+use Rattle.meaning.proofs.Cells.Placed.{mark-one, mark-other, place-value, place-mark}
 use Rattle.meaning.proofs.Outcomes.{find-outcome-bad-key, find-outcome-absent, find-outcome-dead, find-outcome-live}
 use Rattle.search.specs.Found.{foundOf}
 use Rattle.search.specs.declared.Found.{Found}

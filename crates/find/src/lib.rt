@@ -1,16 +1,16 @@
 // Find: The operations 3.
 ghost use mathlib.Core.Path.{_≡_};
-ghost use Rattle.meaning.specs.Refusals.{keyNotLive, answerOf};
+ghost use Rattle.answers.specs.Refusals.{keyNotLive, answerOf};
 ghost use Rattle.meaning.specs.Operations.{findOut};
 ghost use Rattle.meaning.specs.Layer.Listed.{Listed};
-use meaning::Answer;
+use answers::Answer;
 use settings::Settings;
 
 // The refusal of a key that is not live.
 fn not_live(key: u32, looked: u32) -> Answer
     ensures { λ r. ⌜ r ≡ answerOf (keyNotLive key looked) ⌝ }
 {
-    meaning::refused_at(meaning::KEY_NOT_LIVE, key, looked)
+    answers::refused_at(answers::KEY_NOT_LIVE, key, looked)
 }
 
 // On a list with settings s.
@@ -19,10 +19,10 @@ pub fn find(list: &[u32], s: Settings, key: u32) -> Answer
     ensures { λ r. ⌜ r ≡ findOut (now (list .entry)) key .answered ⌝ }
 {
     if key == 0 {
-        return meaning::refused(meaning::BAD_KEY);
+        return answers::refused(answers::BAD_KEY);
     }
     if s.largest < key {
-        return meaning::refused(meaning::BAD_KEY);
+        return answers::refused(answers::BAD_KEY);
     }
     let f = search::search(list, s, key);
     if !f.standing {
@@ -32,5 +32,5 @@ pub fn find(list: &[u32], s: Settings, key: u32) -> Answer
         return not_live(key, f.looked);
     }
     let value = words::word(list, s, f.c, words::VALUE);
-    meaning::accepted(key, value, f.looked)
+    answers::accepted(key, value, f.looked)
 }

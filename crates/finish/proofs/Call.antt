@@ -5,13 +5,13 @@ use mathlib.Core.List.{List}
 use Prim.Native.Nat.{ℕ, _-_, _≤_, _<_}
 use Rattle.settings.specs.declared.Settings.{Settings}
 use Rattle.meaning.specs.Reading.{read}
-use Rattle.meaning.specs.Refusals.{answer, Meets}
+use Rattle.answers.specs.Refusals.{answer, Meets}
 use Rattle.meaning.specs.Operations.{finishOut}
 use Rattle.meaning.specs.Layer.Stores.{finishWords}
 use Rattle.meaning.specs.Words.{lowAt, highAt}
-use Rattle.meaning.specs.declared.Answer.{Answer}
+use Rattle.answers.specs.declared.Answer.{Answer}
 use Rattle.meaning.specs.Layer.Listed.{Listed}
-use Rattle.meaning.proofs.FinishWords.{finish-words, finish-moved}
+use Rattle.meaning.proofs.Written.FinishWords.{finish-words, finish-moved}
 use Rattle.meaning.proofs.Outcomes.{finish-outcome-bad-key, finish-outcome-absent, finish-outcome-standing}
 use Rattle.search.specs.Found.{foundOf}
 use Rattle.search.specs.declared.Found.{Found}

@@ -18,27 +18,27 @@ use Rattle.meaning.specs.Row.{Node, nodeAt}
 use Rattle.meaning.specs.State.{State, positionKey}
 use Rattle.meaning.specs.Picture.{mark, path, picture}
 use Rattle.meaning.specs.Reading.{read}
-use Rattle.meaning.specs.Refusals.{answer, Meets, accepted}
+use Rattle.answers.specs.Refusals.{answer, Meets, accepted}
 use Rattle.meaning.specs.Words.{wordIndex, wordAt, markAt, owedAt, firstFreeAt, linkField}
 use Rattle.meaning.specs.Operations.{positionAfter, revived, Slot, slotFor, added, insertOut}
 use Rattle.meaning.specs.Layer.Stores.{store, finishWords, writePath, writeNode, newWords, insertWords, hungWords, paidWords}
-use Rattle.meaning.specs.declared.Answer.{Answer}
+use Rattle.answers.specs.declared.Answer.{Answer}
 use Rattle.meaning.specs.Layer.Listed.{Listed}
-use Rattle.meaning.proofs.State.{Sound, sound-valid}
-use Rattle.meaning.proofs.StateCells.{free-range}
-use Rattle.meaning.proofs.Slot.{first-free-all}
-use Rattle.meaning.proofs.Picture.{picture-free, path-length}
-use Rattle.meaning.proofs.ReadBack.{mark-live, read-of-picture}
-use Rattle.meaning.proofs.Placed.{place-mark}
-use Rattle.meaning.proofs.BookRow.{node-key}
-use Rattle.meaning.proofs.Stores.{Exact, picture-exact, exact-set, exact-sets, exact-finished, header-set-path, store-below, cell-sets-below}
-use Rattle.meaning.proofs.Stores.{path-sets-same, finishWords-none, finishWords-below}
-use Rattle.meaning.proofs.Changed.{picture-path-word}
-use Rattle.meaning.proofs.KeepsFinish.{finished-sound}
-use Rattle.meaning.proofs.KeepsInsert.{revived-sound, added-sound}
-use Rattle.meaning.proofs.FinishWords.{finish-words}
-use Rattle.meaning.proofs.TakeWords.{revived-words, revived-words-above}
-use Rattle.meaning.proofs.InsertWords.{added-words, added-path}
+use Rattle.meaning.proofs.Pictures.State.{Sound, sound-valid}
+use Rattle.meaning.proofs.Pictures.StateCells.{free-range}
+use Rattle.meaning.proofs.Kept.Slot.{first-free-all}
+use Rattle.meaning.proofs.Pictures.Picture.{picture-free, path-length}
+use Rattle.meaning.proofs.Pictures.ReadBack.{mark-live, read-of-picture}
+use Rattle.meaning.proofs.Cells.Placed.{place-mark}
+use Rattle.meaning.proofs.Rows.Nodes.{node-key}
+use Rattle.meaning.proofs.Cells.Stores.{Exact, picture-exact, exact-set, exact-sets, exact-finished, header-set-path, store-below, cell-sets-below}
+use Rattle.meaning.proofs.Cells.Stores.{path-sets-same, finishWords-none, finishWords-below}
+use Rattle.meaning.proofs.Cells.Changed.{picture-path-word}
+use Rattle.meaning.proofs.Kept.KeepsFinish.{finished-sound}
+use Rattle.meaning.proofs.Kept.KeepsInsert.{revived-sound, added-sound}
+use Rattle.meaning.proofs.Written.FinishWords.{finish-words}
+use Rattle.meaning.proofs.Written.TakeWords.{revived-words, revived-words-above}
+use Rattle.meaning.proofs.Written.InsertWords.{added-words, added-path}
 use Rattle.meaning.proofs.Outcomes.{insert-outcome-bad-key, insert-outcome-live, insert-outcome-dead, insert-outcome-full, insert-outcome-new}
 use Rattle.words.specs.Shaped.{Shaped}
 use Rattle.words.proofs.Shaped.{word-is}

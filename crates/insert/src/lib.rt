@@ -6,7 +6,7 @@ ghost use Prim.Native.Nat.{_<_};
 ghost use lib.ListN.{getD};
 ghost use Rattle.meaning.specs.State.{positionKey};
 ghost use Rattle.meaning.specs.Reading.{read};
-ghost use Rattle.meaning.specs.Refusals.{Meets};
+ghost use Rattle.answers.specs.Refusals.{Meets};
 ghost use Rattle.meaning.specs.Operations.{positionAfter, insertOut};
 ghost use Rattle.meaning.specs.Words.{markAt};
 ghost use Rattle.meaning.specs.Layer.Stores.{finishWords, paidWords, hungWords};
@@ -16,7 +16,7 @@ ghost use Rattle.finish.specs.Payable.{Payable};
 ghost use Rattle.search.specs.Found.{Sought};
 ghost use Rattle.new_cell.specs.NewCell.{slotOf, Fits};
 ghost use Rattle.insert.specs.Inserting.{EndsInSome, PathWritten, ComesLast};
-use meaning::Answer;
+use answers::Answer;
 use search::Found;
 use settings::Settings;
 
@@ -122,10 +122,10 @@ fn insert_standing(list: &mut [u32], s: Settings, f: Found, key: u32, value: u32
     ensures { λ r. ⌜ Meets (insertOut (now (list .entry)) key value) r (now (list .exit)) ⌝ }
 {
     if words::word(list, s, f.c, words::MARK) == words::LIVE {
-        return meaning::refused_at(meaning::KEY_LIVE, key, f.looked);
+        return answers::refused_at(answers::KEY_LIVE, key, f.looked);
     }
     revive(list, s, f, key, value);
-    meaning::accepted(key, 0, f.looked)
+    answers::accepted(key, 0, f.looked)
 }
 
 // A key that does not stand: refused if there is no free cell.
@@ -135,10 +135,10 @@ fn insert_new(list: &mut [u32], s: Settings, f: Found, key: u32, value: u32) -> 
 {
     let n = list[words::FIRST_FREE];
     if n == 0 {
-        return meaning::refused_at(meaning::NO_FREE_CELL, key, f.looked);
+        return answers::refused_at(answers::NO_FREE_CELL, key, f.looked);
     }
     add(list, s, n, f, key, value);
-    meaning::accepted(key, 0, f.looked)
+    answers::accepted(key, 0, f.looked)
 }
 
 // On a list with settings s: The operations 2.
@@ -147,10 +147,10 @@ pub fn insert(list: &mut [u32], s: Settings, key: u32, value: u32) -> Answer
     ensures { λ r. ⌜ Meets (insertOut (now (list .entry)) key value) r (now (list .exit)) ⌝ }
 {
     if key == 0 {
-        return meaning::refused(meaning::BAD_KEY);
+        return answers::refused(answers::BAD_KEY);
     }
     if s.largest < key {
-        return meaning::refused(meaning::BAD_KEY);
+        return answers::refused(answers::BAD_KEY);
     }
     let f = search::search(list, s, key);
     if f.standing {

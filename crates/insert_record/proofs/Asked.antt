@@ -14,11 +14,11 @@ use Rattle.records.specs.declared.note.Logged.the-variants.{Note, NoNote}
 use Rattle.records.specs.declared.full_number.FullNumber.{FullNumber}
 use Rattle.records.specs.declared.full_number.FullNumber.the-variants.{Fits, Outside}
 use Rattle.meaning.specs.Reading.{readingOf}
-use Rattle.meaning.specs.Refusals.{Outcome, Refusal, badRecord, numberOutside, Meets, answerOf}
+use Rattle.answers.specs.Refusals.{Outcome, Refusal, badRecord, numberOutside, Meets, answerOf}
 use Rattle.meaning.specs.Operations.{insertOut}
-use Rattle.meaning.specs.Records.{Lent, lentOf, nothing, insertion, numberAsks, noteAsks, askedOut, noteOut}
+use Rattle.calls.specs.Records.{Lent, lentOf, nothing, insertion, numberAsks, noteAsks, askedOut, noteOut}
 use Rattle.meaning.specs.Layer.Listed.{Listed}
-use Rattle.meaning.specs.declared.Answer.{Answer}
+use Rattle.answers.specs.declared.Answer.{Answer}
 use Rattle.insert_record.specs.Noted.{Noted}
 
 -- what a note that is made asks for

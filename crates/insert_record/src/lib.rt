@@ -5,7 +5,7 @@ ghost use lib.Dec.{eqb};
 ghost use Rattle.records.specs.Notes.{Within};
 ghost use Rattle.meaning.specs.Layer.Listed.{Listed};
 ghost use Rattle.insert_record.specs.Noted.{Noted};
-use meaning::Answer;
+use answers::Answer;
 use records::full_number::FullNumber;
 use records::note::Logged;
 use settings::Settings;
@@ -25,11 +25,11 @@ pub fn insert_record(list: &mut [u32], s: Settings, logged: Logged, last: &mut u
     ensures { λ r. ⌜ Noted logged (now (list .entry)) (now (last .entry)) r (now (list .exit)) (now (last .exit)) ⌝ }
 {
     let Logged::Note(e, own) = logged else {
-        return meaning::refused(meaning::BAD_RECORD);
+        return answers::refused(answers::BAD_RECORD);
     };
     let before = *last;
     let FullNumber::Fits(number) = records::full_number::full_number(before, own) else {
-        return meaning::refused(meaning::NUMBER_OUTSIDE);
+        return answers::refused(answers::NUMBER_OUTSIDE);
     };
     let answer = insert::insert(list, s, entries::entry_key(e), number);
     advance(last, number, answer);

@@ -21,13 +21,13 @@ use Rattle.records.specs.declared.feed.Told.{Told}
 use Rattle.records.specs.declared.feed.Told.the-variants.{NoRecord, Record}
 use Rattle.records.proofs.Notes.{note-within}
 use Rattle.meaning.specs.Operations.{takeOut}
-use Rattle.meaning.specs.Records.{Lent, noteOut}
-use Rattle.meaning.specs.Calls.{outcome, alone, lending}
-use Rattle.meaning.specs.declared.Call.the-variants.{Take}
+use Rattle.calls.specs.Records.{Lent, noteOut}
+use Rattle.calls.specs.Calls.{outcome, alone, lending}
+use Rattle.calls.specs.declared.Call.the-variants.{Take}
 use Rattle.settings.specs.declared.Settings.{Settings}
 use Rattle.meaning.specs.Layer.Listed.{Listed}
-use Rattle.meaning.proofs.Listed.{call-listed, note-listed}
-use Rattle.meaning.proofs.Promises.{refused-alters-nothing}
+use Rattle.calls.proofs.Listed.{call-listed, note-listed}
+use Rattle.calls.proofs.Promises.{refused-alters-nothing}
 use Rattle.logger_step.specs.Printed.{afterNotes}
 use Rattle.logger.specs.Input.{kept, Known, BytesTaken, EndTaken, NothingToTake, Took}
 use Rattle.logger.specs.declared.Turn.{Turn}

@@ -9,7 +9,7 @@ use Rattle.records.specs.Feeding.{begunAfterPart, handedByPart, handedAtEnd, fe
 use Rattle.records.specs.declared.note.Logged.{Logged}
 use Rattle.records.specs.declared.feed.Feed.{Feed}
 use Rattle.meaning.specs.Operations.{takeOut}
-use Rattle.meaning.specs.Records.{Lent, lentOf}
+use Rattle.calls.specs.Records.{Lent, lentOf}
 use Rattle.logger_step.specs.Printed.{afterNotes, notesText, takeText}
 use Rattle.logger.specs.declared.State.{State}
 use Rattle.logger.specs.declared.Turn.{Turn}

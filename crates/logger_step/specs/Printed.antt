@@ -7,7 +7,7 @@ use lib.ListN.{length, take}
 use Rattle.text.specs.Lines.{lineFeed}
 use Rattle.records.specs.declared.note.Logged.{Logged}
 use Rattle.meaning.specs.Operations.{takeOut}
-use Rattle.meaning.specs.Records.{Lent, noteOut}
+use Rattle.calls.specs.Records.{Lent, noteOut}
 use Rattle.report.specs.Report.{answerText}
 use Rattle.logger_step.specs.declared.TakeText.{TakeText}
 

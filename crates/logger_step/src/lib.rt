@@ -3,7 +3,7 @@ ghost use mathlib.Core.List.{[]};
 ghost use Prim.Native.Nat.{_≤_};
 ghost use lib.ListN.{length};
 ghost use Rattle.records.specs.Feeding.{toldIn, ToldWithin};
-ghost use Rattle.meaning.specs.Records.{lentOf};
+ghost use Rattle.calls.specs.Records.{lentOf};
 ghost use Rattle.meaning.specs.Layer.Listed.{Listed};
 ghost use Rattle.report.specs.Report.{answerBytes};
 ghost use Rattle.logger_step.specs.Printed.{NotesAnswered, TakeAnswered};

@@ -6,13 +6,13 @@ use Prim.Native.Nat.{ℕ}
 use Rattle.records.specs.Notes.{noteBy}
 use Rattle.records.specs.declared.note.Logged.{Logged}
 use Rattle.meaning.specs.Reading.{readingOf}
-use Rattle.meaning.specs.Refusals.{Outcome, Meets, answer, notAList, refused}
-use Rattle.meaning.specs.declared.Answer.{Answer}
+use Rattle.answers.specs.Refusals.{Outcome, Meets, answer, notAList, refused}
+use Rattle.answers.specs.declared.Answer.{Answer}
 use Rattle.meaning.specs.Operations.{findOut}
-use Rattle.meaning.specs.Records.{Lent, lentOf, noteOn, noteOut, recordOut}
-use Rattle.meaning.specs.Saved.{FileLent, fileLent}
-use Rattle.meaning.specs.Calls.{onWords, onFile}
-use Rattle.meaning.specs.Batch.{BatchLent, callsIn, fits, batchDone, batchOn, batchOut}
+use Rattle.calls.specs.Records.{Lent, lentOf, noteOn, noteOut, recordOut}
+use Rattle.calls.specs.Saved.{FileLent, fileLent}
+use Rattle.calls.specs.Calls.{onWords, onFile}
+use Rattle.calls.specs.Batch.{BatchLent, callsIn, fits, batchDone, batchOn, batchOut}
 use Rattle.meaning.specs.declared.Reading.the-variants.{IsList, NotAList}
 use Rattle.settings.specs.declared.Settings.{Settings}
 use Rattle.insert_record.specs.Noted.{Noted}

@@ -3,14 +3,14 @@
 // `requires`, and each contract is the whole outcome of the call (docs/REFERENCE.md): the four numbers, every word, the last number, and the bytes of a file.
 ghost use Rattle.records.specs.Notes.{Within};
 ghost use Rattle.insert_record.specs.Noted.{Noted};
-ghost use Rattle.meaning.specs.Refusals.{Meets};
+ghost use Rattle.answers.specs.Refusals.{Meets};
 ghost use Rattle.meaning.specs.Operations.{setUpOut, insertOut, findOut, finishOut, takeOut, sweepOut};
-ghost use Rattle.meaning.specs.Records.{lentOf, recordOut};
-ghost use Rattle.meaning.specs.Saved.{fileLent, writeOut, readOut};
-ghost use Rattle.meaning.specs.Calls.{outcome};
-ghost use Rattle.meaning.specs.Batch.{batchLent, batchOut};
-use meaning::Answer;
-use meaning::Call;
+ghost use Rattle.calls.specs.Records.{lentOf, recordOut};
+ghost use Rattle.calls.specs.Saved.{fileLent, writeOut, readOut};
+ghost use Rattle.calls.specs.Calls.{outcome};
+ghost use Rattle.calls.specs.Batch.{batchLent, batchOut};
+use answers::Answer;
+use calls::Call;
 use meaning::Reading;
 use records::note::Logged;
 
@@ -28,7 +28,7 @@ pub extern "C" fn mdlist_insert(list: &mut [u32], key: u32, value: u32) -> Answe
     ensures { λ r. ⌜ Meets (insertOut (now (list .entry)) key value) r (now (list .exit)) ⌝ }
 {
     let Reading::IsList(s) = is_list::is_list(list) else {
-        return meaning::refused(meaning::NOT_A_LIST);
+        return answers::refused(answers::NOT_A_LIST);
     };
     insert::insert(list, s, key, value)
 }
@@ -39,7 +39,7 @@ pub extern "C" fn mdlist_find(list: &[u32], key: u32) -> Answer
     ensures { λ r. ⌜ Meets (findOut (now (list .entry)) key) r (now (list .entry)) ⌝ }
 {
     let Reading::IsList(s) = is_list::is_list(list) else {
-        return meaning::refused(meaning::NOT_A_LIST);
+        return answers::refused(answers::NOT_A_LIST);
     };
     find::find(list, s, key)
 }
@@ -50,7 +50,7 @@ pub extern "C" fn mdlist_finish(list: &mut [u32], key: u32) -> Answer
     ensures { λ r. ⌜ Meets (finishOut (now (list .entry)) key) r (now (list .exit)) ⌝ }
 {
     let Reading::IsList(s) = is_list::is_list(list) else {
-        return meaning::refused(meaning::NOT_A_LIST);
+        return answers::refused(answers::NOT_A_LIST);
     };
     finish::finish(list, s, key)
 }
@@ -61,7 +61,7 @@ pub extern "C" fn mdlist_take(list: &mut [u32]) -> Answer
     ensures { λ r. ⌜ Meets (takeOut (now (list .entry))) r (now (list .exit)) ⌝ }
 {
     let Reading::IsList(s) = is_list::is_list(list) else {
-        return meaning::refused(meaning::NOT_A_LIST);
+        return answers::refused(answers::NOT_A_LIST);
     };
     take::take(list, s)
 }
@@ -72,7 +72,7 @@ pub extern "C" fn mdlist_sweep(list: &mut [u32]) -> Answer
     ensures { λ r. ⌜ Meets (sweepOut (now (list .entry))) r (now (list .exit)) ⌝ }
 {
     let Reading::IsList(s) = is_list::is_list(list) else {
-        return meaning::refused(meaning::NOT_A_LIST);
+        return answers::refused(answers::NOT_A_LIST);
     };
     sweep::sweep(list, s)
 }
@@ -91,7 +91,7 @@ pub fn enter(list: &mut [u32], logged: Logged, last: &mut u64) -> Answer
     ensures { λ r. ⌜ Noted logged (now (list .entry)) (now (last .entry)) r (now (list .exit)) (now (last .exit)) ⌝ }
 {
     let Reading::IsList(s) = is_list::is_list(list) else {
-        return meaning::refused(meaning::NOT_A_LIST);
+        return answers::refused(answers::NOT_A_LIST);
     };
     insert_record::insert_record(list, s, logged, last)
 }
@@ -102,7 +102,7 @@ pub extern "C" fn mdlist_write(list: &[u32], file: &mut [u8]) -> Answer
     ensures { λ r. ⌜ Meets (writeOut (fileLent (now (list .entry)) (now (file .entry)))) r (fileLent (now (list .entry)) (now (file .exit))) ⌝ }
 {
     let Reading::IsList(s) = is_list::is_list(list) else {
-        return meaning::refused(meaning::NOT_A_LIST);
+        return answers::refused(answers::NOT_A_LIST);
     };
     write_file::write_file(list, s, file)
 }
@@ -121,12 +121,12 @@ pub extern "C" fn mdlist_batch(list: &mut [u32], calls: &[u32], answers: &mut [u
     ensures { λ r. ⌜ Meets (batchOut (now (calls .entry)) (batchLent (now (list .entry)) (now (answers .entry)))) r (batchLent (now (list .exit)) (now (answers .exit))) ⌝ }
 {
     let Reading::IsList(s) = is_list::is_list(list) else {
-        return meaning::refused(meaning::NOT_A_LIST);
+        return answers::refused(answers::NOT_A_LIST);
     };
     if batch::fit(calls, answers) {
         return batch::batch(list, s, calls, answers);
     }
-    meaning::refused(meaning::BAD_BATCH)
+    answers::refused(answers::BAD_BATCH)
 }
 
 // Makes a call: for programs that read calls and make them one after the other. A call that needs no bytes leaves them unread.

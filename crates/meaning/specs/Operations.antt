@@ -16,8 +16,8 @@ use Rattle.meaning.specs.Row.{Node, lastOf, Place, settledLink, low, hig
 use Rattle.meaning.specs.State.{State, keyOf, positionKey, placesOf}
 use Rattle.meaning.specs.Picture.{picture}
 use Rattle.meaning.specs.Reading.{read, readingOf}
-use Rattle.meaning.specs.Refusals.{Outcome, accepted, outOfRange, wrongLength, notAList, badKey, keyLive, noFreeCell, nothingLive, keyNotLive}
-use Rattle.meaning.specs.Refusals.{keyNotStanding, refused}
+use Rattle.answers.specs.Refusals.{Outcome, accepted, outOfRange, wrongLength, notAList, badKey, keyLive, noFreeCell, nothingLive, keyNotLive}
+use Rattle.answers.specs.Refusals.{keyNotStanding, refused}
 use Rattle.meaning.specs.Rule.{rule}
 use Rattle.meaning.specs.declared.Reading.{Reading}
 use Rattle.meaning.specs.declared.Reading.the-variants.{IsList, NotAList}

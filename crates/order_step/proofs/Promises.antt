@@ -11,17 +11,17 @@ use Rattle.settings.specs.Numbers.{mostLargest}
 use Rattle.text.specs.Lines.{Handed, line, tooLong}
 use Rattle.meaning.specs.Words.{largestAt}
 use Rattle.meaning.specs.Reading.{isList}
-use Rattle.meaning.specs.Calls.{outcome, Made, alone, madeOn, afterCalls}
-use Rattle.meaning.specs.declared.Answer.{Answer}
-use Rattle.meaning.specs.declared.Call.the-variants as calls
+use Rattle.calls.specs.Calls.{outcome, Made, alone, madeOn, afterCalls}
+use Rattle.answers.specs.declared.Answer.{Answer}
+use Rattle.calls.specs.declared.Call.the-variants as calls
 use Rattle.files.specs.Files.{Pair}
-use Rattle.meaning.specs.Book.{Book, bookOf, hasKey, liveIn, inserted, keyInserted, bookedCall, booked, bookedAll}
-use Rattle.meaning.specs.Book.{Reply, keyed, insertReply, takeReply, replyToCall, replyTo}
+use Rattle.calls.specs.Book.{Book, bookOf, hasKey, liveIn, inserted, keyInserted, bookedCall, booked, bookedAll}
+use Rattle.calls.specs.Book.{Reply, keyed, insertReply, takeReply, replyToCall, replyTo}
 use Rattle.settings.specs.declared.Settings.{Settings}
-use Rattle.meaning.specs.Promises.{keepsSettings}
+use Rattle.calls.specs.Promises.{keepsSettings}
 use Rattle.meaning.specs.Layer.Listed.{Listed}
-use Rattle.meaning.proofs.Listed.{made-listed}
-use Rattle.meaning.proofs.Promises.{answers-are-booked, calls-are-booked, calls-keep-lists}
+use Rattle.calls.proofs.Listed.{made-listed}
+use Rattle.calls.proofs.Promises.{answers-are-booked, calls-are-booked, calls-keep-lists}
 use Rattle.entries.specs.Entries.{entryKey}
 use Rattle.entries.proofs.Promises.{key-within}
 use Rattle.lines.specs.Grammar.{parsedOf, KindInRange}

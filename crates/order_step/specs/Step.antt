@@ -2,7 +2,7 @@
 use mathlib.Core.List.{List}
 use Prim.Native.Nat.{ℕ}
 use Rattle.text.specs.Lines.{Handed, line, tooLong}
-use Rattle.meaning.specs.Refusals.{Outcome, lineNotReadable, refused}
+use Rattle.answers.specs.Refusals.{Outcome, lineNotReadable, refused}
 use Rattle.meaning.specs.Operations.{insertOut, findOut, finishOut, takeOut, sweepOut}
 use Rattle.entries.specs.Entries.{entryKey}
 use Rattle.lines.specs.Grammar.{parsedOf}

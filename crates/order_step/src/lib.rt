@@ -5,7 +5,7 @@ ghost use Prim.Native.Nat.{_≤_};
 ghost use lib.ListN.{length};
 ghost use Rattle.text.specs.Lines.{line, tooLong};
 ghost use Rattle.text.specs.Feeding.{toldIn, LineIn};
-ghost use Rattle.meaning.specs.Refusals.{Meets};
+ghost use Rattle.answers.specs.Refusals.{Meets};
 ghost use Rattle.meaning.specs.Layer.Listed.{Listed};
 ghost use Rattle.lines.specs.Grammar.{KindInRange};
 ghost use Rattle.report.specs.Report.{answerBytes};
@@ -13,7 +13,7 @@ ghost use Rattle.order_step.specs.Step.{kindOutcome, lineOutcome};
 ghost use Rattle.order_step.specs.Printed.{LinesAnswered};
 use lines::Kind;
 use lines::Parsed;
-use meaning::Answer;
+use answers::Answer;
 use settings::Settings;
 use text::feed::Told;
 
@@ -35,7 +35,7 @@ fn make(list: &mut [u32], s: Settings, kind: Kind) -> Answer
 fn long_line(list: &[u32]) -> Answer
     ensures { λ r. ⌜ Meets (lineOutcome tooLong (now (list .entry))) r (now (list .entry)) ⌝ }
 {
-    meaning::refused(meaning::LINE_NOT_READABLE)
+    answers::refused(answers::LINE_NOT_READABLE)
 }
 
 // A line of at most 64 bytes, or any other that is handed over whole.
@@ -44,7 +44,7 @@ fn step(list: &mut [u32], s: Settings, bytes: &[u8]) -> Answer
     ensures { λ r. ⌜ Meets (lineOutcome (line (now (bytes .entry))) (now (list .entry))) r (now (list .exit)) ⌝ }
 {
     let Parsed::Readable(l) = lines::parse(bytes) else {
-        return meaning::refused(meaning::LINE_NOT_READABLE);
+        return answers::refused(answers::LINE_NOT_READABLE);
     };
     let kind = l.kind;
     make(list, s, kind)

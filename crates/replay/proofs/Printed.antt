@@ -5,7 +5,7 @@ use mathlib.Core.List.{List, _++_}
 use Prim.Native.Nat.{ℕ, _-_, _≤_}
 use native.Mathlib.Nat.{sub-zero}
 use lib.ListN.{length, take}
-use Rattle.meaning.specs.Records.{Lent, lentOf}
+use Rattle.calls.specs.Records.{Lent, lentOf}
 use Rattle.report.specs.Report.{Put}
 use Rattle.report.proofs.Puts.{put-more, put-start}
 use Rattle.trace.specs.Trace.{mostWords, mostHeld, bufferAfter, bytesAfter, lastAfter, alteredBy, Held, Holds}

@@ -3,7 +3,7 @@ use mathlib.Core.List.{List}
 use Prim.Native.Nat.{ℕ}
 use lib.ListN.{take}
 use Rattle.text.specs.Feeding.{Ready}
-use Rattle.meaning.specs.Records.{Lent, lentOf}
+use Rattle.calls.specs.Records.{Lent, lentOf}
 use Rattle.trace.specs.Trace.{mostWords, mostHeld, Held}
 use Rattle.replay.specs.declared.answer.Sizes.{Sizes}
 use Rattle.replay.specs.declared.State.{State}

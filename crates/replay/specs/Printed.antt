@@ -9,9 +9,9 @@ use Rattle.text.specs.Fields.{space}
 use Rattle.text.specs.Lines.{lineFeed}
 use Rattle.text.specs.declared.feed.Told.{Told}
 use Rattle.text.specs.declared.feed.Told.the-variants.{NoLine, Line, LongLine}
-use Rattle.meaning.specs.Records.{Lent}
-use Rattle.meaning.specs.declared.Call.{Call}
-use Rattle.meaning.specs.declared.Call.the-variants.{SetUp, Insert, Find, Finish, Take, Sweep, Record, Write, Read}
+use Rattle.calls.specs.Records.{Lent}
+use Rattle.calls.specs.declared.Call.{Call}
+use Rattle.calls.specs.declared.Call.the-variants.{SetUp, Insert, Find, Finish, Take, Sweep, Record, Write, Read}
 use Rattle.report.specs.Report.{decimal, answerText, checksumOf, checksumText, fieldBytes, answerBytes}
 use Rattle.trace.specs.Trace.{mostWords, mostHeld, Holds, alteredBy}
 use Rattle.trace.specs.Calling.{replyOf, afterCall}

@@ -2,12 +2,12 @@
 ghost use mathlib.Core.Path.{_≡_};
 ghost use Prim.Native.Nat.{_+_, _*_, _≤_};
 ghost use lib.ListN.{length};
-ghost use Rattle.meaning.specs.Records.{lentOf};
+ghost use Rattle.calls.specs.Records.{lentOf};
 ghost use Rattle.report.specs.Report.{fieldBytes, answerBytes, Put};
 ghost use Rattle.trace.specs.Trace.{Fits};
 ghost use Rattle.replay.specs.Kept.{Room, heldIn};
 ghost use Rattle.replay.specs.Printed.{headText, lentText, onBytes, tells, tailText, lineBytes, LineAnswered, ReadAs, TextOf};
-use meaning::Call;
+use calls::Call;
 use text::feed::Told;
 use trace::Kind;
 use trace::call::Reply;

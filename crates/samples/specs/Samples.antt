@@ -8,9 +8,9 @@ use Rattle.settings.specs.Numbers.{lengthOf}
 use Rattle.lists.specs.Lists.{those}
 use Rattle.meaning.specs.Reading.{read, isList}
 use Rattle.meaning.specs.Operations.{setUpOut}
-use Rattle.meaning.specs.Calls.{alone, afterCalls}
-use Rattle.meaning.specs.declared.Call.the-variants.{Insert, Finish, Take, Sweep}
-use Rattle.meaning.specs.declared.Call.{Call}
+use Rattle.calls.specs.Calls.{alone, afterCalls}
+use Rattle.calls.specs.declared.Call.the-variants.{Insert, Finish, Take, Sweep}
+use Rattle.calls.specs.declared.Call.{Call}
 
 -- a fresh list with D, K and C
 abbrev pub freshWith : ℕ → ℕ → ℕ → List ℕ

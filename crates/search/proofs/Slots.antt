@@ -16,14 +16,15 @@ use Rattle.lists.proofs.All.{All, all-left, all-right, all-of-map, all-splits}
 use Rattle.meaning.specs.Row.{Node, headNode, Place, places, placeOf, nodeAt}
 use Rattle.meaning.specs.State.{State}
 use Rattle.meaning.specs.Operations.{looked, Slot, slotFor}
-use Rattle.meaning.proofs.Keys.{shared-less}
-use Rattle.meaning.proofs.State.{Sound}
-use Rattle.meaning.proofs.Places.{lastFrom}
-use Rattle.meaning.proofs.Parent.{dimensionAfter, Apart, all-last, apart-before, place-at, first-among, parent-is}
-use Rattle.meaning.proofs.Slot as slot
-use Rattle.meaning.proofs.KeepsInsert.{node-split, slot-first}
-use Rattle.meaning.proofs.Placed.{Placed, occurs-placed, placed-below}
-use Rattle.meaning.proofs.BookRow.{node-key, node-has}
+use Rattle.meaning.proofs.Rows.Keys.{shared-less}
+use Rattle.meaning.proofs.Pictures.State.{Sound}
+use Rattle.meaning.proofs.Rows.Places.{lastFrom}
+use Rattle.meaning.proofs.Rows.Parent.{dimensionAfter, Apart, all-last, apart-before, place-at, first-among, parent-is}
+use Rattle.meaning.proofs.Kept.Slot as slot
+use Rattle.meaning.proofs.Rows.Nodes.{node-split}
+use Rattle.meaning.proofs.Kept.KeepsInsert.{slot-first}
+use Rattle.meaning.proofs.Cells.Placed.{Placed, occurs-placed, placed-below}
+use Rattle.meaning.proofs.Rows.Nodes.{node-key, node-has}
 use Rattle.search.specs.Found.{slotNumber, slotParent, slotShared, slotCell, foundAt, foundOf}
 use Rattle.search.specs.declared.Found.{Found}
 use Rattle.search.proofs.Sides.{Sides, sides-absent, sides-present, last-below, SlotAt, slot-at}

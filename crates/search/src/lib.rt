@@ -4,7 +4,7 @@
 ghost use mathlib.Core.Path.{_≡_};
 ghost use Prim.Native.Nat.{suc, _≤_, _<_};
 ghost use Rattle.meaning.specs.Lower.{lowerFrom};
-ghost use Rattle.meaning.specs.Layer.Resting.{rest};
+ghost use Rattle.meaning.specs.Resting.{rest};
 ghost use Rattle.meaning.specs.Layer.Listed.{Listed};
 ghost use Rattle.words.specs.Sought.{Sought};
 ghost use Rattle.search.specs.Found.{Searched, SoughtSome};

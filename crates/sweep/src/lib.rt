@@ -2,13 +2,13 @@
 // head and it freed.
 ghost use mathlib.Core.Path.{_≡_};
 ghost use Prim.Native.Nat.{_-_};
-ghost use Rattle.meaning.specs.Refusals.{Meets};
+ghost use Rattle.answers.specs.Refusals.{Meets};
 ghost use Rattle.meaning.specs.Operations.{sweepOut};
 ghost use Rattle.meaning.specs.Layer.SweepStores.{finishAll};
 ghost use Rattle.meaning.specs.Layer.Listed.{Listed};
 ghost use Rattle.free_between.specs.Between.{SweptTo, Paid};
 use free_between::Target;
-use meaning::Answer;
+use answers::Answer;
 use settings::Settings;
 
 // All that is owed is finished.
@@ -61,8 +61,8 @@ pub fn sweep(list: &mut [u32], s: Settings) -> Answer
     finish_all(list, s);
     let t = seek_target(list, s);
     if t.cell == 0 {
-        return meaning::accepted(0, 0, 0);
+        return answers::accepted(0, 0, 0);
     }
     let count = free_between::drop_front(list, s, t);
-    meaning::accepted(0, 0, count)
+    answers::accepted(0, 0, count)
 }

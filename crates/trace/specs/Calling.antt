@@ -1,8 +1,8 @@
 -- The call that a line of a trace makes on what is held, and what it is answered.
 use mathlib.Core.Path.{_≡_}
-use Rattle.meaning.specs.Refusals.{lineNotReadable, answerOf}
-use Rattle.meaning.specs.Records.{Lent}
-use Rattle.meaning.specs.Calls.{outcome}
+use Rattle.answers.specs.Refusals.{lineNotReadable, answerOf}
+use Rattle.calls.specs.Records.{Lent}
+use Rattle.calls.specs.Calls.{outcome}
 use Rattle.trace.specs.declared.Kind.{Kind}
 use Rattle.trace.specs.declared.Kind.the-variants.{Fresh, Make, Put, Length, Bytes, Add, PutByte, Last, Unreadable}
 use Rattle.trace.specs.declared.call.Reply.{Reply}

@@ -6,7 +6,7 @@ use mathlib.Core.Path.{_≡_}
 use Prim.Native.Nat.{ℕ, _+_, _*_, _-_, _%_, _≤_}
 use lib.Dec.{leb, ltb}
 use lib.ListN.{length, take, drop, set, replicate}
-use Rattle.meaning.specs.Records.{Lent, lentOf}
+use Rattle.calls.specs.Records.{Lent, lentOf}
 use Rattle.trace.specs.declared.Kind.{Kind}
 use Rattle.trace.specs.declared.Kind.the-variants.{Fresh, Make, Put, Length, Bytes, Add, PutByte, Last, Unreadable}
 

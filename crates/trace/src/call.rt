@@ -1,8 +1,8 @@
 // The call that a line makes.
-ghost use Rattle.meaning.specs.Records.{lentOf};
+ghost use Rattle.calls.specs.Records.{lentOf};
 ghost use Rattle.trace.specs.Calling.{Called};
 use super::Kind;
-use meaning::Answer;
+use answers::Answer;
 
 // What a line is answered: four numbers, or none where it makes no call.
 pub enum Reply {
@@ -23,6 +23,6 @@ pub fn call(list: &mut [u32], bytes: &mut [u8], last: &mut u64, kind: Kind) -> R
         Kind::Add => return Reply::NoCall,
         Kind::PutByte(_, _) => return Reply::NoCall,
         Kind::Last(_) => return Reply::NoCall,
-        Kind::Unreadable => return Reply::Four(meaning::refused(meaning::LINE_NOT_READABLE)),
+        Kind::Unreadable => return Reply::Four(answers::refused(answers::LINE_NOT_READABLE)),
     }
 }

@@ -3,7 +3,7 @@
 ghost use Prim.Native.Nat.{_≤_};
 ghost use lib.ListN.{length};
 ghost use Rattle.trace.specs.Trace.{Fits};
-use meaning::Call;
+use calls::Call;
 use text::fields::Numeral;
 
 pub mod buffer; // buffer.rt: what a line does to the words

@@ -19,10 +19,10 @@ use Rattle.meaning.specs.State.{State, positionKey}
 use Rattle.meaning.specs.Picture.{firstWith, picture, pathWord}
 use Rattle.meaning.specs.Reading.{settingsAt, isList}
 use Rattle.meaning.specs.Words.{keyAt, markAt, dimensionsAt, largestAt, cellsAt, baseAt, positionAt, firstFreeAt}
-use Rattle.meaning.proofs.AscendingRow.{Asc}
-use Rattle.meaning.proofs.State.{Sound, cellsIn}
-use Rattle.meaning.proofs.ReadBack.{picture-is-list}
-use Rattle.meaning.proofs.Placed.{held-picture}
+use Rattle.meaning.proofs.Rows.AscendingRow.{Asc}
+use Rattle.meaning.proofs.Pictures.State.{Sound, cellsIn}
+use Rattle.meaning.proofs.Pictures.ReadBack.{picture-is-list}
+use Rattle.meaning.proofs.Cells.Placed.{held-picture}
 use Rattle.tree.specs.Tree.{headRight, headerRight, atHead, chainRight, seenAll, accepts}
 use Rattle.tree.proofs.AcceptedTests.{Header, header-right, Head, head-right}
 use Rattle.tree.proofs.AcceptedRun.{Run, head-run}

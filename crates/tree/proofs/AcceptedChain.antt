@@ -13,8 +13,8 @@ use Rattle.lists.proofs.Occurrences.{Distinct}
 use Rattle.lists.proofs.All.{All, all-map, all-zip}
 use Rattle.meaning.specs.Picture.{nextFree}
 use Rattle.meaning.specs.Words.{wordAt, markAt}
-use Rattle.meaning.proofs.ReadBack.{Follow, distinct-follow}
-use Rattle.meaning.proofs.Placed.{FreeHeld}
+use Rattle.meaning.proofs.Pictures.ReadBack.{Follow, distinct-follow}
+use Rattle.meaning.proofs.Cells.Placed.{FreeHeld}
 use Rattle.tree.specs.Tree.{freeRight, chainRight}
 use Rattle.tree.proofs.AcceptedTests.{Head, FreeTested, free-right}
 

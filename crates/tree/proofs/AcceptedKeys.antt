@@ -9,11 +9,11 @@ use Rattle.lists.proofs.All.{All}
 use Rattle.meaning.specs.Keys.{shared}
 use Rattle.meaning.specs.Row.{Node, firstSharing}
 use Rattle.meaning.specs.Words.{keyAt, dimensionsAt, baseAt}
-use Rattle.meaning.proofs.AscendingRow.{Asc}
-use Rattle.meaning.proofs.Keys.{shared-same, ultra}
-use Rattle.meaning.proofs.Blocks.{shared-by-blocks}
-use Rattle.meaning.proofs.Parent.{sharing-skips, sharing-hits, sharing-above}
-use Rattle.meaning.proofs.ConverseRow.{nodeIn}
+use Rattle.meaning.proofs.Rows.AscendingRow.{Asc}
+use Rattle.meaning.proofs.Rows.Keys.{shared-same, ultra}
+use Rattle.meaning.proofs.Rows.Blocks.{shared-by-blocks}
+use Rattle.meaning.proofs.Rows.Parent.{sharing-skips, sharing-hits, sharing-above}
+use Rattle.meaning.proofs.BothWays.ConverseRow.{nodeIn}
 use Rattle.tree.specs.declared.Seen.{Seen}
 use Rattle.tree.proofs.AcceptedTests.{Header}
 use Rattle.tree.proofs.AcceptedRun.{Met, next, next-past, next-here, next-none, seen, Trace}

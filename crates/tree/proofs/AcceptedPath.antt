@@ -20,10 +20,10 @@ use Rattle.meaning.specs.Row.{headNode}
 use Rattle.meaning.specs.State.{keyOf}
 use Rattle.meaning.specs.Picture.{firstWith}
 use Rattle.meaning.specs.Words.{keyAt, valueAt, markAt, dimensionsAt, largestAt, baseAt, positionAt}
-use Rattle.meaning.proofs.AscendingRow.{asc-above}
-use Rattle.meaning.proofs.Keys.{shared-same, ultra}
-use Rattle.meaning.proofs.Places.{keyOf-has}
-use Rattle.meaning.proofs.ConverseRow.{nodeIn}
+use Rattle.meaning.proofs.Rows.AscendingRow.{asc-above}
+use Rattle.meaning.proofs.Rows.Keys.{shared-same, ultra}
+use Rattle.meaning.proofs.Rows.Places.{keyOf-has}
+use Rattle.meaning.proofs.BothWays.ConverseRow.{nodeIn}
 use Rattle.tree.specs.declared.Seen.{Seen}
 use Rattle.tree.specs.Tree.{pathRun, agreedAt, atHead}
 use Rattle.tree.proofs.AcceptedTests.{either, Head}

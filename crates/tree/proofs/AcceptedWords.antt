@@ -16,9 +16,9 @@ use Rattle.meaning.specs.Row.{headNode, firstSharing, Place, headPlace, placesA
 use Rattle.meaning.specs.Picture.{mark}
 use Rattle.meaning.specs.Words.{keyAt, valueAt, markAt, owedAt, lowAt, highAt, linkAt, dimensionsAt, baseAt}
 use Rattle.meaning.specs.Walk.{linkRead}
-use Rattle.meaning.proofs.State.{Debt}
-use Rattle.meaning.proofs.WalkRead.{Held, link-tested, read-own, read-owed, read-unowing, between-facts}
-use Rattle.meaning.proofs.ConverseRow.{nodeIn}
+use Rattle.meaning.proofs.Pictures.State.{Debt}
+use Rattle.meaning.proofs.Cells.WalkRead.{Held, link-tested, read-own, read-owed, read-unowing, between-facts}
+use Rattle.meaning.proofs.BothWays.ConverseRow.{nodeIn}
 use Rattle.tree.specs.declared.Seen.{Seen}
 use Rattle.tree.specs.Tree.{dueTo, atHead}
 use Rattle.tree.proofs.AcceptedTests.{DebtTested, Right, Header, Head}

@@ -21,14 +21,14 @@ use Rattle.meaning.specs.State.{State, positionKey}
 use Rattle.meaning.specs.Picture.{picture}
 use Rattle.meaning.specs.Reading.{read, isList}
 use Rattle.meaning.specs.Words.{wordAt, keyAt, valueAt, markAt, owedAt, lowAt, highAt, dimensionsAt, cellsAt, baseAt, positionAt}
-use Rattle.meaning.proofs.AscendingRow.{Asc, asc-weaken}
-use Rattle.meaning.proofs.Keys.{shared-same}
-use Rattle.meaning.proofs.State.{Sound, base-positive, base-above, base-of}
-use Rattle.meaning.proofs.StateCells.{free-distinct, free-range, free-length}
-use Rattle.meaning.proofs.Picture.{picture-length, picture-free, free-found}
-use Rattle.meaning.proofs.ReadBack.{Follow, distinct-follow, list-is-picture, list-sound}
-use Rattle.meaning.proofs.WalkRead.{places-read}
-use Rattle.meaning.proofs.Placed.{free-cell-first, free-cell-rest}
+use Rattle.meaning.proofs.Rows.AscendingRow.{Asc, asc-weaken}
+use Rattle.meaning.proofs.Rows.Keys.{shared-same}
+use Rattle.meaning.proofs.Pictures.State.{Sound, base-positive, base-above, base-of}
+use Rattle.meaning.proofs.Pictures.StateCells.{free-distinct, free-range, free-length}
+use Rattle.meaning.proofs.Pictures.Picture.{picture-length, picture-free, free-found}
+use Rattle.meaning.proofs.Pictures.ReadBack.{Follow, distinct-follow, list-is-picture, list-sound}
+use Rattle.meaning.proofs.Cells.WalkRead.{places-read}
+use Rattle.meaning.proofs.Cells.Placed.{free-cell-first, free-cell-rest}
 use Rattle.tree.specs.Tree.{pathRun, children, headRight, atHead, freeRight, chainRight, headerRight, seenAll, accepts}
 use Rattle.tree.proofs.CompleteOrder.{lastBelow, agreedWith, agreed-up-to, seenAt, LinksRead, Entered, Ready, below-keeps, last-any}
 use Rattle.tree.proofs.CompleteOrder.{children-read}

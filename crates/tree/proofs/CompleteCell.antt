@@ -16,12 +16,12 @@ use Rattle.meaning.specs.Keys.{blockStart, shared}
 use Rattle.meaning.specs.Row.{Node, firstOf, firstSharing, Place, settledLink, between, link}
 use Rattle.meaning.specs.Picture.{mark}
 use Rattle.meaning.specs.Words.{keyAt, valueAt, markAt, owedAt, lowAt, highAt, linkAt, dimensionsAt, largestAt, cellsAt, baseAt, positionAt}
-use Rattle.meaning.proofs.AscendingRow.{Asc}
-use Rattle.meaning.proofs.Keys.{shared-same, shared-le, shared-less}
-use Rattle.meaning.proofs.Blocks.{shared-by-blocks}
-use Rattle.meaning.proofs.State.{Debt}
-use Rattle.meaning.proofs.WalkRead.{Held, between-is, between-not, linkOwing, link-tested}
-use Rattle.meaning.proofs.Parent.{sharing-hits, sharing-above}
+use Rattle.meaning.proofs.Rows.AscendingRow.{Asc}
+use Rattle.meaning.proofs.Rows.Keys.{shared-same, shared-le, shared-less}
+use Rattle.meaning.proofs.Rows.Blocks.{shared-by-blocks}
+use Rattle.meaning.proofs.Pictures.State.{Debt}
+use Rattle.meaning.proofs.Cells.WalkRead.{Held, between-is, between-not, linkOwing, link-tested}
+use Rattle.meaning.proofs.Rows.Parent.{sharing-hits, sharing-above}
 use Rattle.tree.specs.Tree.{allFrom, follows, nodeRight, dueTo, linksBelow, debtRight, agreedAt, agreedAfter, pathRight, cellRight, entered}
 use Rattle.tree.proofs.CompleteOrder.{placeAfter, agreedWith, agreed-up-to, seenAt, seenBefore}
 use Rattle.tree.proofs.CompletePath.{PlaceOnPath, agreed-is, position-here, position-apart}

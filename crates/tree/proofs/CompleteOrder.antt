@@ -14,10 +14,10 @@ use Rattle.meaning.specs.Keys.{shared}
 use Rattle.meaning.specs.Row.{Node, Place, placesAfter, firstSharing, settledLink}
 use Rattle.meaning.specs.Walk.{linkRead}
 use Rattle.meaning.specs.Words.{dimensionsAt}
-use Rattle.meaning.proofs.AscendingRow.{Asc, asc-above}
-use Rattle.meaning.proofs.Keys.{shared-same, shared-less, ultra}
-use Rattle.meaning.proofs.WalkRead.{settled-above}
-use Rattle.meaning.proofs.Parent.{sharing-skips, sharing-hits, sharing-above}
+use Rattle.meaning.proofs.Rows.AscendingRow.{Asc, asc-above}
+use Rattle.meaning.proofs.Rows.Keys.{shared-same, shared-less, ultra}
+use Rattle.meaning.proofs.Cells.WalkRead.{settled-above}
+use Rattle.meaning.proofs.Rows.Parent.{sharing-skips, sharing-hits, sharing-above}
 use Rattle.tree.specs.declared.Seen.{Seen}
 use Rattle.tree.specs.Tree.{entered, along, children}
 

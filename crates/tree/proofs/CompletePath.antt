@@ -18,10 +18,10 @@ use Rattle.meaning.specs.Keys.{shared}
 use Rattle.meaning.specs.Row.{Node, headNode, Place, headPlace, placesAfter, places}
 use Rattle.meaning.specs.Picture.{firstWith}
 use Rattle.meaning.specs.Words.{dimensionsAt, positionAt}
-use Rattle.meaning.proofs.AscendingRow.{Asc}
-use Rattle.meaning.proofs.Keys.{shared-same, shared-sym, shared-le, shared-less, ultra, triangle}
-use Rattle.meaning.proofs.Parent.{first-skips, first-hits}
-use Rattle.meaning.proofs.Path.{first-alike}
+use Rattle.meaning.proofs.Rows.AscendingRow.{Asc}
+use Rattle.meaning.proofs.Rows.Keys.{shared-same, shared-sym, shared-le, shared-less, ultra, triangle}
+use Rattle.meaning.proofs.Rows.Parent.{first-skips, first-hits}
+use Rattle.meaning.proofs.Paths.Path.{first-alike}
 use Rattle.tree.specs.Tree.{pathRun, agreedAt}
 
 -- a key that a node has

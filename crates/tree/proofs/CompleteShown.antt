@@ -12,13 +12,13 @@ use Rattle.lists.proofs.All.{All}
 use Rattle.meaning.specs.Row.{Node, headNode, Place, places}
 use Rattle.meaning.specs.State.{State, positionKey, keyOf}
 use Rattle.meaning.specs.Picture.{picture}
-use Rattle.meaning.proofs.AscendingRow.{Asc}
-use Rattle.meaning.proofs.State.{Debt, Sound, base-positive, base-above}
-use Rattle.meaning.proofs.StateCells.{cells-distinct, row-range}
-use Rattle.meaning.proofs.Picture.{picture-path, places-later}
-use Rattle.meaning.proofs.Places.{keyOf-same, keyOf-other}
-use Rattle.meaning.proofs.WalkRead.{Held, all-places, places-held}
-use Rattle.meaning.proofs.SentencesRow.{places-ascend}
+use Rattle.meaning.proofs.Rows.AscendingRow.{Asc}
+use Rattle.meaning.proofs.Pictures.State.{Debt, Sound, base-positive, base-above}
+use Rattle.meaning.proofs.Pictures.StateCells.{cells-distinct, row-range}
+use Rattle.meaning.proofs.Pictures.Picture.{picture-path, places-later}
+use Rattle.meaning.proofs.Rows.Places.{keyOf-same, keyOf-other}
+use Rattle.meaning.proofs.Cells.WalkRead.{Held, all-places, places-held}
+use Rattle.meaning.proofs.BothWays.SentencesRow.{places-ascend}
 use Rattle.tree.proofs.CompletePath.{Stands, PlaceOnPath, places-on-path}
 use Rattle.tree.proofs.CompleteCell.{Shown}
 

@@ -12,7 +12,7 @@ use Rattle.lists.proofs.Tests.{both}
 use Rattle.meaning.specs.Row.{between}
 use Rattle.meaning.specs.Words.{owedAt, lowAt, highAt, linkAt, dimensionsAt, cellsAt}
 use Rattle.meaning.specs.Walk.{linkRead}
-use Rattle.meaning.proofs.WalkRead.{between-is, between-below, read-unowing, read-above, read-through}
+use Rattle.meaning.proofs.Cells.WalkRead.{between-is, between-below, read-unowing, read-above, read-through}
 use Rattle.tree.specs.declared.Seen.{Seen}
 use Rattle.tree.specs.Tree.{allFrom, follows, nodeRight, dueTo, linksBelow, debtRight, pathRight, cellRight, wrong, entered}
 use Rattle.tree.specs.Pending.{Link, put, putFrom, putLinks, followed, followedAll}

@@ -23,7 +23,7 @@ use Rattle.meaning.specs.Words.{wordIndex, wordAt, keyAt, dimensionsAt, largest
 use Rattle.meaning.specs.Walk.{linkRead, stepAlong, stepAt}
 use Rattle.meaning.specs.Layer.Stores.{store}
 use Rattle.meaning.specs.declared.Step.the-variants.{Go, Up, End}
-use Rattle.meaning.proofs.Blocks.{block-before, block-inside, block-past}
+use Rattle.meaning.proofs.Rows.Blocks.{block-before, block-inside, block-past}
 use Rattle.words.specs.Shaped.{Shaped, Within}
 use Rattle.words.specs.Sought.{Sought, Met}
 

@@ -11,8 +11,8 @@ use lib.ListN.{getD}
 use Rattle.settings.specs.Levels.{PowersOf}
 use Rattle.settings.specs.declared.Settings.{Settings}
 use Rattle.meaning.specs.Keys.{shared, blockStart}
-use Rattle.meaning.proofs.Keys.{shared-less}
-use Rattle.meaning.proofs.Blocks.{shared-block}
+use Rattle.meaning.proofs.Rows.Keys.{shared-less}
+use Rattle.meaning.proofs.Rows.Blocks.{shared-block}
 
 module _ {s : Settings} {powers : List ℕ} (p : PowersOf s powers) {x y : ℕ} (less : x < y) (fits : y < s .base ^ s .dimensions) where
   -- different keys do not share all coordinates

@@ -13,7 +13,7 @@ use Rattle.meaning.specs.Walk.{linkRead, stepAt, onFrom, trailFrom, trail, ends
 use Rattle.meaning.specs.declared.Step.{Step}
 use Rattle.meaning.specs.declared.Step.the-variants.{Go, Up, End}
 use Rattle.meaning.specs.Layer.Near.{Near, NearAlong}
-use Rattle.meaning.proofs.WalkSteps.{trail-step, Tells, step-tells}
+use Rattle.meaning.proofs.Walks.WalkSteps.{trail-step, Tells, step-tells}
 use Rattle.words.specs.Shaped.{Shaped}
 use Rattle.words.specs.Sought.{Met}
 use Rattle.words.proofs.Shaped.{shaped-dimensions}

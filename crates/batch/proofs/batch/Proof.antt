@@ -5,9 +5,9 @@ use Prim.Native.Nat.{_*_, _-_, _/_, _≤_}
 use native.Mathlib.Omega.{arith}
 use lib.ListN.{length, drop}
 use borrow.Author.Needs.{needs}
-use Rattle.meaning.specs.Batch.{callsIn, batchLent}
+use Rattle.calls.specs.Batch.{callsIn, batchLent}
 use Rattle.meaning.specs.Layer.Listed.{Listed}
-use Rattle.meaning.specs.declared.Call.{Call}
+use Rattle.calls.specs.declared.Call.{Call}
 use Rattle.batch.proofs.Calls.{calls-more, calls-end, calls-length, fits-room}
 use Rattle.batch.proofs.Batching.{ToDo, all-to-do, one-done, nothing-to-do, done-answer}
 use Rattle.batch.proofs.batch.Statement.{statement}

@@ -2,7 +2,7 @@
 use mathlib.Core.List.{[]}
 use native.Mathlib.Omega.{arith}
 use borrow.Author.Needs.{needs}
-use Rattle.meaning.specs.Records.{lentOf}
+use Rattle.calls.specs.Records.{lentOf}
 use Rattle.logger_step.proofs.Printed.{told-within, no-record-answered, record-answered}
 use Rattle.logger_step.proofs.note_text.Statement.{statement}
 use Rattle.logger_step.proofs.note_text.Tie as tie

@@ -1,7 +1,7 @@
 -- `mdlist::make` meets its contract: each call is that of its operation.
 use borrow.Author.Needs.{needs}
-use Rattle.meaning.specs.Records.{lentOf}
-use Rattle.meaning.specs.Calls.{outcome}
+use Rattle.calls.specs.Records.{lentOf}
+use Rattle.calls.specs.Calls.{outcome}
 use Rattle.mdlist.proofs.Exported.{words-meets, file-meets}
 use Rattle.mdlist.proofs.make.Statement.{statement}
 use Rattle.mdlist.proofs.make.Tie as tie

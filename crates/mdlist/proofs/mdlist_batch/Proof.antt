@@ -1,7 +1,7 @@
 -- `mdlist_batch` meets its contract: what is no list, and what are no calls that fit, is refused; else the calls are handed to `batch`.
 use mathlib.Core.Path.{_∙_, sym}
 use borrow.Author.Needs.{needs}
-use Rattle.meaning.specs.Batch.{batchLent}
+use Rattle.calls.specs.Batch.{batchLent}
 use Rattle.is_list.proofs.Answered.{reading-listed}
 use Rattle.mdlist.proofs.Exported.{no-list-batch, bad-batch, batch-done}
 use Rattle.mdlist.proofs.mdlist_batch.Statement.{statement}

@@ -1,8 +1,8 @@
 -- `mdlist_write` meets its contract: what is no list is refused, and a list is handed to `write_file` with its settings.
 use mathlib.Core.Path.{_∙_, sym}
 use borrow.Author.Needs.{needs}
-use Rattle.meaning.specs.Saved.{fileLent}
-use Rattle.meaning.proofs.Saved.{write-outcome-not-a-list}
+use Rattle.calls.specs.Saved.{fileLent}
+use Rattle.calls.proofs.Restarted.Saved.{write-outcome-not-a-list}
 use Rattle.is_list.proofs.Answered.{reading-listed, reading-none}
 use Rattle.mdlist.proofs.Exported.{refused-meets}
 use Rattle.mdlist.proofs.mdlist_write.Statement.{statement}

@@ -1,9 +1,9 @@
 -- `trace::call::call` meets its contract: the call that a line makes is read off by its kind.
 use mathlib.Core.Path.{_≡_, refl, ap, _∙_}
 use borrow.Author.Needs.{needs}
-use Rattle.meaning.specs.Refusals.{Outcome, Meets}
-use Rattle.meaning.specs.Records.{Lent}
-use Rattle.meaning.specs.declared.Answer.{Answer}
+use Rattle.answers.specs.Refusals.{Outcome, Meets}
+use Rattle.calls.specs.Records.{Lent}
+use Rattle.answers.specs.declared.Answer.{Answer}
 use Rattle.trace.specs.Calling.{replyOf, afterCall, Called}
 use Rattle.trace.specs.declared.Kind.{Kind}
 use Rattle.trace.specs.declared.call.Reply.the-variants.{Four}
