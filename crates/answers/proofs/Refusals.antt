@@ -20,4 +20,3 @@ table noRoom = (λ e. omega arith, λ e. omega arith)
 table badRecord = (λ e. omega arith, λ e. omega arith)
 table numberOutside = (λ e. omega arith, λ e. omega arith)
 table badBatch = (λ e. omega arith, λ e. omega arith)
-

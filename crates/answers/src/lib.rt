@@ -1,4 +1,4 @@
-// What every call answers: four numbers, the first of which is 0 or a refusal of the table.
+// What every call answers: four numbers, the first of which is 0 or a refusal of the table. And the five operations on a list that has been set up.
 ghost use mathlib.Core.Path.{_≡_};
 ghost use Rattle.answers.specs.Refusals.{answer};
 
@@ -9,6 +9,18 @@ pub struct Answer {
     pub key: u32,
     pub value: u32,
     pub count: u32,
+}
+
+// The five operations on a list that has been set up, with their numbers.
+pub enum Operation {
+    // key, value
+    Insert(u32, u32),
+    // key
+    Find(u32),
+    // key
+    Finish(u32),
+    Take,
+    Sweep,
 }
 
 // Refusals: their numbers. A definition of the same name says each one's answers (specs/Refusals.antt).

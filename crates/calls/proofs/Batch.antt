@@ -11,48 +11,48 @@ use borrow.Author.Tests.{leb-true}
 use Rattle.lists.proofs.Tests.{cond-has}
 use Rattle.answers.specs.Refusals.{Outcome, badBatch, refused}
 use Rattle.meaning.specs.Reading.{readingOf}
-use Rattle.calls.specs.Calls.{alone, madeOn, afterCalls}
+use Rattle.calls.specs.Calls.{operated, madeOn, afterCalls}
 use Rattle.calls.specs.Batch.{BatchLent, areCalls, callsIn, answerWords, answersTo, fits, putFirst, batchDone, batchOn, batchOut}
 use Rattle.calls.specs.Promises.{BatchIs, BatchIsCalls, RefusedBatchAltersNothing, BatchRefusals}
-use Rattle.calls.specs.declared.Call.{Call}
+use Rattle.answers.specs.declared.Operation.{Operation}
 use Rattle.meaning.specs.declared.Reading.{Reading}
 use Rattle.meaning.specs.declared.Reading.the-variants.{IsList, NotAList}
 
-pub answers-length : (calls : List Call) (ws : List ℕ) → length (answersTo calls ws) ≡ 4 * length calls
+pub answers-length : (calls : List Operation) (ws : List ℕ) → length (answersTo calls ws) ≡ 4 * length calls
 unfolding answersTo
 answers-length [] ws = refl
 answers-length (call ∷ calls) ws =
-    let o = madeOn (alone call) ws in
+    let o = madeOn (operated call) ws in
     omega (arith, length-append (answerWords (o .answered)) (answersTo calls (o .left .words)), answers-length calls (o .left .words))
 
 -- the answer of a call behind others
 answer-at :
-    (front : List Call) (call : Call) (later : List Call) (ws rest : List ℕ) →
+    (front : List Operation) (call : Operation) (later : List Operation) (ws rest : List ℕ) →
     take 4 (drop (4 * length front) (answersTo (front ++ (call ∷ later)) ws ++ rest)) ≡
-    answerWords (madeOn (alone call) (afterCalls (map alone front) ws) .answered)
+    answerWords (madeOn (operated call) (afterCalls (map operated front) ws) .answered)
 unfolding answersTo afterCalls
 answer-at [] call later ws rest = refl
 answer-at (first ∷ front) call later ws rest =
-    let o = madeOn (alone first) ws in
+    let o = madeOn (operated first) ws in
     let four : 4 * suc (length front) ≡ suc (suc (suc (suc (4 * length front)))) = omega arith in
     rw four (answer-at front call later (o .left .words) rest)
 
-past-answers : (calls : List Call) (lent : BatchLent) → 4 * length calls ≤ length (lent .answers) →
+past-answers : (calls : List Operation) (lent : BatchLent) → 4 * length calls ≤ length (lent .answers) →
     drop (4 * length calls) (putFirst (answersTo calls (lent .words)) (lent .answers)) ≡ drop (4 * length calls) (lent .answers)
 past-answers calls lent room =
     let long = answers-length calls (lent .words) in
     drop-at (answersTo calls (lent .words)) (drop (length (answersTo calls (lent .words))) (lent .answers)) (4 * length calls) long ∙
     ap (λ n. drop n (lent .answers)) long
 
-done-is : (calls : List Call) (lent : BatchLent) → 4 * length calls ≤ length (lent .answers) → BatchIs calls lent (batchDone calls lent .left)
+done-is : (calls : List Operation) (lent : BatchLent) → 4 * length calls ≤ length (lent .answers) → BatchIs calls lent (batchDone calls lent .left)
 unfolding batchDone
 done-is calls lent room =
     record {
       words = refl;
       answers = λ front call later is.
           subst
-          (λ (cs : List Call). take 4 (drop (4 * length front) (putFirst (answersTo cs (lent .words)) (lent .answers))) ≡
-          answerWords (madeOn (alone call) (afterCalls (map alone front) (lent .words)) .answered)) (sym is)
+          (λ (cs : List Operation). take 4 (drop (4 * length front) (putFirst (answersTo cs (lent .words)) (lent .answers))) ≡
+          answerWords (madeOn (operated call) (afterCalls (map operated front) (lent .words)) .answered)) (sym is)
           (answer-at front call later (lent .words) _);
       kept = past-answers calls lent room;
     }
@@ -69,7 +69,7 @@ fits-room calls answers e = at (areCalls calls) (leb (4 * length (callsIn calls)
     at true false h f = absurd (let z : _≡_ {A = ℕ} 0 1 = cc in omega arith)
     at false t h f = absurd (let z : _≡_ {A = ℕ} 0 1 = cc in omega arith)
 
-done-count : (calls : List Call) (lent : BatchLent) → batchDone calls lent .answered .count ≡ length calls
+done-count : (calls : List Operation) (lent : BatchLent) → batchDone calls lent .answered .count ≡ length calls
 unfolding batchDone
 done-count calls lent = refl
 

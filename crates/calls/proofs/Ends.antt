@@ -9,22 +9,22 @@ use lib.ListN.{length}
 use borrow.Author.Tests.{ne-eqb}
 use Rattle.settings.specs.Numbers.{lengthOf}
 use Rattle.lists.proofs.Tests.{cond-has}
-use Rattle.records.specs.Notes.{noteBy}
+use Rattle.notes.specs.Notes.{noteBy}
 use Rattle.files.specs.Files.{fileOf, contentsOf}
 use Rattle.files.specs.declared.Contents.{Contents}
 use Rattle.files.specs.declared.Contents.the-variants.{IsFile, NotAFile}
 use Rattle.calls.specs.Pairs.{livePairs}
 use Rattle.meaning.specs.Reading.{settingsAt, isList, readingOf}
-use Rattle.answers.specs.Refusals.{Outcome, Refusal, wrongLength, notAList}
-use Rattle.answers.specs.Refusals.{badFile, noRoom, answerOf}
-use Rattle.answers.specs.Refusals.{refused}
-use Rattle.meaning.specs.Operations.{insertOut}
+use Rattle.answers.specs.Refusals.{Outcome, Refusal, wrongLength, notAList, badFile, noRoom, answerOf, refused}
+use Rattle.meaning.specs.Operations.{insertOut, operationOut}
 use Rattle.calls.specs.Records.{Lent, lentOf, Asked, nothing, insertion, noteAsks, recorded, askedOut, noteOn, noteOut, recordOut}
 use Rattle.calls.specs.Saved.{FileLent, fileLent, writeOn, writeOut, readFrom, readOut}
 use Rattle.calls.specs.Calls.{onWords, onFile, outcome}
 use Rattle.calls.specs.Promises.{RefusedAltersNothing}
 use Rattle.calls.specs.declared.Call.{Call}
-use Rattle.calls.specs.declared.Call.the-variants.{SetUp, Insert, Find, Finish, Take, Sweep, Record, Write, Read}
+use Rattle.answers.specs.declared.Operation.{Operation}
+use Rattle.answers.specs.declared.Operation.the-variants.{Insert, Find, Finish, Take, Sweep}
+use Rattle.calls.specs.declared.Call.the-variants.{SetUp, Operate, Record, Write, Read}
 use Rattle.meaning.specs.declared.Reading.{Reading}
 use Rattle.meaning.specs.declared.Reading.the-variants.{IsList, NotAList}
 use Rattle.meaning.proofs.Outcomes.{set-up-has, insert-has, find-has, finish-has, take-has, sweep-has}
@@ -79,14 +79,17 @@ read-ends lent = at (contentsOf (lent .file))
         cond-has (Ends lent) (eqb (length (lent .words)) (lengthOf (s .dimensions) (s .cells))) _ _ (well refl) (turned-away lent wrongLength)
     at NotAFile = turned-away lent badFile
 
+operation-ends : (ws : List ℕ) (operation : Operation) → Ends ws (operationOut operation ws)
+operation-ends ws (Insert key value) = insert-ends ws key value
+operation-ends ws (Find key) = find-has (Ends ws) ws (turned-away ws) key (λ value count. well refl)
+operation-ends ws (Finish key) = finish-has (Ends ws) ws (turned-away ws) key (λ count s. well refl)
+operation-ends ws Take = take-has (Ends ws) ws (turned-away ws) (λ key value count s. well refl)
+operation-ends ws Sweep = sweep-has (Ends ws) ws (turned-away ws) (λ count s. well refl)
+
 ends : (call : Call) (lent : Lent) → Ends lent (outcome call lent)
 unfolding outcome recordOut noteOut
 ends (SetUp D K C) lent = ends-lent lent _ (set-up-has (Ends (lent .words)) (lent .words) (turned-away (lent .words)) D K C (well refl))
-ends (Insert key value) lent = ends-lent lent _ (insert-ends (lent .words) key value)
-ends (Find key) lent = ends-lent lent _ (find-has (Ends (lent .words)) (lent .words) (turned-away (lent .words)) key (λ value count. well refl))
-ends (Finish key) lent = ends-lent lent _ (finish-has (Ends (lent .words)) (lent .words) (turned-away (lent .words)) key (λ count s. well refl))
-ends Take lent = ends-lent lent _ (take-has (Ends (lent .words)) (lent .words) (turned-away (lent .words)) (λ key value count s. well refl))
-ends Sweep lent = ends-lent lent _ (sweep-has (Ends (lent .words)) (lent .words) (turned-away (lent .words)) (λ count s. well refl))
+ends (Operate operation) lent = ends-lent lent _ (operation-ends (lent .words) operation)
 ends Record lent = at (readingOf (lent .words))
   where
     at : (reading : Reading) → Ends lent (noteOn lent (noteBy (lent .bytes)) reading)
@@ -123,4 +126,3 @@ accepted-on-list lent = at (isList (lent .words))
         (t : Bool) → noteOn lent (noteBy (lent .bytes)) (cond t (IsList (settingsAt (lent .words))) NotAList) .answered .refusal ≡ 0 → t ≡ true
     at true z = refl
     at false z = absurd (omega arith)
-

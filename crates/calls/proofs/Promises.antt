@@ -8,8 +8,7 @@ use Rattle.calls.specs.Records.{Lent, askedOut}
 use Rattle.calls.specs.Promises.{ListsStayLists, CallsKeepLists, CallsKeepSettings, RefusedAltersNothing, LookedIsWalk}
 use Rattle.calls.specs.Promises.{TakesInTurn, TakesEnd, CallsAreBooked}
 use Rattle.calls.specs.Promises.{AnswersAreBooked, OneOutcome, RecordIsInsert, LastIsValue, BatchIsCalls, RefusedBatchAltersNothing, BatchRefusals}
-use Rattle.calls.specs.Promises.{OwedCellsStandFromFresh, NineIsRetired}
-use Rattle.calls.specs.Promises.{RunPasses, RunPassesAtMost, RunWithInsertsPasses}
+use Rattle.calls.specs.Promises.{OwedCellsStandFromFresh, NineIsRetired, RunPasses, RunPassesAtMost, RunWithInsertsPasses}
 use Rattle.calls.specs.Promises.{ReadIsCalls, ReadGivesList, ReadIsFresh, WriteThenRead, FileIsWritten}
 use Rattle.answers.proofs.Refusals.{table}
 use Rattle.meaning.proofs.Promises.{lists-count-walks, owed-cells-stand}

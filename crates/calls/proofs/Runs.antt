@@ -1,7 +1,7 @@
 -- What a run of takes costs. A take moves the position up and passes the standing keys on the way; no other call of a run moves it, and none
 -- changes the standing keys, so what is passed from one position to the next adds up. An insert adds to what is ahead; how much one at or below
 -- the position adds follows from the take that would come next, which passes the key alone.
-use mathlib.Core.Path.{_≡_, refl, sym, ap, _∙_, subst, subst₂}
+use mathlib.Core.Path.{_≡_, refl, sym, ap, ap₂, _∙_, subst, subst₂}
 use mathlib.Core.Bool.{Bool, true, false, cond, _&&_, _||_, not, false≢true, true≢false}
 use mathlib.Core.List.{List, [], _∷_, map}
 use mathlib.Core.Option.{none, some}
@@ -11,26 +11,30 @@ use native.Mathlib.Omega.{arith}
 use lib.Dec.{eqb, leb, ltb}
 use lib.ListN.{length}
 use borrow.Author.Tests.{eq-eqb, ne-eqb, lt-ltb, le-ltb, le-leb, lt-leb}
+use Rattle.settings.specs.Numbers.{inRange, lengthOf}
 use Rattle.lists.specs.Lists.{those}
+use Rattle.files.specs.Files.{settingsIn, pairsIn, contentsOf}
 use Rattle.lists.proofs.All.{All, all-at}
 use Rattle.lists.proofs.Tests.{both}
 use Rattle.answers.specs.declared.Answer.{Answer}
 use Rattle.meaning.specs.Row.{Node, headNode, nodeAt, smallerThan}
 use Rattle.meaning.specs.State.{State, keyOf, positionKey}
 use Rattle.meaning.specs.Picture.{picture}
-use Rattle.meaning.specs.Reading.{isList}
+use Rattle.meaning.specs.Reading.{isList, standingKeys}
 use Rattle.answers.specs.Refusals.{Outcome, refused, badKey, keyLive}
 use Rattle.meaning.specs.Operations.{looked, insertOut, finishOut, takeOut, fromLive, keysPassed, taken, revived, revivedNode, slotFor, added}
-use Rattle.meaning.specs.Operations.{paid, finished, withRow, deadFront, deadNode, positionAfter}
+use Rattle.meaning.specs.Operations.{paid, finished, withRow, deadFront, deadNode, positionAfter, setUpOut, operationOut}
 use Rattle.calls.specs.Records.{Lent, Asked, nothing, insertion, askedOut}
-use Rattle.calls.specs.Saved.{fileLent}
-use Rattle.calls.specs.Calls.{outcome, Made, alone, lending, madeOn, afterCalls}
-use Rattle.meaning.specs.Reading.{standingKeys}
-use Rattle.calls.specs.Book.{hasKey, putKey, askedIn}
-use Rattle.calls.specs.Runs.{passedIn, passedSum, onlyOf, ofRun, ofRunWithInserts, positionKeyAt, keysFromTo, keysAhead, insertAdds, askedAdds}
-use Rattle.calls.specs.Runs.{callAdds, addedSum}
+use Rattle.calls.specs.Saved.{FileLent, fileLent, readOut}
+use Rattle.calls.specs.Calls.{outcome, Made, operated, lending, madeOn, afterCalls}
+use Rattle.calls.specs.Effects.{Effect, keeping, inserting, taking, sweeping, renewing, operationEffect, askedEffect, fileEffect, effectOf, askedIn}
+use Rattle.calls.specs.Effects.{effect}
+use Rattle.calls.specs.Book.{hasKey, putKey}
+use Rattle.calls.specs.Runs.{passedIn, passedSum, onlyOf, ofRun, ofRunWithInserts, positionKeyAt, keysFromTo, keysAhead, insertAdds, effectAdds, addedSum}
 use Rattle.calls.specs.Promises.{RunPasses, RunPassesAtMost, RunWithInsertsPasses}
-use Rattle.calls.specs.declared.Call.the-variants.{SetUp, Insert, Find, Finish, Take, Sweep, Record, Write, Read}
+use Rattle.answers.specs.declared.Operation.{Operation}
+use Rattle.answers.specs.declared.Operation.the-variants.{Insert, Find, Finish, Take, Sweep}
+use Rattle.calls.specs.declared.Call.the-variants.{SetUp, Operate, Record, Write, Read}
 use Rattle.calls.specs.declared.Call.{Call}
 use Rattle.meaning.proofs.Pictures.State.{Sound}
 use Rattle.meaning.proofs.Pictures.ReadBack.{read-of-picture}
@@ -38,21 +42,20 @@ use Rattle.meaning.proofs.Rows.Places.{onCell, keyOf-head-changed}
 use Rattle.meaning.proofs.Kept.KeepsState.{live-split, fromLive-live}
 use Rattle.meaning.proofs.Kept.KeepsFinish.{paid-keeping, finished-sound}
 use Rattle.meaning.proofs.Kept.KeepsTake.{dead-keeping, taken-key, taken-sound}
-use Rattle.meaning.proofs.Rows.Nodes.{node-split}
+use Rattle.meaning.proofs.Rows.Nodes.{node-split, isThere, node-key}
 use Rattle.meaning.proofs.Kept.KeepsInsert.{revived-keeping, revived-sound, added-sound, added-key-kept}
 use Rattle.meaning.proofs.Kept.Slot.{gap, slot-is}
 use Rattle.meaning.proofs.BothWays.Sentences.{position-key-is}
 use Rattle.meaning.proofs.Outcomes.{on-lists, key-cases, live-cases, insert-outcome-bad-key, insert-outcome-live, insert-outcome-dead, insert-outcome-new}
 use Rattle.meaning.proofs.Outcomes.{finish-outcome-bad-key, finish-outcome-absent, finish-outcome-standing, take-outcome-none, take-outcome-first}
-use Rattle.meaning.proofs.Outcomes.{find-writes-nothing}
+use Rattle.meaning.proofs.Outcomes.{find-writes-nothing, set-up-outcome-out-of-range, set-up-outcome-wrong-length}
 use Rattle.calls.proofs.Ends.{record-asks, refused-alters-nothing}
 use Rattle.answers.proofs.Refusals.{table}
 use Rattle.calls.proofs.Booked.BookRow.{keysIn, key-stands}
-use Rattle.meaning.proofs.Rows.Nodes.{isThere, node-key}
 use Rattle.calls.proofs.Booked.BookCalls.{finished-keys, revived-keys, added-keys, taken-keys}
 use Rattle.calls.proofs.Booked.Book.{calls-keep-lists}
 use Rattle.meaning.proofs.Promised.Serves.{refused-not, new-accepted}
-use Rattle.calls.proofs.Restarted.Saved.{write-keeps-words}
+use Rattle.calls.proofs.Restarted.Saved.{write-keeps-words, read-accepted}
 use Rattle.meaning.proofs.Promised.FallsBack.{late-inserts}
 
 -- Counting keys
@@ -198,7 +201,7 @@ first-moved s v x later e =
 
 -- what a successful take passes
 abbrev passedBy : Answer → ℕ
-passedBy a = passedIn Take a
+passedBy a = passedIn taking a
 
 take-moved : (ws : List ℕ) → isList ws ≡ true → Moved ws (takeOut ws .left) (passedBy (takeOut ws .answered))
 take-moved = on-lists (λ ws. Moved ws (takeOut ws .left) (passedBy (takeOut ws .answered))) (λ s v. at s v (fromLive (s .row)) refl)
@@ -243,57 +246,106 @@ finish-moved key =
 
 -- Every call of a run
 
--- takes, finds, finishes and writes
-of-run-moved : (call : Call) (lent : Lent) → isList (lent .words) ≡ true → ofRun call ≡ true →
-    Moved (lent .words) (outcome call lent .left .words) (passedIn call (outcome call lent .answered))
-unfolding outcome
-of-run-moved (SetUp D K C) lent list kind = absurd (false≢true kind)
-of-run-moved (Insert key value) lent list kind = absurd (false≢true kind)
-of-run-moved (Find key) lent list kind = moved-nowhere (lent .words) _ 0 (find-writes-nothing (lent .words) key) refl
-of-run-moved (Finish key) lent list kind = finish-moved key (lent .words) list
-of-run-moved Take lent list kind = take-moved (lent .words) list
-of-run-moved Sweep lent list kind = absurd (false≢true kind)
-of-run-moved Record lent list kind = absurd (false≢true kind)
-of-run-moved Write lent list kind = moved-nowhere (lent .words) _ 0 (write-keeps-words (fileLent (lent .words) (lent .bytes))) refl
-of-run-moved Read lent list kind = absurd (false≢true kind)
-
--- a refused call passes nothing
-passed-refused : (call : Call) (a : Answer) → (a .refusal ≡ 0 → ⊥) → passedIn call a ≡ 0
-passed-refused Take a ne = ap (λ t. cond t (a .count) 0) (ne-eqb (a .refusal) 0 ne)
-passed-refused (SetUp D K C) a ne = refl
-passed-refused (Insert key value) a ne = refl
-passed-refused (Find key) a ne = refl
-passed-refused (Finish key) a ne = refl
-passed-refused Sweep a ne = refl
-passed-refused Record a ne = refl
-passed-refused Write a ne = refl
-passed-refused Read a ne = refl
-
-refused-moved : (made : Made) (ws : List ℕ) → (madeOn made ws .answered .refusal ≡ 0 → ⊥) →
-    Moved ws (madeOn made ws .left .words) (passedIn (made .call) (madeOn made ws .answered))
-refused-moved made ws ne =
-    moved-nowhere ws _ _ (ap (λ (l : Lent). l .words) (refused-alters-nothing (made .call) (lending made ws) ne))
-    (passed-refused (made .call) (madeOn made ws .answered) ne)
-
 -- an accepted call is of the kinds that a sequence is restricted to
 kind-accepted : (kind : Bool) (refusal : ℕ) → (kind || not (eqb refusal 0)) ≡ true → refusal ≡ 0 → kind ≡ true
 kind-accepted true refusal ok z = refl
 kind-accepted false refusal ok z = sym (ap not (eq-eqb refusal 0 z)) ∙ ok
 
-call-moved : (made : Made) (ws : List ℕ) → isList ws ≡ true → (ofRun (made .call) || not (eqb (madeOn made ws .answered .refusal) 0)) ≡ true →
-    Moved ws (madeOn made ws .left .words) (passedIn (made .call) (madeOn made ws .answered))
+-- What an accepted call of this effect has done to the words ws, which are now us. Of a sweep and of a list made anew no run needs to know anything.
+abbrev Done : Effect → List ℕ → List ℕ → Answer → Type 0
+Done keeping ws us a = Moved ws us 0
+Done (inserting key value) ws us a = (us ≡ insertOut ws key value .left) × (insertOut ws key value .answered .refusal ≡ 0)
+Done taking ws us a = Moved ws us (passedBy a)
+Done sweeping ws us a = ws ≡ ws
+Done (renewing largest cells pairs) ws us a = ws ≡ ws
+
+operation-done : (operation : Operation) (ws : List ℕ) → isList ws ≡ true → operationOut operation ws .answered .refusal ≡ 0 →
+    Done (operationEffect operation) ws (operationOut operation ws .left) (operationOut operation ws .answered)
+operation-done (Insert key value) ws list z = (refl, z)
+operation-done (Find key) ws list z = moved-nowhere ws _ 0 (find-writes-nothing ws key) refl
+operation-done (Finish key) ws list z = finish-moved key ws list
+operation-done Take ws list z = take-moved ws list
+operation-done Sweep ws list z = refl
+
+asked-done : (lent : Lent) (asked : Asked) → askedOut lent asked .answered .refusal ≡ 0 →
+    Done (askedEffect asked) (lent .words) (askedOut lent asked .left .words) (askedOut lent asked .answered)
+asked-done lent (nothing r) z = absurd (table r .0 z)
+asked-done lent (insertion key number) z = (refl, z)
+
+-- a set up that is accepted makes a list anew, and so does a read
+set-up-accepted : (D K C : ℕ) (ws : List ℕ) → setUpOut D K C ws .answered .refusal ≡ 0 → (inRange D K C && eqb (length ws) (lengthOf D C)) ≡ true
+set-up-accepted D K C ws z = at (inRange D K C) refl (ℕ-discrete (length ws) (lengthOf D C))
+  where
+    at : (t : Bool) → inRange D K C ≡ t → Dec (length ws ≡ lengthOf D C) → (inRange D K C && eqb (length ws) (lengthOf D C)) ≡ true
+    at false e l = absurd (omega (arith, z, ap (λ o. o .answered .refusal) (set-up-outcome-out-of-range D K C ws e)))
+    at true e (no l) = absurd (omega (arith, z, ap (λ o. o .answered .refusal) (set-up-outcome-wrong-length D K C ws e l)))
+    at true e (yes l) = ap₂ _&&_ e (eq-eqb (length ws) (lengthOf D C) l)
+
+read-done : (lent : FileLent) (us : List ℕ) (a : Answer) → readOut lent .answered .refusal ≡ 0 →
+    Done (fileEffect (contentsOf (lent .file)) (pairsIn (lent .file)) (length (lent .words))) (lent .words) us a
+unfolding contentsOf
+read-done lent us a z =
+    let s = settingsIn (lent .file) in
+    let (file, exact) = read-accepted lent z in
+    rw (file, eq-eqb (length (lent .words)) (lengthOf (s .dimensions) (s .cells)) exact) refl
+
+call-done : (made : Made) (ws : List ℕ) → isList ws ≡ true → madeOn made ws .answered .refusal ≡ 0 →
+    Done (effect made (length ws)) ws (madeOn made ws .left .words) (madeOn made ws .answered)
+unfolding outcome
+call-done made ws list = at (made .call)
+  where
+    lent : Lent
+    lent = lending made ws
+
+    at : (call : Call) → outcome call lent .answered .refusal ≡ 0 →
+        Done (effectOf call (askedIn made) (made .bytes) (length ws)) ws (outcome call lent .left .words) (outcome call lent .answered)
+    at (SetUp D K C) z = rw (set-up-accepted D K C ws z) refl
+    at (Operate operation) z = operation-done operation ws list z
+    at Record z =
+        let asks = record-asks lent list in
+        subst (λ (o : Outcome Lent). Done (askedEffect (askedIn made)) ws (o .left .words) (o .answered)) (sym asks)
+        (asked-done lent (askedIn made) (sym (ap (λ (o : Outcome Lent). o .answered .refusal) asks) ∙ z))
+    at Write z = moved-nowhere ws _ 0 (write-keeps-words (fileLent ws (made .bytes))) refl
+    at Read z = read-done (fileLent ws (made .bytes)) _ _ z
+
+-- a refused call passes nothing
+passed-refused : (e : Effect) (a : Answer) → (a .refusal ≡ 0 → ⊥) → passedIn e a ≡ 0
+passed-refused keeping a ne = refl
+passed-refused (inserting key value) a ne = refl
+passed-refused taking a ne = ap (λ t. cond t (a .count) 0) (ne-eqb (a .refusal) 0 ne)
+passed-refused sweeping a ne = refl
+passed-refused (renewing largest cells pairs) a ne = refl
+
+refused-moved : (made : Made) (ws : List ℕ) (e : Effect) → (madeOn made ws .answered .refusal ≡ 0 → ⊥) →
+    Moved ws (madeOn made ws .left .words) (passedIn e (madeOn made ws .answered))
+refused-moved made ws e ne =
+    moved-nowhere ws _ _ (ap (λ (l : Lent). l .words) (refused-alters-nothing (made .call) (lending made ws) ne)) (passed-refused e (madeOn made ws .answered) ne)
+
+-- takes, finds, finishes and writes
+done-moved : (e : Effect) (ws us : List ℕ) (a : Answer) → ofRun e ≡ true → Done e ws us a → Moved ws us (passedIn e a)
+done-moved keeping ws us a kind done = done
+done-moved (inserting key value) ws us a kind done = absurd (false≢true kind)
+done-moved taking ws us a kind done = done
+done-moved sweeping ws us a kind done = absurd (false≢true kind)
+done-moved (renewing largest cells pairs) ws us a kind done = absurd (false≢true kind)
+
+call-moved : (made : Made) (ws : List ℕ) → isList ws ≡ true → (ofRun (effect made (length ws)) || not (eqb (madeOn made ws .answered .refusal) 0)) ≡ true →
+    Moved ws (madeOn made ws .left .words) (passedIn (effect made (length ws)) (madeOn made ws .answered))
 call-moved made ws list ok = at (ℕ-discrete (madeOn made ws .answered .refusal) 0)
   where
-    at : Dec (madeOn made ws .answered .refusal ≡ 0) → Moved ws (madeOn made ws .left .words) (passedIn (made .call) (madeOn made ws .answered))
-    at (yes z) = of-run-moved (made .call) (lending made ws) list (kind-accepted (ofRun (made .call)) (madeOn made ws .answered .refusal) ok z)
-    at (no ne) = refused-moved made ws ne
+    e : Effect
+    e = effect made (length ws)
+
+    at : Dec (madeOn made ws .answered .refusal ≡ 0) → Moved ws (madeOn made ws .left .words) (passedIn e (madeOn made ws .answered))
+    at (yes z) = done-moved e ws _ _ (kind-accepted (ofRun e) (madeOn made ws .answered .refusal) ok z) (call-done made ws list z)
+    at (no ne) = refused-moved made ws e ne
 
 run-moved : (calls : List Made) (ws : List ℕ) → isList ws ≡ true → onlyOf ofRun calls ws ≡ true → Moved ws (afterCalls calls ws) (passedSum calls ws)
 unfolding afterCalls passedSum onlyOf
 run-moved [] ws list ok = moved-nowhere ws ws 0 refl refl
 run-moved (made ∷ calls) ws list ok =
     let us = madeOn made ws .left .words in
-    let (first, others) = both (ofRun (made .call) || not (eqb (madeOn made ws .answered .refusal) 0)) (onlyOf ofRun calls us) ok in
+    let (first, others) = both (ofRun (effect made (length ws)) || not (eqb (madeOn made ws .answered .refusal) 0)) (onlyOf ofRun calls us) ok in
     moved-onward ws us (afterCalls calls us) _ _ (call-moved made ws list first) (run-moved calls us (calls-keep-lists made ws list) others)
 
 pub run-passes : RunPasses
@@ -405,7 +457,7 @@ insert-adds key value ws list z = at (decLe key p)
     late : key ≤ p → above (positionKeyAt us) (standingKeys us) ≡ above p keys + suc (keysFromTo key p keys)
     late h =
         let back = late-inserts ws list key value z h in
-        let kept : isList us ≡ true = calls-keep-lists (alone (Insert key value)) ws list in
+        let kept : isList us ≡ true = calls-keep-lists (operated (Insert key value)) ws list in
         let taking = back .taken in
         let moved = take-moved us kept .sum in
         let reaches = take-reaches us kept (ap (λ (a : Answer). a .refusal) taking) ∙ ap (λ (a : Answer). a .key) taking in
@@ -431,45 +483,32 @@ unfolding keysAhead
 moved-adds ws us passed m =
     omega (arith, m .sum, ap (above (positionKeyAt us)) (m .keys), above-split (positionKeyAt ws) (positionKeyAt us) (standingKeys ws) (m .onward))
 
-asked-adds : (lent : Lent) (asked : Asked) → isList (lent .words) ≡ true → askedOut lent asked .answered .refusal ≡ 0 →
-    keysAhead (askedOut lent asked .left .words) ≡ keysAhead (lent .words) + askedAdds asked (lent .words)
-asked-adds lent (nothing r) list z = absurd (table r .0 z)
-asked-adds lent (insertion key number) list z = insert-adds key number (lent .words) list z
+done-adds : (e : Effect) (ws us : List ℕ) (a : Answer) → isList ws ≡ true → ofRunWithInserts e ≡ true → Done e ws us a → Adds ws us (passedIn e a) (effectAdds e ws)
+done-adds keeping ws us a list kind done = moved-adds ws us 0 done
+done-adds (inserting key value) ws us a list kind done = omega (arith, ap keysAhead (done .0), insert-adds key value ws list (done .1))
+done-adds taking ws us a list kind done = moved-adds ws us (passedBy a) done
+done-adds sweeping ws us a list kind done = absurd (false≢true kind)
+done-adds (renewing largest cells pairs) ws us a list kind done = absurd (false≢true kind)
 
-accepted-adds : (made : Made) (ws : List ℕ) → isList ws ≡ true → (call : Call) → ofRunWithInserts call ≡ true →
-    outcome call (lending made ws) .answered .refusal ≡ 0 →
-    Adds ws (outcome call (lending made ws) .left .words) (passedIn call (outcome call (lending made ws) .answered)) (callAdds call (askedIn made) ws)
-unfolding outcome
-accepted-adds made ws list (SetUp D K C) kind z = absurd (false≢true kind)
-accepted-adds made ws list (Insert key value) kind z = omega (arith, insert-adds key value ws list z)
-accepted-adds made ws list (Find key) kind z = moved-adds ws _ _ (of-run-moved (Find key) (lending made ws) list refl)
-accepted-adds made ws list (Finish key) kind z = moved-adds ws _ _ (of-run-moved (Finish key) (lending made ws) list refl)
-accepted-adds made ws list Take kind z = moved-adds ws _ _ (of-run-moved Take (lending made ws) list refl)
-accepted-adds made ws list Sweep kind z = absurd (false≢true kind)
-accepted-adds made ws list Record kind z =
-    let asks = record-asks (lending made ws) list in
-    let same = ap (λ (o : Outcome Lent). keysAhead (o .left .words)) asks in
-    omega (arith, same, asked-adds (lending made ws) (askedIn made) list (sym (ap (λ (o : Outcome Lent). o .answered .refusal) asks) ∙ z))
-accepted-adds made ws list Write kind z = moved-adds ws _ _ (of-run-moved Write (lending made ws) list refl)
-accepted-adds made ws list Read kind z = absurd (false≢true kind)
-
-call-adds : (made : Made) (ws : List ℕ) → isList ws ≡ true → (ofRunWithInserts (made .call) || not (eqb (madeOn made ws .answered .refusal) 0)) ≡ true →
-    Adds ws (madeOn made ws .left .words) (passedIn (made .call) (madeOn made ws .answered))
-    (cond (eqb (madeOn made ws .answered .refusal) 0) (callAdds (made .call) (askedIn made) ws) 0)
+call-adds : (made : Made) (ws : List ℕ) → isList ws ≡ true → (ofRunWithInserts (effect made (length ws)) || not (eqb (madeOn made ws .answered .refusal) 0)) ≡ true →
+    Adds ws (madeOn made ws .left .words) (passedIn (effect made (length ws)) (madeOn made ws .answered))
+    (cond (eqb (madeOn made ws .answered .refusal) 0) (effectAdds (effect made (length ws)) ws) 0)
 call-adds made ws list ok = at (ℕ-discrete refusal 0)
   where
     refusal : ℕ
     refusal = madeOn made ws .answered .refusal
 
-    at : Dec (refusal ≡ 0) → Adds ws (madeOn made ws .left .words) (passedIn (made .call) (madeOn made ws .answered))
-        (cond (eqb refusal 0) (callAdds (made .call) (askedIn made) ws) 0)
-    at (yes z) = rw (eq-eqb refusal 0 z) (accepted-adds made ws list (made .call) (kind-accepted (ofRunWithInserts (made .call)) refusal ok z) z)
-    at (no ne) = rw (ne-eqb refusal 0 ne) (moved-adds ws _ _ (refused-moved made ws ne))
+    e : Effect
+    e = effect made (length ws)
+
+    at : Dec (refusal ≡ 0) → Adds ws (madeOn made ws .left .words) (passedIn e (madeOn made ws .answered)) (cond (eqb refusal 0) (effectAdds e ws) 0)
+    at (yes z) = rw (eq-eqb refusal 0 z) (done-adds e ws _ _ list (kind-accepted (ofRunWithInserts e) refusal ok z) (call-done made ws list z))
+    at (no ne) = rw (ne-eqb refusal 0 ne) (moved-adds ws _ _ (refused-moved made ws e ne))
 
 pub run-with-inserts-passes : RunWithInsertsPasses
 unfolding afterCalls passedSum addedSum onlyOf
 run-with-inserts-passes [] ws list ok = omega arith
 run-with-inserts-passes (made ∷ calls) ws list ok =
     let us = madeOn made ws .left .words in
-    let (first, others) = both (ofRunWithInserts (made .call) || not (eqb (madeOn made ws .answered .refusal) 0)) (onlyOf ofRunWithInserts calls us) ok in
+    let (first, others) = both (ofRunWithInserts (effect made (length ws)) || not (eqb (madeOn made ws .answered .refusal) 0)) (onlyOf ofRunWithInserts calls us) ok in
     omega (arith, call-adds made ws list first, run-with-inserts-passes calls us (calls-keep-lists made ws list) others)

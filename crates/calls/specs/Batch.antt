@@ -6,10 +6,10 @@ use lib.Dec.{eqb, leb}
 use lib.ListN.{length, drop}
 use Rattle.meaning.specs.Reading.{readingOf}
 use Rattle.answers.specs.Refusals.{Outcome, accepted, notAList, badBatch, refused}
-use Rattle.calls.specs.Calls.{alone, madeOn, afterCalls}
+use Rattle.answers.specs.declared.Operation.{Operation}
+use Rattle.answers.specs.declared.Operation.the-variants.{Insert, Find, Finish, Take, Sweep}
+use Rattle.calls.specs.Calls.{operated, madeOn, afterCalls}
 use Rattle.answers.specs.declared.Answer.{Answer}
-use Rattle.calls.specs.declared.Call.{Call}
-use Rattle.calls.specs.declared.Call.the-variants.{Insert, Find, Finish, Take, Sweep}
 use Rattle.meaning.specs.declared.Reading.{Reading}
 use Rattle.meaning.specs.declared.Reading.the-variants.{IsList, NotAList}
 
@@ -25,8 +25,8 @@ batchLent words answers = record { words = words; answers = answers }
 unfoldable pub isKind : ℕ → Bool
 isKind kind = leb 1 kind && leb kind 5
 
-unfoldable pub callOf : ℕ → ℕ → ℕ → Call
-callOf kind key value =
+unfoldable pub operationOf : ℕ → ℕ → ℕ → Operation
+operationOf kind key value =
     cond (eqb kind 1) (Insert key value)
     (cond (eqb kind 2) (Find key)
     (cond (eqb kind 3) (Finish key)
@@ -39,20 +39,20 @@ areCalls (kind ∷ []) = false
 areCalls (kind ∷ key ∷ []) = false
 areCalls (kind ∷ key ∷ value ∷ words) = isKind kind && areCalls words
 
-unfoldable pub callsIn : List ℕ → List Call
+unfoldable pub callsIn : List ℕ → List Operation
 callsIn [] = []
 callsIn (kind ∷ []) = []
 callsIn (kind ∷ key ∷ []) = []
-callsIn (kind ∷ key ∷ value ∷ words) = callOf kind key value ∷ callsIn words
+callsIn (kind ∷ key ∷ value ∷ words) = operationOf kind key value ∷ callsIn words
 
 -- an answer is four words
 abbrev pub answerWords : Answer → List ℕ
 answerWords a = a .refusal ∷ a .key ∷ a .value ∷ a .count ∷ []
 
 -- the answers of calls, each made on the words that those before it leave
-unfoldable pub answersTo : List Call → List ℕ → List ℕ
+unfoldable pub answersTo : List Operation → List ℕ → List ℕ
 answersTo [] ws = []
-answersTo (call ∷ calls) ws = answerWords (madeOn (alone call) ws .answered) ++ answersTo calls (madeOn (alone call) ws .left .words)
+answersTo (call ∷ calls) ws = answerWords (madeOn (operated call) ws .answered) ++ answersTo calls (madeOn (operated call) ws .left .words)
 
 -- Refusal 19: not whole calls, a kind that is none of the five, no room for the answers, or more calls than the count can tell
 unfoldable pub fits : List ℕ → List ℕ → Bool
@@ -64,10 +64,10 @@ abbrev pub putFirst : List ℕ → List ℕ → List ℕ
 putFirst front words = front ++ drop (length front) words
 
 -- the calls one after the other
-unfoldable pub batchDone : List Call → BatchLent → Outcome BatchLent
+unfoldable pub batchDone : List Operation → BatchLent → Outcome BatchLent
 batchDone calls lent =
     accepted 0 0 (length calls)
-    (batchLent (afterCalls (map alone calls) (lent .words)) (putFirst (answersTo calls (lent .words)) (lent .answers)))
+    (batchLent (afterCalls (map operated calls) (lent .words)) (putFirst (answersTo calls (lent .words)) (lent .answers)))
 
 abbrev pub batchOn : List ℕ → BatchLent → Reading → Outcome BatchLent
 batchOn calls lent (IsList s) = cond (fits calls (lent .answers)) (batchDone (callsIn calls) lent) (refused badBatch lent)

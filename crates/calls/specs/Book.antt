@@ -4,19 +4,21 @@ use mathlib.Core.List.{List, [], _∷_, map}
 use Prim.Native.Nat.{ℕ, suc}
 use lib.Dec.{eqb, leb, ltb}
 use lib.ListN.{length, drop}
-use Rattle.settings.specs.Numbers.{inRange, lengthOf}
-use Rattle.records.specs.Notes.{noteBy}
+use Rattle.settings.specs.Numbers.{inRange, isKey, lengthOf}
 use Rattle.answers.specs.declared.Answer.{Answer}
-use Rattle.files.specs.Files.{Pair, fileLength, pairsIn, contentsOf}
+use Rattle.files.specs.Files.{Pair, fileLength, contentsOf}
 use Rattle.files.specs.declared.Contents.{Contents}
 use Rattle.files.specs.declared.Contents.the-variants.{IsFile, NotAFile}
 use Rattle.calls.specs.Pairs.{livePairs}
 use Rattle.meaning.specs.Reading.{standingKeys}
 use Rattle.meaning.specs.Words.{largestAt, cellsAt}
 use Rattle.answers.specs.Refusals.{answerOf}
-use Rattle.calls.specs.Records.{Asked, nothing, insertion, noteAsks}
+use Rattle.calls.specs.Records.{Asked, nothing, insertion}
+use Rattle.calls.specs.Effects.{Effect, keeping, inserting, taking, sweeping, renewing, askedIn, effect}
 use Rattle.calls.specs.Calls.{Made}
-use Rattle.calls.specs.declared.Call.the-variants.{SetUp, Insert, Find, Finish, Take, Sweep, Record, Write, Read}
+use Rattle.answers.specs.declared.Operation.{Operation}
+use Rattle.answers.specs.declared.Operation.the-variants.{Insert, Find, Finish, Take, Sweep}
+use Rattle.calls.specs.declared.Call.the-variants.{SetUp, Operate, Record, Write, Read}
 use Rattle.calls.specs.declared.Call.{Call}
 
 -- The largest key, how many keys may stand at once and one more (the head), the live pairs, the standing keys.
@@ -60,37 +62,19 @@ keptFrom (p ∷ pairs) (x ∷ y ∷ keys) = cond (ltb y (p .key)) (keptFrom (p �
 
 -- .. if it is a key of the list
 unfoldable pub keyInserted : ℕ → ℕ → Book → Book
-keyInserted key value k = cond (leb 1 key && leb key (k .largest)) (inserted key value k) k
+keyInserted key value k = cond (isKey (k .largest) key) (inserted key value k) k
 
--- a file is read into a buffer of `long` words: what it keeps is all that stands
-abbrev pub fileBooked : Contents → List Pair → ℕ → Book → Book
-fileBooked (IsFile s n) pairs long k =
-    cond (eqb long (lengthOf (s .dimensions) (s .cells)))
-    (record { largest = s .largest; cells = s .cells; pairs = pairs; standing = map (λ p. p .key) pairs })
-    k
-fileBooked NotAFile pairs long k = k
+-- what a call of this effect does
+unfoldable pub bookedBy : Effect → Book → Book
+bookedBy keeping k = k
+bookedBy (inserting key value) k = keyInserted key value k
+bookedBy taking k = record { largest = k .largest; cells = k .cells; pairs = drop 1 (k .pairs); standing = k .standing }
+bookedBy sweeping k = record { largest = k .largest; cells = k .cells; pairs = k .pairs; standing = keptFrom (k .pairs) (k .standing) }
+bookedBy (renewing largest cells pairs) k = record { largest = largest; cells = cells; pairs = pairs; standing = map (λ p. p .key) pairs }
 
--- what a call on a buffer of `long` words does, where a record asks for this and these bytes are lent
-unfoldable pub bookedCall : Call → Asked → List ℕ → ℕ → Book → Book
-bookedCall (SetUp D K C) asked bytes long k =
-    cond (inRange D K C && eqb long (lengthOf D C)) (record { largest = K; cells = C; pairs = []; standing = [] }) k
-bookedCall (Insert key value) asked bytes long k = keyInserted key value k
-bookedCall (Find key) asked bytes long k = k
-bookedCall (Finish key) asked bytes long k = k
-bookedCall Take asked bytes long k = record { largest = k .largest; cells = k .cells; pairs = drop 1 (k .pairs); standing = k .standing }
-bookedCall Sweep asked bytes long k =
-    record { largest = k .largest; cells = k .cells; pairs = k .pairs; standing = keptFrom (k .pairs) (k .standing) }
-bookedCall Record (nothing refusal) bytes long k = k
-bookedCall Record (insertion key number) bytes long k = keyInserted key number k
-bookedCall Write asked bytes long k = k
-bookedCall Read asked bytes long k = fileBooked (contentsOf bytes) (pairsIn bytes) long k
-
--- what the record asks for that is lent to a call
-abbrev pub askedIn : Made → Asked
-askedIn made = noteAsks (made .last) (noteBy (made .bytes))
-
+-- what a call on a buffer of `long` words does
 abbrev pub booked : Made → ℕ → Book → Book
-booked made long k = bookedCall (made .call) (askedIn made) (made .bytes) long k
+booked made long k = bookedBy (effect made long) k
 
 -- what a sequence of calls does
 unfoldable pub bookedAll : List Made → ℕ → Book → Book
@@ -120,7 +104,7 @@ liveIn key k = hasKey key (map (λ p. p .key) (k .pairs))
 
 -- what a call with a key replies: 4 if the key is out of range (docs/REFERENCE.md, *Refusals*)
 unfoldable pub keyed : ℕ → Book → Reply → Reply
-keyed key k reply = cond (leb 1 key && leb key (k .largest)) reply (replies 4 0 0)
+keyed key k reply = cond (isKey (k .largest) key) reply (replies 4 0 0)
 
 -- .. an insert: 5 if the key is live, 6 if it does not stand and no cell is left beside the head's and those of the standing keys
 unfoldable pub insertReply : ℕ → Book → Reply
@@ -138,16 +122,24 @@ abbrev pub readReply : Contents → ℕ → Reply
 readReply (IsFile s n) long = cond (eqb long (lengthOf (s .dimensions) (s .cells))) (replies 0 0 0) (replies 2 0 0)
 readReply NotAFile long = replies 11 0 0
 
--- what a call on a list of `long` words replies: *The operations*, with the refusals in the order of *Refusals 1*; 3 is no list's
+-- what an operation replies: *The operations*, with the refusals in the order of *Refusals 1*; 3 is no list's
+unfoldable pub operationReply : Operation → Book → Reply
+operationReply (Insert key value) k = keyed key k (insertReply key k)
+operationReply (Find key) k = keyed key k (cond (liveIn key k) (replies 0 key (valueIn key (k .pairs))) (replies 8 key 0))
+operationReply (Finish key) k = keyed key k (cond (hasKey key (k .standing)) (replies 0 key 0) (replies 8 key 0))
+operationReply Take k = takeReply (k .pairs)
+operationReply Sweep k = replies 0 0 0
+
+-- .. a record: what the insert that it asks for replies
+abbrev pub askedReply : Asked → Book → Reply
+askedReply (nothing refusal) k = replyIn (answerOf refusal)
+askedReply (insertion key number) k = operationReply (Insert key number) k
+
+-- .. and any call on a list of `long` words, where a record asks for this and these bytes are lent
 unfoldable pub replyToCall : Call → Asked → List ℕ → ℕ → Book → Reply
 replyToCall (SetUp D K C) asked bytes long k = cond (inRange D K C) (cond (eqb long (lengthOf D C)) (replies 0 0 0) (replies 2 0 0)) (replies 1 0 0)
-replyToCall (Insert key value) asked bytes long k = keyed key k (insertReply key k)
-replyToCall (Find key) asked bytes long k = keyed key k (cond (liveIn key k) (replies 0 key (valueIn key (k .pairs))) (replies 8 key 0))
-replyToCall (Finish key) asked bytes long k = keyed key k (cond (hasKey key (k .standing)) (replies 0 key 0) (replies 8 key 0))
-replyToCall Take asked bytes long k = takeReply (k .pairs)
-replyToCall Sweep asked bytes long k = replies 0 0 0
-replyToCall Record (nothing refusal) bytes long k = replyIn (answerOf refusal)
-replyToCall Record (insertion key number) bytes long k = keyed key k (insertReply key k)
+replyToCall (Operate operation) asked bytes long k = operationReply operation k
+replyToCall Record asked bytes long k = askedReply asked k
 replyToCall Write asked bytes long k = cond (leb (fileLength (length (k .pairs))) (length bytes)) (replies 0 0 0) (replies 12 0 0)
 replyToCall Read asked bytes long k = readReply (contentsOf bytes) long
 

@@ -2,11 +2,12 @@
 use mathlib.Core.List.{List, [], _∷_}
 use Prim.Native.Nat.{ℕ}
 use Rattle.answers.specs.Refusals.{Outcome}
-use Rattle.meaning.specs.Operations.{setUpOut, insertOut, findOut, finishOut, takeOut, sweepOut}
+use Rattle.answers.specs.declared.Operation.{Operation}
+use Rattle.meaning.specs.Operations.{setUpOut, operationOut}
 use Rattle.calls.specs.Records.{Lent, lentOf, recordOut}
 use Rattle.calls.specs.Saved.{FileLent, fileLent, writeOut, readOut}
 use Rattle.calls.specs.declared.Call.{Call}
-use Rattle.calls.specs.declared.Call.the-variants.{SetUp, Insert, Find, Finish, Take, Sweep, Record, Write, Read}
+use Rattle.calls.specs.declared.Call.the-variants.{SetUp, Operate, Record, Write, Read}
 
 -- an outcome on the words alone: what else was lent stays as it is
 abbrev pub onWords : Lent → Outcome (List ℕ) → Outcome Lent
@@ -19,11 +20,7 @@ onFile lent o = record { answered = o .answered; left = lentOf (o .left .words) 
 -- the outcome of one call
 unfoldable pub outcome : Call → Lent → Outcome Lent
 outcome (SetUp D K C) lent = onWords lent (setUpOut D K C (lent .words))
-outcome (Insert key value) lent = onWords lent (insertOut (lent .words) key value)
-outcome (Find key) lent = onWords lent (findOut (lent .words) key)
-outcome (Finish key) lent = onWords lent (finishOut (lent .words) key)
-outcome Take lent = onWords lent (takeOut (lent .words))
-outcome Sweep lent = onWords lent (sweepOut (lent .words))
+outcome (Operate operation) lent = onWords lent (operationOut operation (lent .words))
 outcome Record lent = recordOut lent
 outcome Write lent = onFile lent (writeOut (fileLent (lent .words) (lent .bytes)))
 outcome Read lent = onFile lent (readOut (fileLent (lent .words) (lent .bytes)))
@@ -37,6 +34,9 @@ pub record Made : Type 0 where
 -- a call that needs neither
 abbrev pub alone : Call → Made
 alone call = record { call = call; bytes = []; last = 0 }
+
+abbrev pub operated : Operation → Made
+operated operation = alone (Operate operation)
 
 abbrev pub lending : Made → List ℕ → Lent
 lending made ws = lentOf ws (made .bytes) (made .last)

@@ -15,9 +15,9 @@ use Rattle.meaning.specs.Reading.{read}
 use Rattle.answers.specs.Refusals.{answer}
 use Rattle.meaning.specs.Words.{owedAt, lowAt, highAt}
 use Rattle.meaning.specs.Operations.{setUpOut}
-use Rattle.calls.specs.Calls.{alone, madeOn}
-use Rattle.calls.specs.declared.Call.the-variants.{Insert, Find, Take, Sweep}
-use Rattle.calls.specs.declared.Call.{Call}
+use Rattle.calls.specs.Calls.{operated, madeOn}
+use Rattle.answers.specs.declared.Operation.the-variants.{Insert, Find, Take, Sweep}
+use Rattle.answers.specs.declared.Operation.{Operation}
 
 -- the remarks beside the steps, of the words after the step
 pub data Remark : Type 0 where
@@ -52,11 +52,11 @@ holds (free-chain cells) ws = same (read ws .free) cells
 holds (uses-cell key cell) ws = eqb (cellWith ws key) cell
 
 pub record Line : Type 0 where
-  pub call : Call
+  pub call : Operation
   pub answered : Answer
   pub remark : Remark
 
-abbrev pub line : Call → Answer → Remark → Line
+abbrev pub line : Operation → Answer → Remark → Line
 line call answered remark = record { call = call; answered = answered; remark = remark }
 
 -- D = 2, K = 15, C = 8, so b = 4; the steps in order from fresh
@@ -90,7 +90,7 @@ expected l = record { answered = l .answered; remarked = true }
 unfoldable pub ran : List Line → List ℕ → List Seen
 ran [] ws = []
 ran (l ∷ lines) ws =
-    let o = madeOn (alone (l .call)) ws in
+    let o = madeOn (operated (l .call)) ws in
     record { answered = o .answered; remarked = holds (l .remark) (o .left .words) } ∷ ran lines (o .left .words)
 
 unfoldable pub freshWords : List ℕ

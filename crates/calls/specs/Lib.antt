@@ -5,7 +5,8 @@ pub mod Pairs
 pub mod Saved
 pub mod Calls
 pub mod Batch
--- What cross-checks it: what an ordered map would do, what a run of takes costs, the fourteen steps, and what is promised.
+-- What cross-checks it: what each call does, in one place, what an ordered map would do, what a run of takes costs, the fourteen steps, and what is promised.
+pub mod Effects
 pub mod Book
 pub mod Runs
 pub mod Fourteen

@@ -1,31 +1,33 @@
 -- What is promised over sequences of calls, in one place: each statement with its sentence. proofs/Promises.antt proves every one of them,
 -- for every D, K and C in range at once. What is promised of one call on a list is the page of the same name in crate meaning.
 use mathlib.Core.Path.{_≡_}
-use mathlib.Core.Bool.{Bool, true, false}
+use mathlib.Core.Bool.{true, false}
 use mathlib.Core.List.{List, [], _∷_, _++_, map}
 use mathlib.Core.Logic.{_↔_}
 use Prim.Native.Nat.{ℕ, zero, suc, _+_, _*_, _≤_}
 use lib.Dec.{eqb, ltb}
 use lib.ListN.{length, take, drop}
 use Rattle.lists.specs.Lists.{every}
-use Rattle.records.specs.Notes.{noteBy}
+use Rattle.notes.specs.Notes.{noteBy}
 use Rattle.answers.specs.declared.Answer.{Answer}
-use Rattle.meaning.specs.Reading.{settingsAt, isList}
+use Rattle.meaning.specs.Reading.{settingsAt, isList, standingKeys}
 use Rattle.answers.specs.Refusals.{answer, Outcome, accepted, Meets, Refusal, notAList, badBatch, answerOf, refused}
 use Rattle.meaning.specs.Words.{owedAt, positionAt}
 use Rattle.meaning.specs.Operations.{setUpOut, insertOut, takeOut}
 use Rattle.calls.specs.Records.{Lent, insertion, noteAsks, recordOut}
 use Rattle.calls.specs.Saved.{FileLent, fileLent, writeOut, readOut}
-use Rattle.calls.specs.Calls.{outcome, Made, alone, madeOn, afterCalls}
+use Rattle.calls.specs.Calls.{outcome, Made, alone, operated, madeOn, afterCalls}
+use Rattle.calls.specs.Effects.{effect, keepsSettings}
 use Rattle.calls.specs.Batch.{BatchLent, callsIn, answerWords, fits, batchOut}
 use Rattle.meaning.specs.Sentences.{Standing}
 use Rattle.calls.specs.Runs.{passedSum, onlyOf, ofRun, ofRunWithInserts, positionKeyAt, keysFromTo, keysAhead, addedSum}
 use Rattle.settings.specs.declared.Settings.{Settings}
 use Rattle.files.specs.Files.{Pair, settingsIn, pairsIn}
 use Rattle.calls.specs.Pairs.{livePairs}
-use Rattle.meaning.specs.Reading.{standingKeys}
 use Rattle.calls.specs.Book.{bookOf, bookedAll, replyIn, replyTo}
-use Rattle.calls.specs.declared.Call.the-variants.{SetUp, Insert, Find, Finish, Take, Sweep, Record, Write, Read}
+use Rattle.answers.specs.declared.Operation.{Operation}
+use Rattle.answers.specs.declared.Operation.the-variants.{Insert, Finish}
+use Rattle.calls.specs.declared.Call.the-variants.{SetUp}
 use Rattle.calls.specs.declared.Call.{Call}
 use Rattle.meaning.specs.Promises.{OwedStand, CountsWalk}
 
@@ -48,20 +50,10 @@ abbrev pub CallsKeepLists : Type 0
 CallsKeepLists = (made : Made) (ws : List ℕ) → isList ws ≡ true → isList (madeOn made ws .left .words) ≡ true
 
 -- .. with the dimensions, largest key, cells and base that it had, unless it is set up or read anew.
-abbrev pub keepsSettings : Call → Bool
-keepsSettings (SetUp D K C) = false
-keepsSettings (Insert key value) = true
-keepsSettings (Find key) = true
-keepsSettings (Finish key) = true
-keepsSettings Take = true
-keepsSettings Sweep = true
-keepsSettings Record = true
-keepsSettings Write = true
-keepsSettings Read = false
-
 abbrev pub CallsKeepSettings : Type 0
 CallsKeepSettings =
-    (made : Made) (ws : List ℕ) → isList ws ≡ true → keepsSettings (made .call) ≡ true → settingsAt (madeOn made ws .left .words) ≡ settingsAt ws
+    (made : Made) (ws : List ℕ) → isList ws ≡ true → keepsSettings (effect made (length ws)) ≡ true
+    → settingsAt (madeOn made ws .left .words) ≡ settingsAt ws
 
 -- 2. A refused call alters nothing of what was lent: every operation, all words, bytes and numbers.
 abbrev pub RefusedAltersNothing : Type 0
@@ -113,11 +105,11 @@ AnswersAreBooked =
 
 -- 6. A batch does what its calls do, one after the other: these are the words left, each call's answer is the one that it would have been
 -- given alone on the words that those before it leave, and the words past the answers are kept.
-pub record BatchIs (calls : List Call) (before after : BatchLent) : Type 0 where
-  pub words : after .words ≡ afterCalls (map alone calls) (before .words)
+pub record BatchIs (calls : List Operation) (before after : BatchLent) : Type 0 where
+  pub words : after .words ≡ afterCalls (map operated calls) (before .words)
   pub answers :
-      (front : List Call) (call : Call) (later : List Call) → calls ≡ front ++ (call ∷ later) →
-      take 4 (drop (4 * length front) (after .answers)) ≡ answerWords (madeOn (alone call) (afterCalls (map alone front) (before .words)) .answered)
+      (front : List Operation) (call : Operation) (later : List Operation) → calls ≡ front ++ (call ∷ later) →
+      take 4 (drop (4 * length front) (after .answers)) ≡ answerWords (madeOn (operated call) (afterCalls (map operated front) (before .words)) .answered)
   pub kept : drop (4 * length calls) (after .answers) ≡ drop (4 * length calls) (before .answers)
 
 abbrev pub BatchIsCalls : Type 0
@@ -170,7 +162,7 @@ RunWithInsertsPasses =
 abbrev pub fileCalls : Settings → List Pair → List Made
 fileCalls s pairs =
     alone (SetUp (s .dimensions) (s .largest) (s .cells))
-    ∷ (map (λ p. alone (Insert (p .key) (p .value))) pairs ++ map (λ p. alone (Finish (p .key))) pairs)
+    ∷ (map (λ p. operated (Insert (p .key) (p .value))) pairs ++ map (λ p. operated (Finish (p .key))) pairs)
 
 abbrev pub ReadIsCalls : Type 0
 ReadIsCalls =

@@ -7,59 +7,45 @@ use lib.ListN.{length}
 use Rattle.lists.specs.Lists.{those}
 use Rattle.answers.specs.declared.Answer.{Answer}
 use Rattle.meaning.specs.Words.{keyAt, positionAt}
-use Rattle.calls.specs.Records.{Asked, nothing, insertion}
 use Rattle.calls.specs.Calls.{Made, madeOn}
 use Rattle.meaning.specs.Reading.{standingKeys}
-use Rattle.calls.specs.Book.{hasKey, askedIn}
-use Rattle.calls.specs.declared.Call.the-variants.{SetUp, Insert, Find, Finish, Take, Sweep, Record, Write, Read}
-use Rattle.calls.specs.declared.Call.{Call}
+use Rattle.calls.specs.Effects.{Effect, keeping, inserting, taking, sweeping, renewing, effect}
+use Rattle.calls.specs.Book.{hasKey}
 
--- the passed figure that a call answers: that of a successful take
-abbrev pub passedIn : Call → Answer → ℕ
-passedIn Take a = cond (eqb (a .refusal) 0) (a .count) 0
-passedIn (SetUp D K C) a = 0
-passedIn (Insert key value) a = 0
-passedIn (Find key) a = 0
-passedIn (Finish key) a = 0
-passedIn Sweep a = 0
-passedIn Record a = 0
-passedIn Write a = 0
-passedIn Read a = 0
+-- the passed figure that a call of this effect answers: that of a successful take
+abbrev pub passedIn : Effect → Answer → ℕ
+passedIn keeping a = 0
+passedIn (inserting key value) a = 0
+passedIn taking a = cond (eqb (a .refusal) 0) (a .count) 0
+passedIn sweeping a = 0
+passedIn (renewing largest cells pairs) a = 0
 
 -- the passed figures of a sequence of calls, added up
 unfoldable pub passedSum : List Made → List ℕ → ℕ
 passedSum [] ws = 0
-passedSum (made ∷ calls) ws = passedIn (made .call) (madeOn made ws .answered) + passedSum calls (madeOn made ws .left .words)
+passedSum (made ∷ calls) ws = passedIn (effect made (length ws)) (madeOn made ws .answered) + passedSum calls (madeOn made ws .left .words)
 
--- every call of a sequence is of some kinds, or is refused
-unfoldable pub onlyOf : (Call → Bool) → List Made → List ℕ → Bool
+-- every call of a sequence has an effect of some kinds, or is refused
+unfoldable pub onlyOf : (Effect → Bool) → List Made → List ℕ → Bool
 onlyOf kinds [] ws = true
 onlyOf kinds (made ∷ calls) ws =
-    (kinds (made .call) || not (eqb (madeOn made ws .answered .refusal) 0)) && onlyOf kinds calls (madeOn made ws .left .words)
+    (kinds (effect made (length ws)) || not (eqb (madeOn made ws .answered .refusal) 0)) && onlyOf kinds calls (madeOn made ws .left .words)
 
 -- A run of takes has takes, finds, finishes and writes, and refused calls of every kind.
-abbrev pub ofRun : Call → Bool
-ofRun (SetUp D K C) = false
-ofRun (Insert key value) = false
-ofRun (Find key) = true
-ofRun (Finish key) = true
-ofRun Take = true
-ofRun Sweep = false
-ofRun Record = false
-ofRun Write = true
-ofRun Read = false
+abbrev pub ofRun : Effect → Bool
+ofRun keeping = true
+ofRun (inserting key value) = false
+ofRun taking = true
+ofRun sweeping = false
+ofRun (renewing largest cells pairs) = false
 
 -- In a run with inserts, records may insert too.
-abbrev pub ofRunWithInserts : Call → Bool
-ofRunWithInserts (SetUp D K C) = false
-ofRunWithInserts (Insert key value) = true
-ofRunWithInserts (Find key) = true
-ofRunWithInserts (Finish key) = true
-ofRunWithInserts Take = true
-ofRunWithInserts Sweep = false
-ofRunWithInserts Record = true
-ofRunWithInserts Write = true
-ofRunWithInserts Read = false
+abbrev pub ofRunWithInserts : Effect → Bool
+ofRunWithInserts keeping = true
+ofRunWithInserts (inserting key value) = true
+ofRunWithInserts taking = true
+ofRunWithInserts sweeping = false
+ofRunWithInserts (renewing largest cells pairs) = false
 
 -- the position's key
 abbrev pub positionKeyAt : List ℕ → ℕ
@@ -79,23 +65,15 @@ abbrev pub insertAdds : ℕ → List ℕ → ℕ
 insertAdds key ws =
     cond (leb key (positionKeyAt ws)) (suc (keysFromTo key (positionKeyAt ws) (standingKeys ws))) (cond (hasKey key (standingKeys ws)) 0 1)
 
-abbrev pub askedAdds : Asked → List ℕ → ℕ
-askedAdds (nothing refusal) ws = 0
-askedAdds (insertion key number) ws = insertAdds key ws
-
-abbrev pub callAdds : Call → Asked → List ℕ → ℕ
-callAdds (SetUp D K C) asked ws = 0
-callAdds (Insert key value) asked ws = insertAdds key ws
-callAdds (Find key) asked ws = 0
-callAdds (Finish key) asked ws = 0
-callAdds Take asked ws = 0
-callAdds Sweep asked ws = 0
-callAdds Record asked ws = askedAdds asked ws
-callAdds Write asked ws = 0
-callAdds Read asked ws = 0
+abbrev pub effectAdds : Effect → List ℕ → ℕ
+effectAdds keeping ws = 0
+effectAdds (inserting key value) ws = insertAdds key ws
+effectAdds taking ws = 0
+effectAdds sweeping ws = 0
+effectAdds (renewing largest cells pairs) ws = 0
 
 -- what the accepted inserts of a sequence of calls add, each on the words that it is made on
 unfoldable pub addedSum : List Made → List ℕ → ℕ
 addedSum [] ws = 0
 addedSum (made ∷ calls) ws =
-    cond (eqb (madeOn made ws .answered .refusal) 0) (callAdds (made .call) (askedIn made) ws) 0 + addedSum calls (madeOn made ws .left .words)
+    cond (eqb (madeOn made ws .answered .refusal) 0) (effectAdds (effect made (length ws)) ws) 0 + addedSum calls (madeOn made ws .left .words)

@@ -1,6 +1,7 @@
 // Finish: what a cell owes is moved to it: Debts 5.
 ghost use mathlib.Core.Path.{_≡_};
 ghost use Prim.Native.Nat.{_-_, _≤_, _<_};
+ghost use Rattle.settings.specs.Levels.{PowersOf};
 ghost use Rattle.answers.specs.Refusals.{Meets};
 ghost use Rattle.meaning.specs.Operations.{finishOut};
 ghost use Rattle.meaning.specs.Layer.Stores.{moveLinks, clearDebt, finishWords};
@@ -50,17 +51,14 @@ pub fn finish_cell(list: &mut [u32], s: Settings, n: u32)
 }
 
 // On a list with settings s: The operations 4.
-pub fn finish(list: &mut [u32], s: Settings, key: u32) -> Answer
-    requires { ⌜ Listed (now list) s ⌝ }
+pub fn finish(list: &mut [u32], s: Settings, powers: &[u64], key: u32) -> Answer
+    requires { ⌜ Listed (now list) s × PowersOf s (now powers) ⌝ }
     ensures { λ r. ⌜ Meets (finishOut (now (list .entry)) key) r (now (list .exit)) ⌝ }
 {
-    if key == 0 {
+    if !s.has_key(key) {
         return answers::refused(answers::BAD_KEY);
     }
-    if s.largest < key {
-        return answers::refused(answers::BAD_KEY);
-    }
-    let f = search::search(list, s, key);
+    let f = search::search(list, s, powers, key);
     if !f.standing {
         return answers::refused_at(answers::KEY_NOT_STANDING, key, 0);
     }

@@ -1,7 +1,7 @@
 -- What a note does to the list's words and to the last number, whatever bytes it was read from.
 use mathlib.Core.List.{List}
 use Prim.Native.Nat.{ℕ}
-use Rattle.records.specs.declared.note.Logged.{Logged}
+use Rattle.notes.specs.declared.Logged.{Logged}
 use Rattle.answers.specs.Refusals.{Meets}
 use Rattle.calls.specs.Records.{lentOf, noteOut}
 use Rattle.answers.specs.declared.Answer.{Answer}

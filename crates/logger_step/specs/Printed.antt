@@ -5,7 +5,7 @@ use Prim.Native.Nat.{ℕ, _≤_}
 use lib.Dec.{eqb}
 use lib.ListN.{length, take}
 use Rattle.text.specs.Lines.{lineFeed}
-use Rattle.records.specs.declared.note.Logged.{Logged}
+use Rattle.notes.specs.declared.Logged.{Logged}
 use Rattle.meaning.specs.Operations.{takeOut}
 use Rattle.calls.specs.Records.{Lent, noteOut}
 use Rattle.report.specs.Report.{answerText}

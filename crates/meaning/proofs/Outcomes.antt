@@ -10,21 +10,24 @@ use native.Mathlib.Decide.{decLe}
 use native.Mathlib.Omega.{arith}
 use lib.Dec.{eqb, leb}
 use lib.ListN.{length}
-use borrow.Author.Tests.{eq-eqb, ne-eqb, le-leb, lt-leb}
-use Rattle.settings.specs.Numbers.{inRange, lengthOf}
+use borrow.Author.Tests.{eq-eqb, ne-eqb}
+use Rattle.settings.specs.Numbers.{inRange, isKey, lengthOf}
 use Rattle.settings.specs.Checked.{checkedOf, settingsOf}
 use Rattle.settings.specs.declared.Checked.the-variants.{Accepted, OutOfRange}
+use Rattle.settings.specs.declared.Settings.{Settings}
+use Rattle.settings.proofs.Numbers.{key-in, key-out}
 use Rattle.lists.proofs.Tests.{cond-has}
 use Rattle.meaning.specs.Row.{Node, placeOf, nodeAt}
 use Rattle.meaning.specs.State.{State, positionKey, placesOf}
 use Rattle.meaning.specs.Picture.{picture}
 use Rattle.meaning.specs.Reading.{read, isList, readingOf}
 use Rattle.answers.specs.Refusals.{Outcome, accepted, Refusal, outOfRange, wrongLength, notAList, badKey, keyLive, noFreeCell, nothingLive}
-use Rattle.answers.specs.Refusals.{keyNotLive, keyNotStanding}
-use Rattle.answers.specs.Refusals.{refused}
+use Rattle.answers.specs.Refusals.{keyNotLive, keyNotStanding, refused, answer, Meets}
+use Rattle.answers.specs.declared.Answer.{Answer}
 use Rattle.meaning.specs.Operations.{onList, onKey, looked, fresh, setUpOut, finished, withRow, linksMoved, finishAt, finishOut, onReading, setUpBy}
 use Rattle.meaning.specs.Operations.{findAt, findOut, revived, slotFor, added, insertNew, insertAt, insertOut, fromLive, keysAbove, keysPassed}
 use Rattle.meaning.specs.Operations.{taken, takeFrom, takeOut, freedBy, swept, sweepOut}
+use Rattle.meaning.specs.Layer.Listed.{Listed}
 use Rattle.meaning.specs.declared.Reading.{Reading}
 use Rattle.meaning.specs.declared.Reading.the-variants.{IsList, NotAList}
 use Rattle.meaning.proofs.Pictures.State.{Sound}
@@ -49,15 +52,11 @@ on-picture s v act = rw (picture-is-list s v) (ap act (read-of-picture s v))
 
 on-good-key : (ws : List ℕ) (s : State) (key : ℕ) (done : Outcome (List ℕ)) → 1 ≤ key → key ≤ s .settings .largest → onKey ws s key done ≡ done
 unfolding onKey
-on-good-key ws s key done l h = rw (le-leb 1 key l, le-leb key (s .settings .largest) h) refl
+on-good-key ws s key done l h = rw (key-in l h) refl
 
 on-bad-key : (ws : List ℕ) (s : State) (key : ℕ) (done : Outcome (List ℕ)) → (1 ≤ key → s .settings .largest < key) → onKey ws s key done ≡ refused badKey ws
 unfolding onKey
-on-bad-key ws s key done f = at (decLe 1 key)
-  where
-    at : Dec (1 ≤ key) → cond (leb 1 key && leb key (s .settings .largest)) done (refused badKey ws) ≡ refused badKey ws
-    at (yes l) = rw (le-leb 1 key l, lt-leb key (s .settings .largest) (f l)) refl
-    at (no l) = let none : key < 1 = omega arith in rw (lt-leb 1 key none) refl
+on-bad-key ws s key done f = rw (key-out f) refl
 
 on-picture-key : (s : State) → Sound s → (key : ℕ) (act : State → Outcome (List ℕ)) → 1 ≤ key → key ≤ s .settings .largest →
     onList (picture s) (λ t. onKey (picture s) t key (act t)) ≡ act s
@@ -66,6 +65,13 @@ on-picture-key s v key act l h = on-picture s v (λ t. onKey (picture s) t key (
 on-picture-bad-key : (s : State) → Sound s → (key : ℕ) (act : State → Outcome (List ℕ)) → (1 ≤ key → s .settings .largest < key) →
     onList (picture s) (λ t. onKey (picture s) t key (act t)) ≡ refused badKey (picture s)
 on-picture-bad-key s v key act f = on-picture s v (λ t. onKey (picture s) t key (act t)) ∙ on-bad-key (picture s) s key (act s) f
+
+-- .. and so it is on a list, as the code has it
+pub bad-key-meets :
+    {ws : List ℕ} {s : Settings} → Listed ws s → (key : ℕ) (act : State → Outcome (List ℕ)) {r : Answer} → isKey (s .largest) key ≡ false →
+    r ≡ answer 4 0 0 0 → Meets (onList ws (λ t. onKey ws t key (act t))) r ws
+unfolding onList readingOf onReading onKey read
+bad-key-meets h key act bad a = rw (h .list, ap (λ (s : Settings). s .largest) (h .settings), bad) (record { answered = a; left = refl })
 
 -- Set up
 

@@ -12,20 +12,17 @@ use Rattle.lists.proofs.Occurrences.{distinct-once}
 use Rattle.meaning.specs.Row.{smallerThan}
 use Rattle.meaning.specs.State.{State}
 use Rattle.meaning.specs.Picture.{picture}
-use Rattle.meaning.specs.Reading.{read, isList}
+use Rattle.meaning.specs.Reading.{read, isList, standingKeys}
 use Rattle.answers.specs.Refusals.{Outcome, badKey, refused}
 use Rattle.meaning.specs.Operations.{looked, insertOut, findOut}
 use Rattle.meaning.specs.Rule.{rule}
 use Rattle.meaning.specs.Words.{keyAt, dimensionsAt, largestAt, baseAt}
 use Rattle.meaning.specs.Walk.{trailFrom, trail, ends, walk}
 use Rattle.meaning.specs.Lower.{lowerWayFor, lowerFor}
-use Rattle.meaning.specs.Reading.{standingKeys}
-use Rattle.meaning.specs.Promises.{Looks, answersLooked, CountsWalk, ListsCountWalks}
-use Rattle.meaning.specs.Promises.{PresentMeansThatKey, FindWritesNothing, TakeWrites, ReviveWrites}
+use Rattle.meaning.specs.Promises.{Looks, answersLooked, CountsWalk, ListsCountWalks, PresentMeansThatKey, FindWritesNothing, TakeWrites, ReviveWrites}
 use Rattle.meaning.specs.Promises.{InsertWrites, FinishWrites, SweepWrites, EachCellOnce, SweptCellsFirst, InsertUsesFirst, SharedMeansLeading}
 use Rattle.meaning.specs.Promises.{ListMeansSentences, WalkIsRule, WalkOnce, WalkBounded, WalkEnds, WalkByKeysAlone, OrderIsLexicographic}
-use Rattle.meaning.specs.Promises.{ShapeByKeysAlone}
-use Rattle.meaning.specs.Promises.{OwedCellsStand, OwedCellsStandInSweep, WayToLower, LateInserts}
+use Rattle.meaning.specs.Promises.{ShapeByKeysAlone, OwedCellsStand, OwedCellsStandInSweep, WayToLower, LateInserts}
 use Rattle.meaning.proofs.Rows.Keys.{shared-agreed, lexicographic, coordinates-determine}
 use Rattle.meaning.proofs.Rows.AscendingKeys.{asc-rising, rising-equal}
 use Rattle.meaning.proofs.Pictures.State.{Sound, base-positive, base-above}

@@ -13,7 +13,7 @@ use Rattle.lists.specs.Compared.{agreed, precedes}
 use Rattle.meaning.specs.Keys.{coordinates, shared}
 use Rattle.meaning.specs.Row.{Node, headNode, nodeAt, smallerThan}
 use Rattle.meaning.specs.State.{keyOf, positionKey}
-use Rattle.meaning.specs.Reading.{read, isList}
+use Rattle.meaning.specs.Reading.{read, isList, standingKeys}
 use Rattle.answers.specs.Refusals.{answer}
 use Rattle.meaning.specs.Rule.{rule}
 use Rattle.meaning.specs.Words.{keyAt, markAt, owedAt, lowAt, highAt, linkAt, dimensionsAt, largestAt, cellsAt, baseAt, positionAt, liveMark}
@@ -23,7 +23,6 @@ use Rattle.meaning.specs.Operations.{insertOut, findOut, finishOut, take
 use Rattle.meaning.specs.Writes.{OwesNothing, OwesSame, Finished, Inserted, Taken, Revived, Swept}
 use Rattle.meaning.specs.Sentences.{Standing, AList}
 use Rattle.meaning.specs.Layer.SweepStores.{finishAll}
-use Rattle.meaning.specs.Reading.{standingKeys}
 
 -- key is live, on the words
 pub record Live (ws : List ℕ) (key : ℕ) : Type 0 where

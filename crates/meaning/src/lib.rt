@@ -1,4 +1,5 @@
-// The types that the definitions and the code share: what a buffer is read as, one step of the walk, and where it comes to rest.
+// The types that the definitions and the code share: what a buffer is read as, one step of the walk, where it comes to rest, and the slot of a
+// new cell.
 use settings::Settings;
 
 // What a buffer is read as: a list with its settings, or none, which is refused by number 3.
@@ -22,4 +23,13 @@ pub struct Rest {
     pub at: u32,
     pub coordinate: u32,
     pub looked: u32,
+}
+
+// The slot of a new cell n: link p of its parent; the cell c that had it before, 0 if none had, becomes link q of n.
+pub struct Slot {
+    pub n: u32,
+    pub parent: u32,
+    pub p: u32,
+    pub c: u32,
+    pub q: u32,
 }

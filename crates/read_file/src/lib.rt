@@ -10,8 +10,8 @@ ghost use Rattle.answers.specs.Refusals.{Meets};
 ghost use Rattle.calls.specs.Saved.{fileLent, readOut};
 ghost use Rattle.calls.specs.Layer.ReadState.{readState};
 ghost use Rattle.read_file.specs.Putting.{NextOfSome, PairPut};
-use files::Contents;
 use answers::Answer;
+use files::Contents;
 use settings::Settings;
 
 // The next pair: its key is above all that stand, `last` is the key before and `path` begins with that one's path, which becomes the new key's.
@@ -27,7 +27,7 @@ fn put_pair(
     requires { ⌜ NextOfSome (now list) s last (now path) (record { key = key; value = value }) × PowersOf s (now powers) ⌝ }
     ensures { λ r. ⌜ PairPut (now (list .entry)) (now (list .exit)) s last (now (path .entry)) (now (path .exit)) (record { key = key; value = value }) ⌝ }
 {
-    let p = words::shared(s, powers, last, key);
+    let p = steps::shared(s, powers, last, key);
     let n = list[words::FIRST_FREE];
     let parent = path[p as usize];
     insert::add_last(list, s, n, parent, p, key, value);

@@ -188,6 +188,10 @@ answers h k least most {r} is e =
 
 -- what is answered of the place where the walk rests is answered of the walk: g is that, and f what the function gives
 pub searched :
-    {ws : List ℕ} {k : ℕ} {r : Rest} {f g : Found} → r ≡ rest ws k → f ≡ g → g .looked ≡ r .looked → g ≡ foundOf (read ws) k → Searched ws k f
-searched {ws} {k} is same counted found =
-    record { found = same ∙ found; walked = ap (λ t. t .looked) same ∙ counted ∙ ap (λ t. t .looked) is ∙ rest-walk ws k }
+    {ws : List ℕ} {s : Settings} → Listed ws s → (k : ℕ) → 1 ≤ k → k ≤ s .largest → {r : Rest} {f g : Found} → r ≡ rest ws k → f ≡ g →
+    g .looked ≡ r .looked → g ≡ foundOf (read ws) k → Searched ws s k f
+searched {ws} h k least most is same counted found =
+    record {
+      sought = record { list = h; least = least; most = most; is = same ∙ found };
+      walked = ap (λ t. t .looked) same ∙ counted ∙ ap (λ t. t .looked) is ∙ rest-walk ws k;
+    }

@@ -20,15 +20,15 @@ use Rattle.meaning.specs.Operations.{fresh, setUpOut, fromLive, keysAbove, keys
 use Rattle.calls.specs.Calls.{Made, madeOn, afterCalls}
 use Rattle.files.specs.Files.{Pair}
 use Rattle.calls.specs.Pairs.{pair, livePairs}
+use Rattle.calls.specs.Effects.{effect, keepsSettings}
 use Rattle.calls.specs.Book.{bookOf, bookedAll}
-use Rattle.calls.specs.Promises.{ListsStayLists, CallsKeepLists, keepsSettings, CallsKeepSettings, takes, TakesInTurn, TakesEnd, CallsAreBooked}
+use Rattle.calls.specs.Promises.{ListsStayLists, CallsKeepLists, CallsKeepSettings, takes, TakesInTurn, TakesEnd, CallsAreBooked}
 use Rattle.meaning.proofs.Pictures.State.{Sound}
 use Rattle.meaning.proofs.Pictures.Picture.{picture-largest, picture-cells}
 use Rattle.meaning.proofs.Pictures.ReadBack.{read-of-picture, picture-is-list}
 use Rattle.meaning.proofs.Kept.KeepsSetUp.{fresh-sound}
 use Rattle.meaning.proofs.Kept.KeepsTake.{taken-sound}
-use Rattle.meaning.proofs.Outcomes.{on-lists, set-up-outcome-out-of-range, set-up-outcome-wrong-length, set-up-outcome, take-outcome-none}
-use Rattle.meaning.proofs.Outcomes.{take-outcome-first}
+use Rattle.meaning.proofs.Outcomes.{on-lists, set-up-outcome-out-of-range, set-up-outcome-wrong-length, set-up-outcome, take-outcome-none, take-outcome-first}
 use Rattle.calls.proofs.Booked.BookRow.{pairsIn, keysIn, pairs-empty, pairs-first}
 use Rattle.calls.proofs.Booked.BookCalls.{bookIn, call-booked, taken-pairs}
 
@@ -46,7 +46,7 @@ calls-keep-lists made =
 
 pub calls-keep-settings : CallsKeepSettings
 calls-keep-settings made ws list =
-    on-lists (λ us. keepsSettings (made .call) ≡ true → settingsAt (madeOn made us .left .words) ≡ settingsAt us) (λ s v keeps.
+    on-lists (λ us. keepsSettings (effect made (length us)) ≡ true → settingsAt (madeOn made us .left .words) ≡ settingsAt us) (λ s v keeps.
     let r = call-booked made s v in
     ap settingsAt (r .left) ∙ (picture-settings (r .after) (r .sound) ∙ (r .settings keeps ∙ sym (picture-settings s v))))
     ws list

@@ -5,32 +5,36 @@ use mathlib.Core.Bool.{Bool, true, false, cond, _&&_, true≢false}
 use mathlib.Core.List.{List, [], _∷_, _++_, map}
 use mathlib.Core.Option.{Option, none, some}
 use Prim.Native.Nat.{ℕ, suc, _+_, _≤_, _<_}
-use native.Mathlib.Decide.{ℕ-discrete, decLe}
+use native.Mathlib.Decide.{ℕ-discrete}
 use native.Mathlib.Omega.{arith}
-use lib.Dec.{eqb, leb}
+use lib.Dec.{eqb}
 use lib.ListN.{length, drop, length-map}
-use borrow.Author.Tests.{eq-eqb, ne-eqb, lt-ltb, le-ltb, le-leb, lt-leb}
+use borrow.Author.Tests.{eq-eqb, ne-eqb, lt-ltb, le-ltb}
 use Rattle.settings.specs.Numbers.{inRange, lengthOf}
 use Rattle.settings.specs.declared.Settings.{Settings}
+use Rattle.settings.proofs.Numbers.{key-in, key-out}
 use Rattle.lists.specs.Lists.{those}
 use Rattle.files.proofs.Files.{file-keeps}
 use Rattle.meaning.specs.Row.{Node, nodeAt}
 use Rattle.meaning.specs.State.{State}
 use Rattle.meaning.specs.Picture.{picture}
-use Rattle.meaning.specs.Operations.{fresh, paid, finished, withRow, revivedNode, revived, Slot, newNode, slotFor, slotOwes, added, deadFront}
-use Rattle.meaning.specs.Operations.{fromLive, deadNode, taken, swept}
-use Rattle.meaning.specs.Operations.{setUpOut, insertOut, findOut, finishOut, takeOut, sweepOut}
+use Rattle.meaning.specs.Operations.{fresh, paid, finished, withRow, revivedNode, revived, newNode, slotFor, slotOwes, added, deadFront}
+use Rattle.meaning.specs.Operations.{fromLive, deadNode, taken, swept, setUpOut, insertOut, findOut, finishOut, takeOut, sweepOut, operationOut}
+use Rattle.meaning.specs.declared.Slot.{Slot}
 use Rattle.answers.specs.Refusals.{Outcome}
 use Rattle.calls.specs.Records.{Lent, Asked, nothing, insertion, askedOut}
 use Rattle.calls.specs.Saved.{FileLent, fileLent, writeOut, readOut}
 use Rattle.calls.specs.Calls.{outcome, Made, lending, madeOn}
-use Rattle.calls.specs.Promises.{keepsSettings}
+use Rattle.calls.specs.Effects.{Effect, keeping, inserting, taking, sweeping, renewing, operationEffect, askedEffect, fileEffect, effectOf, askedIn}
+use Rattle.calls.specs.Effects.{effect, keepsSettings}
 use Rattle.files.specs.Files as files
 use Rattle.files.specs.Files.{Pair, settingsIn, contentsOf}
 use Rattle.calls.specs.Pairs.{pair}
-use Rattle.calls.specs.Book.{Book, hasKey, putPair, putKey, inserted, keyInserted, keptFrom, bookedCall, askedIn, booked}
+use Rattle.calls.specs.Book.{Book, hasKey, putPair, putKey, inserted, keyInserted, keptFrom, bookedBy}
 use Rattle.calls.specs.Layer.ReadState.{readState}
-use Rattle.calls.specs.declared.Call.the-variants.{SetUp, Insert, Find, Finish, Take, Sweep, Record, Write, Read}
+use Rattle.answers.specs.declared.Operation.{Operation}
+use Rattle.answers.specs.declared.Operation.the-variants.{Insert, Find, Finish, Take, Sweep}
+use Rattle.calls.specs.declared.Call.the-variants.{SetUp, Operate, Record, Write, Read}
 use Rattle.calls.specs.declared.Call.{Call}
 use Rattle.meaning.proofs.Rows.AscendingRow.{Asc}
 use Rattle.meaning.proofs.Pictures.State.{Sound}
@@ -43,7 +47,7 @@ use Rattle.meaning.proofs.Kept.KeepsSetUp.{fresh-sound}
 use Rattle.meaning.proofs.Kept.KeepsFinish.{paid-keeping, finished-sound}
 use Rattle.meaning.proofs.Kept.KeepsTake.{dead-keeping, taken-sound}
 use Rattle.meaning.proofs.Kept.KeepsSweep.{keptBy, paid-all-keeping, swept-sound}
-use Rattle.meaning.proofs.Rows.Nodes.{node-split}
+use Rattle.meaning.proofs.Rows.Nodes.{node-split, isThere, isLive, node-key}
 use Rattle.meaning.proofs.Kept.KeepsInsert.{revived-keeping, revived-sound, added-sound}
 use Rattle.meaning.proofs.Outcomes.{set-up-outcome-out-of-range, set-up-outcome-wrong-length, set-up-outcome, insert-outcome-bad-key}
 use Rattle.meaning.proofs.Outcomes.{insert-outcome-live, insert-outcome-dead, insert-outcome-full, insert-outcome-new, find-writes-nothing}
@@ -51,10 +55,7 @@ use Rattle.meaning.proofs.Outcomes.{finish-outcome-bad-key, finish-outcome-abse
 use Rattle.meaning.proofs.Outcomes.{take-outcome-first, sweep-outcome, key-cases, live-cases, free-cases}
 use Rattle.calls.proofs.Ends.{record-asks}
 use Rattle.calls.proofs.Booked.BookRow.{pairsIn, keysIn, pairs-dead, pairs-past, pairs-after, pairs-changed, pairs-put, key-stands}
-use Rattle.meaning.proofs.Rows.Nodes.{isThere, isLive}
-use Rattle.calls.proofs.Booked.BookRow.{key-lives, changed-alone, pairs-empty, pairs-first, kept-keys, kept-pairs, absent-changed}
-use Rattle.meaning.proofs.Rows.Nodes.{node-key}
-use Rattle.calls.proofs.Booked.BookRow.{put-pairs, put-keys}
+use Rattle.calls.proofs.Booked.BookRow.{key-lives, changed-alone, pairs-empty, pairs-first, kept-keys, kept-pairs, absent-changed, put-pairs, put-keys}
 use Rattle.calls.proofs.Restarted.ReadIn.{read-state-sound, read-list}
 use Rattle.calls.proofs.Restarted.Saved.{write-keeps-words, read-outcome-bad-file, read-outcome-wrong-length, read-cases, read-leaves}
 
@@ -62,22 +63,18 @@ use Rattle.calls.proofs.Restarted.Saved.{write-keeps-words, read-outcom
 abbrev pub bookIn : State → Book
 bookIn s = record { largest = s .settings .largest; cells = s .settings .cells; pairs = pairsIn (s .row); standing = keysIn (s .row) }
 
--- the words that a call leaves are those of a state in order, with this book, and with the settings that it had if the call keeps them
-pub record Booking (s : State) (words : List ℕ) (done : Book) (keeps : Bool) : Type 0 where
+-- the words that a call of this effect leaves are those of a state in order, with the book that it makes, and with the settings that it had if it keeps them
+pub record Booking (s : State) (words : List ℕ) (effect : Effect) : Type 0 where
   pub after : State
   pub sound : Sound after
   pub left : words ≡ picture after
   pub long : length (picture after) ≡ length (picture s)
-  pub book : bookIn after ≡ done
-  pub settings : keeps ≡ true → after .settings ≡ s .settings
+  pub book : bookIn after ≡ bookedBy effect (bookIn s)
+  pub settings : keepsSettings effect ≡ true → after .settings ≡ s .settings
 
 -- a call that writes nothing
-still : {keeps : Bool} (s : State) (words : List ℕ) (book : Book) → Sound s → words ≡ picture s → book ≡ bookIn s → Booking s words book keeps
-still s words book v same kept = record { after = s; sound = v; left = same; long = refl; book = sym kept; settings = λ e. refl }
-
--- what a call does to a state's book, where a record asks for this and these bytes are lent
-abbrev bookedIn : Call → Asked → List ℕ → State → Book
-bookedIn call asked bytes s = bookedCall call asked bytes (length (picture s)) (bookIn s)
+still : (s : State) (words : List ℕ) (effect : Effect) → Sound s → words ≡ picture s → bookedBy effect (bookIn s) ≡ bookIn s → Booking s words effect
+still s words effect v same kept = record { after = s; sound = v; left = same; long = refl; book = sym kept; settings = λ e. refl }
 
 -- the book of a state with the settings of another one
 book-is : (s t : State) (pairs : List Pair) (keys : List ℕ) → t .settings ≡ s .settings → pairsIn (t .row) ≡ pairs → keysIn (t .row) ≡ keys →
@@ -90,34 +87,35 @@ same-length s t e = picture-length t ∙ ap (λ n. lengthOf (n .dimensions) (n .
 
 -- Set up
 
-pub set-up-booked :
-    (asked : Asked) (bytes : List ℕ) (D K C : ℕ) (s : State) → Sound s →
-    Booking s (setUpOut D K C (picture s) .left) (bookedIn (SetUp D K C) asked bytes s) false
-unfolding bookedCall fresh those
-set-up-booked asked bytes D K C s v = at (inRange D K C) refl (ℕ-discrete (length (picture s)) (lengthOf D C))
-  where
-    long : ℕ
-    long = length (picture s)
+module _ (D K C : ℕ) (s : State) (v : Sound s) where
+  long : ℕ
+  long = length (picture s)
 
-    new : Book
-    new = record { largest = K; cells = C; pairs = []; standing = [] }
+  renewed : Bool → Bool → Effect
+  renewed t u = cond (t && u) (renewing K C []) keeping
 
-    at : (t : Bool) → inRange D K C ≡ t → Dec (long ≡ lengthOf D C) → Booking s (setUpOut D K C (picture s) .left) (bookedIn (SetUp D K C) asked bytes s) false
-    at false e l =
-        still s _ _ v (ap (λ o. o .left) (set-up-outcome-out-of-range D K C (picture s) e))
-        (ap (λ t. cond (t && eqb long (lengthOf D C)) new (bookIn s)) e)
-    at true e (no l) =
-        still s _ _ v (ap (λ o. o .left) (set-up-outcome-wrong-length D K C (picture s) e l))
-        (ap₂ (λ t u. cond (t && u) new (bookIn s)) e (ne-eqb long (lengthOf D C) l))
-    at true e (yes l) =
-        record {
-          after = fresh D K C;
-          sound = fresh-sound D K C e;
-          left = ap (λ o. o .left) (set-up-outcome D K C (picture s) e l);
-          long = picture-length (fresh D K C) ∙ sym l;
-          book = sym (ap₂ (λ t u. cond (t && u) new (bookIn s)) e (eq-eqb long (lengthOf D C) l));
-          settings = λ f. absurd (true≢false (sym f));
-        }
+  set-up-booked : Booking s (setUpOut D K C (picture s) .left) (renewed (inRange D K C) (eqb long (lengthOf D C)))
+  unfolding long renewed bookedBy fresh those
+  set-up-booked = at (inRange D K C) refl (ℕ-discrete long (lengthOf D C))
+    where
+      at : (t : Bool) → inRange D K C ≡ t → Dec (long ≡ lengthOf D C) →
+          Booking s (setUpOut D K C (picture s) .left) (renewed (inRange D K C) (eqb long (lengthOf D C)))
+      at false e l =
+          still s _ _ v (ap (λ o. o .left) (set-up-outcome-out-of-range D K C (picture s) e))
+          (ap (λ t. bookedBy (renewed t (eqb long (lengthOf D C))) (bookIn s)) e)
+      at true e (no l) =
+          still s _ _ v (ap (λ o. o .left) (set-up-outcome-wrong-length D K C (picture s) e l))
+          (ap₂ (λ t u. bookedBy (renewed t u) (bookIn s)) e (ne-eqb long (lengthOf D C) l))
+      at true e (yes l) =
+          let exact = eq-eqb long (lengthOf D C) l in
+          record {
+            after = fresh D K C;
+            sound = fresh-sound D K C e;
+            left = ap (λ o. o .left) (set-up-outcome D K C (picture s) e l);
+            long = picture-length (fresh D K C) ∙ sym l;
+            book = sym (ap₂ (λ t u. bookedBy (renewed t u) (bookIn s)) e exact);
+            settings = λ f. absurd (true≢false (sym f ∙ ap₂ (λ t u. keepsSettings (renewed t u)) e exact));
+          }
 
 -- Insert
 
@@ -147,15 +145,11 @@ inserted-new key value k e f h = rw (e, f, lt-ltb (suc (length (k .standing))) (
 -- a key in range is tried, another one is not
 booked-tried : (key value : ℕ) (k : Book) → 1 ≤ key → key ≤ k .largest → keyInserted key value k ≡ inserted key value k
 unfolding keyInserted
-booked-tried key value k l h = rw (le-leb 1 key l, le-leb key (k .largest) h) refl
+booked-tried key value k l h = rw (key-in l h) refl
 
 booked-untried : (key value : ℕ) (k : Book) → (1 ≤ key → k .largest < key) → keyInserted key value k ≡ k
 unfolding keyInserted
-booked-untried key value k f = at (decLe 1 key)
-  where
-    at : Dec (1 ≤ key) → cond (leb 1 key && leb key (k .largest)) (inserted key value k) k ≡ k
-    at (yes l) = rw (le-leb 1 key l, lt-leb key (k .largest) (f l)) refl
-    at (no l) = let below : key < 1 = omega arith in rw (lt-leb 1 key below) refl
+booked-untried key value k f = rw (key-out f) refl
 
 -- the standing keys leave as many cells as are free
 pub room : (s : State) → Sound s → suc (length (keysIn (s .row)) + length (s .free)) ≡ s .settings .cells
@@ -225,7 +219,7 @@ module _ (s : State) (v : Sound s) (key value : ℕ) (t : Slot) (absent : nodeAt
 
 -- what an insert does to a state
 abbrev InsertBooking : State → ℕ → ℕ → Type 0
-InsertBooking s key value = Booking s (insertOut (picture s) key value .left) (keyInserted key value (bookIn s)) true
+InsertBooking s key value = Booking s (insertOut (picture s) key value .left) (inserting key value)
 
 module _ (s : State) (v : Sound s) (key value : ℕ) (l : 1 ≤ key) (h : key ≤ s .settings .largest) where
   tried : keyInserted key value (bookIn s) ≡ inserted key value (bookIn s)
@@ -238,12 +232,13 @@ module _ (s : State) (v : Sound s) (key value : ℕ) (l : 1 ≤ key) (h : key �
   stands o e = key-stands key (s .row) ∙ ap isThere e
 
   insert-live-booked : (x : Node) → nodeAt key (s .row) ≡ some x → x .live ≡ true → InsertBooking s key value
+  unfolding bookedBy
   insert-live-booked x e live =
       still s _ _ v (ap (λ o. o .left) (insert-outcome-live s v key value l h x e live))
       (tried ∙ inserted-live key value (bookIn s) (lives (some x) e ∙ live))
 
   insert-dead-booked : (x : Node) → nodeAt key (s .row) ≡ some x → x .live ≡ false → InsertBooking s key value
-  unfolding revived
+  unfolding revived bookedBy
   insert-dead-booked x e dead =
       record {
         after = revived s x value;
@@ -258,12 +253,13 @@ module _ (s : State) (v : Sound s) (key value : ℕ) (l : 1 ≤ key) (h : key �
       }
 
   insert-full-booked : nodeAt key (s .row) ≡ none → length (s .free) ≡ 0 → InsertBooking s key value
+  unfolding bookedBy
   insert-full-booked e full =
       still s _ _ v (ap (λ o. o .left) (insert-outcome-full s v key value l h e full))
       (tried ∙ inserted-full key value (bookIn s) (lives none e) (stands none e) (let n = room s v in omega arith))
 
   insert-new-booked : nodeAt key (s .row) ≡ none → 0 < length (s .free) → InsertBooking s key value
-  unfolding added
+  unfolding added bookedBy
   insert-new-booked e space =
       let t = slotFor s key in
       record {
@@ -279,6 +275,7 @@ module _ (s : State) (v : Sound s) (key value : ℕ) (l : 1 ≤ key) (h : key �
       }
 
 pub insert-booked : (key value : ℕ) (s : State) → Sound s → InsertBooking s key value
+unfolding bookedBy
 insert-booked key value s v =
     key-cases s key
     (λ n. still s _ _ v (ap (λ o. o .left) (insert-outcome-bad-key s v key value n))
@@ -288,15 +285,15 @@ insert-booked key value s v =
 
 -- Find
 
-pub find-booked : (asked : Asked) (bytes : List ℕ) (key : ℕ) (s : State) → Sound s → Booking s (findOut (picture s) key .left) (bookedIn (Find key) asked bytes s) true
-unfolding bookedCall
-find-booked asked bytes key s v = still s _ _ v (find-writes-nothing (picture s) key) refl
+find-booked : (key : ℕ) (s : State) → Sound s → Booking s (findOut (picture s) key .left) keeping
+unfolding bookedBy
+find-booked key s v = still s _ _ v (find-writes-nothing (picture s) key) refl
 
 -- Finish
 
-pub finish-booked : (asked : Asked) (bytes : List ℕ) (key : ℕ) (s : State) → Sound s → Booking s (finishOut (picture s) key .left) (bookedIn (Finish key) asked bytes s) true
-unfolding bookedCall
-finish-booked asked bytes key s v =
+finish-booked : (key : ℕ) (s : State) → Sound s → Booking s (finishOut (picture s) key .left) keeping
+unfolding bookedBy
+finish-booked key s v =
     key-cases s key
     (λ n. still s _ _ v (ap (λ o. o .left) (finish-outcome-bad-key s v key n)) refl)
     (λ l h e. still s _ _ v (ap (λ o. o .left) (finish-outcome-absent s v key l h e)) refl)
@@ -325,14 +322,14 @@ pub taken-keys : (s : State) (x : Node) → keysIn (taken s x .row) ≡ keysIn (
 unfolding taken
 taken-keys s x = keys-changed (onCell (x .cell) deadNode) (dead-keeping (x .cell)) (s .row)
 
-pub take-booked : (asked : Asked) (bytes : List ℕ) (s : State) → Sound s → Booking s (takeOut (picture s) .left) (bookedIn Take asked bytes s) true
-unfolding bookedCall taken
-take-booked asked bytes s v = at (fromLive (s .row)) refl
+take-booked : (s : State) → Sound s → Booking s (takeOut (picture s) .left) taking
+unfolding bookedBy taken
+take-booked s v = at (fromLive (s .row)) refl
   where
     gone : List Pair → Book
     gone pairs = record { largest = s .settings .largest; cells = s .settings .cells; pairs = drop 1 pairs; standing = keysIn (s .row) }
 
-    at : (rest : List Node) → fromLive (s .row) ≡ rest → Booking s (takeOut (picture s) .left) (bookedIn Take asked bytes s) true
+    at : (rest : List Node) → fromLive (s .row) ≡ rest → Booking s (takeOut (picture s) .left) taking
     at [] e =
         let none = pairs-empty (s .row) e in
         still s _ _ v (ap (λ o. o .left) (take-outcome-none s v e))
@@ -359,9 +356,9 @@ pub swept-keys : (s : State) → Sound s → keysIn (swept s .row) ≡ keptFrom 
 unfolding swept
 swept-keys s v = keys-changed paid paid-all-keeping (keptBy (s .row)) ∙ sym (kept-keys (s .row) (v .ascends))
 
-pub sweep-booked : (asked : Asked) (bytes : List ℕ) (s : State) → Sound s → Booking s (sweepOut (picture s) .left) (bookedIn Sweep asked bytes s) true
-unfolding bookedCall swept
-sweep-booked asked bytes s v =
+sweep-booked : (s : State) → Sound s → Booking s (sweepOut (picture s) .left) sweeping
+unfolding bookedBy swept
+sweep-booked s v =
     record {
       after = swept s;
       sound = swept-sound s v;
@@ -371,26 +368,34 @@ sweep-booked asked bytes s v =
       settings = λ e. refl;
     }
 
+-- Any of the five
+
+operation-booked : (operation : Operation) (s : State) → Sound s → Booking s (operationOut operation (picture s) .left) (operationEffect operation)
+operation-booked (Insert key value) s v = insert-booked key value s v
+operation-booked (Find key) s v = find-booked key s v
+operation-booked (Finish key) s v = finish-booked key s v
+operation-booked Take s v = take-booked s v
+operation-booked Sweep s v = sweep-booked s v
+
 -- Record
 
-asked-booked : (made : Made) (asked : Asked) (s : State) → Sound s → Booking s (askedOut (lending made (picture s)) asked .left .words) (bookedIn Record asked (made .bytes) s) true
-unfolding bookedCall
+asked-booked : (made : Made) (asked : Asked) (s : State) → Sound s → Booking s (askedOut (lending made (picture s)) asked .left .words) (askedEffect asked)
+unfolding bookedBy
 asked-booked made (nothing refusal) s v = still s _ _ v refl refl
 asked-booked made (insertion key number) s v = insert-booked key number s v
 
 -- Write
 
-write-booked : (asked : Asked) (bytes : List ℕ) (s : State) → Sound s →
-    Booking s (writeOut (fileLent (picture s) bytes) .left .words) (bookedIn Write asked bytes s) true
-unfolding bookedCall
-write-booked asked bytes s v = still s _ _ v (write-keeps-words (fileLent (picture s) bytes)) refl
+write-booked : (bytes : List ℕ) (s : State) → Sound s → Booking s (writeOut (fileLent (picture s) bytes) .left .words) keeping
+unfolding bookedBy
+write-booked bytes s v = still s _ _ v (write-keeps-words (fileLent (picture s) bytes)) refl
 
 -- Read
 
-read-booked : (asked : Asked) (bytes : List ℕ) (s : State) → Sound s →
-    Booking s (readOut (fileLent (picture s) bytes) .left .words) (bookedIn Read asked bytes s) false
-unfolding bookedCall contentsOf readState
-read-booked asked bytes s v =
+read-booked : (bytes : List ℕ) (s : State) → Sound s →
+    Booking s (readOut (fileLent (picture s) bytes) .left .words) (fileEffect (contentsOf bytes) (files.pairsIn bytes) (length (picture s)))
+unfolding bookedBy contentsOf readState
+read-booked bytes s v =
     read-cases lent
     (λ e. still s _ _ v (ap (λ o. o .left .words) (read-outcome-bad-file lent e)) (rw e refl))
     (λ e ne. still s _ _ v (ap (λ o. o .left .words) (read-outcome-wrong-length lent e ne))
@@ -409,7 +414,7 @@ read-booked asked bytes s v =
           book-is t t pairs (map (λ p. p .key) pairs) refl
           (ap (λ u. pairsIn (u .row)) back ∙ list .live) (ap (λ u. keysIn (u .row)) back ∙ list .standing)
           ∙ sym (rw (e, eq-eqb (length (picture s)) (lengthOf (kept .dimensions) (kept .cells)) exact) refl);
-      settings = λ f. absurd (true≢false (sym f));
+      settings = λ f. absurd (true≢false (rw (e, eq-eqb (length (picture s)) (lengthOf (kept .dimensions) (kept .cells)) exact) at (sym f)));
     })
   where
     lent : FileLent
@@ -423,21 +428,15 @@ read-booked asked bytes s v =
 
 -- Every call
 
-pub call-booked :
-    (made : Made) (s : State) → Sound s →
-    Booking s (madeOn made (picture s) .left .words) (booked made (length (picture s)) (bookIn s)) (keepsSettings (made .call))
-unfolding outcome bookedCall
+pub call-booked : (made : Made) (s : State) → Sound s → Booking s (madeOn made (picture s) .left .words) (effect made (length (picture s)))
+unfolding outcome long renewed
 call-booked made s v = at (made .call)
   where
-    at : (call : Call) → Booking s (outcome call (lending made (picture s)) .left .words) (bookedIn call (askedIn made) (made .bytes) s) (keepsSettings call)
-    at (SetUp D K C) = set-up-booked (askedIn made) (made .bytes) D K C s v
-    at (Insert key value) = insert-booked key value s v
-    at (Find key) = find-booked (askedIn made) (made .bytes) key s v
-    at (Finish key) = finish-booked (askedIn made) (made .bytes) key s v
-    at Take = take-booked (askedIn made) (made .bytes) s v
-    at Sweep = sweep-booked (askedIn made) (made .bytes) s v
+    at : (call : Call) → Booking s (outcome call (lending made (picture s)) .left .words) (effectOf call (askedIn made) (made .bytes) (length (picture s)))
+    at (SetUp D K C) = set-up-booked D K C s v
+    at (Operate operation) = operation-booked operation s v
     at Record =
-        subst (λ (o : Outcome Lent). Booking s (o .left .words) (bookedIn Record (askedIn made) (made .bytes) s) true) (sym (record-asks (lending made (picture s)) (picture-is-list s v)))
+        subst (λ (o : Outcome Lent). Booking s (o .left .words) (askedEffect (askedIn made))) (sym (record-asks (lending made (picture s)) (picture-is-list s v)))
         (asked-booked made (askedIn made) s v)
-    at Write = write-booked (askedIn made) (made .bytes) s v
-    at Read = read-booked (askedIn made) (made .bytes) s v
+    at Write = write-booked (made .bytes) s v
+    at Read = read-booked (made .bytes) s v

@@ -1,17 +1,17 @@
 -- What each call answers, but for its count, follows from the live pairs and the standing keys: each outcome of a call on a state in order
 -- (Outcomes.antt) is the one that an ordered map with its pairs and keys would give.
 use mathlib.Core.Path.{_≡_, refl, sym, _∙_, ap}
-use mathlib.Core.Bool.{Bool, true, false, cond, _&&_}
+use mathlib.Core.Bool.{Bool, true, false}
 use mathlib.Core.List.{List, [], _∷_}
 use mathlib.Core.Option.{Option, none, some}
 use Prim.Native.Nat.{ℕ, suc, _≤_, _<_}
-use native.Mathlib.Decide.{ℕ-discrete, decLe}
+use native.Mathlib.Decide.{ℕ-discrete}
 use native.Mathlib.Omega.{arith}
-use lib.Dec.{leb}
 use lib.ListN.{length}
 use borrow.Author.Tests.{eq-eqb, ne-eqb, lt-ltb, le-ltb, le-leb, lt-leb}
 use Rattle.settings.specs.Numbers.{inRange, lengthOf}
 use Rattle.settings.specs.declared.Settings.{Settings}
+use Rattle.settings.proofs.Numbers.{key-in, key-out}
 use Rattle.files.specs.Files.{Pair, fileLength, settingsIn, contentsOf}
 use Rattle.files.proofs.Written.{file-length}
 use Rattle.meaning.specs.Row.{Node, nodeAt}
@@ -20,20 +20,23 @@ use Rattle.meaning.specs.Picture.{picture}
 use Rattle.meaning.specs.Reading.{settingsAt, isList}
 use Rattle.calls.specs.Pairs.{livePairs}
 use Rattle.answers.specs.Refusals.{Outcome}
-use Rattle.meaning.specs.Operations.{setUpOut, insertOut, findOut, finishOut, fromLive, takeOut}
+use Rattle.meaning.specs.Operations.{setUpOut, insertOut, findOut, finishOut, fromLive, takeOut, operationOut}
 use Rattle.calls.specs.Records.{Lent, Asked, nothing, insertion, askedOut}
 use Rattle.calls.specs.Saved.{FileLent, fileLent, writeOut, readOut}
 use Rattle.calls.specs.Calls.{outcome, Made, lending, madeOn}
-use Rattle.calls.specs.Book.{Book, bookOf, Reply, replies, replyIn, hasKey, valueIn, liveIn, keyed, insertReply, takeReply, replyToCall, askedIn, replyTo}
+use Rattle.calls.specs.Book.{Book, bookOf, Reply, replies, replyIn, hasKey, valueIn, liveIn, keyed, insertReply, takeReply, operationReply, askedReply, replyToCall}
+use Rattle.calls.specs.Book.{replyTo}
+use Rattle.calls.specs.Effects.{askedIn}
 use Rattle.calls.specs.Promises.{AnswersAreBooked}
-use Rattle.calls.specs.declared.Call.the-variants.{SetUp, Insert, Find, Finish, Take, Sweep, Record, Write, Read}
+use Rattle.answers.specs.declared.Operation.{Operation}
+use Rattle.answers.specs.declared.Operation.the-variants.{Insert, Find, Finish, Take, Sweep}
+use Rattle.calls.specs.declared.Call.the-variants.{SetUp, Operate, Record, Write, Read}
 use Rattle.calls.specs.declared.Call.{Call}
 use Rattle.meaning.proofs.Pictures.State.{Sound}
 use Rattle.meaning.proofs.Outcomes.{on-lists, set-up-outcome-out-of-range, set-up-outcome-wrong-length, set-up-outcome, insert-outcome-bad-key}
 use Rattle.meaning.proofs.Outcomes.{insert-outcome-live, insert-outcome-dead, insert-outcome-full, insert-outcome-new, find-outcome-bad-key}
 use Rattle.meaning.proofs.Outcomes.{find-outcome-absent, find-outcome-dead, find-outcome-live, finish-outcome-bad-key, finish-outcome-absent}
-use Rattle.meaning.proofs.Outcomes.{finish-outcome-standing, take-outcome-none, take-outcome-first, sweep-outcome}
-use Rattle.meaning.proofs.Outcomes.{key-cases, live-cases, free-cases}
+use Rattle.meaning.proofs.Outcomes.{finish-outcome-standing, take-outcome-none, take-outcome-first, sweep-outcome, key-cases, live-cases, free-cases}
 use Rattle.calls.proofs.Ends.{record-asks}
 use Rattle.meaning.proofs.Pictures.ReadBack.{picture-is-list}
 use Rattle.calls.proofs.Booked.BookRow.{pairsIn, keysIn, pairs-live, pairs-dead, key-stands, key-lives, pairs-empty, pairs-first}
@@ -64,15 +67,11 @@ pair-value key x (y ∷ row) e live = at (ℕ-discrete (y .key) key) (pair-value
 -- a call with a key in range, and with another
 keyed-good : (key : ℕ) (k : Book) (reply : Reply) → 1 ≤ key → key ≤ k .largest → keyed key k reply ≡ reply
 unfolding keyed
-keyed-good key k reply l h = rw (le-leb 1 key l, le-leb key (k .largest) h) refl
+keyed-good key k reply l h = rw (key-in l h) refl
 
 keyed-bad : (key : ℕ) (k : Book) (reply : Reply) → (1 ≤ key → k .largest < key) → keyed key k reply ≡ replies 4 0 0
 unfolding keyed
-keyed-bad key k reply f = at (decLe 1 key)
-  where
-    at : Dec (1 ≤ key) → cond (leb 1 key && leb key (k .largest)) reply (replies 4 0 0) ≡ replies 4 0 0
-    at (yes l) = rw (le-leb 1 key l, lt-leb key (k .largest) (f l)) refl
-    at (no l) = let below : key < 1 = omega arith in rw (lt-leb 1 key below) refl
+keyed-bad key k reply f = rw (key-out f) refl
 
 -- what an outcome on a state answers is what the state's book tells, where a record asks for this and these bytes are lent
 abbrev Replied : {Lent : Type 0} → Call → Asked → List ℕ → State → Outcome Lent → Type 0
@@ -114,9 +113,9 @@ module _ (s : State) (v : Sound s) (key : ℕ) where
       (λ q. answering (insert-outcome-dead s v key value l h x e q) ∙ sym (keyed-good key (bookIn s) _ l h
       ∙ rw (lives (some x) e ∙ q, stands (some x) e) refl)))
 
-  find-reply : (asked : Asked) (bytes : List ℕ) → Replied (Find key) asked bytes s (findOut (picture s) key)
-  unfolding replyToCall
-  find-reply asked bytes =
+  find-reply : replyIn (findOut (picture s) key .answered) ≡ operationReply (Find key) (bookIn s)
+  unfolding operationReply
+  find-reply =
       key-cases s key
       (λ n. answering (find-outcome-bad-key s v key n) ∙ sym (keyed-bad key (bookIn s) _ n))
       (λ l h e. answering (find-outcome-absent s v key l h e) ∙ sym (keyed-good key (bookIn s) _ l h ∙ rw (lives none e) refl))
@@ -125,28 +124,33 @@ module _ (s : State) (v : Sound s) (key : ℕ) where
       ∙ rw (lives (some x) e ∙ q, pair-value key x (s .row) e q) refl))
       (λ q. answering (find-outcome-dead s v key l h x e q) ∙ sym (keyed-good key (bookIn s) _ l h ∙ rw (lives (some x) e ∙ q) refl)))
 
-  finish-reply : (asked : Asked) (bytes : List ℕ) → Replied (Finish key) asked bytes s (finishOut (picture s) key)
-  unfolding replyToCall
-  finish-reply asked bytes =
+  finish-reply : replyIn (finishOut (picture s) key .answered) ≡ operationReply (Finish key) (bookIn s)
+  unfolding operationReply
+  finish-reply =
       key-cases s key
       (λ n. answering (finish-outcome-bad-key s v key n) ∙ sym (keyed-bad key (bookIn s) _ n))
       (λ l h e. answering (finish-outcome-absent s v key l h e) ∙ sym (keyed-good key (bookIn s) _ l h ∙ rw (stands none e) refl))
       (λ l h x e. answering (finish-outcome-standing s v key l h x e) ∙ sym (keyed-good key (bookIn s) _ l h ∙ rw (stands (some x) e) refl))
 
-take-reply : (asked : Asked) (bytes : List ℕ) (s : State) → Sound s → Replied Take asked bytes s (takeOut (picture s))
-unfolding replyToCall
-take-reply asked bytes s v = at (fromLive (s .row)) refl
+take-reply : (s : State) → Sound s → replyIn (takeOut (picture s) .answered) ≡ operationReply Take (bookIn s)
+unfolding operationReply
+take-reply s v = at (fromLive (s .row)) refl
   where
-    at : (rest : List Node) → fromLive (s .row) ≡ rest → Replied Take asked bytes s (takeOut (picture s))
+    at : (rest : List Node) → fromLive (s .row) ≡ rest → replyIn (takeOut (picture s) .answered) ≡ operationReply Take (bookIn s)
     at [] e = answering (take-outcome-none s v e) ∙ sym (ap takeReply (pairs-empty (s .row) e))
     at (x ∷ later) e = answering (take-outcome-first s v x later e) ∙ sym (ap takeReply (pairs-first (s .row) x later e))
 
-asked-reply :
-    (made : Made) (asked : Asked) (s : State) → Sound s →
-    replyIn (askedOut (lending made (picture s)) asked .answered) ≡ replyToCall Record asked (made .bytes) (length (picture s)) (bookIn s)
-unfolding replyToCall
+operation-reply : (operation : Operation) (s : State) → Sound s → replyIn (operationOut operation (picture s) .answered) ≡ operationReply operation (bookIn s)
+unfolding operationReply
+operation-reply (Insert key value) s v = insert-reply s v key value
+operation-reply (Find key) s v = find-reply s v key
+operation-reply (Finish key) s v = finish-reply s v key
+operation-reply Take s v = take-reply s v
+operation-reply Sweep s v = answering (sweep-outcome s v)
+
+asked-reply : (made : Made) (asked : Asked) (s : State) → Sound s → replyIn (askedOut (lending made (picture s)) asked .answered) ≡ askedReply asked (bookIn s)
 asked-reply made (nothing refusal) s v = refl
-asked-reply made (insertion key number) s v = insert-reply s v key number
+asked-reply made (insertion key number) s v = operation-reply (Insert key number) s v
 
 -- the file of a state is as long as its pairs say
 write-reply : (asked : Asked) (bytes : List ℕ) (s : State) → Sound s → Replied Write asked bytes s (writeOut (fileLent (picture s) bytes))
@@ -187,11 +191,7 @@ call-reply made s v = at (made .call)
         (call : Call) →
         replyIn (outcome call (lending made (picture s)) .answered) ≡ replyToCall call (askedIn made) (made .bytes) (length (picture s)) (bookIn s)
     at (SetUp D K C) = set-up-reply (askedIn made) (made .bytes) D K C s
-    at (Insert key value) = insert-reply s v key value
-    at (Find key) = find-reply s v key (askedIn made) (made .bytes)
-    at (Finish key) = finish-reply s v key (askedIn made) (made .bytes)
-    at Take = take-reply (askedIn made) (made .bytes) s v
-    at Sweep = answering (sweep-outcome s v)
+    at (Operate operation) = operation-reply operation s v
     at Record = answering (record-asks (lending made (picture s)) (picture-is-list s v)) ∙ asked-reply made (askedIn made) s v
     at Write = write-reply (askedIn made) (made .bytes) s v
     at Read = read-reply (askedIn made) (made .bytes) s

@@ -21,8 +21,8 @@ use Rattle.meaning.specs.Row.{Node, nodeAt, put}
 use Rattle.meaning.specs.State.{State, positionKey}
 use Rattle.meaning.specs.Picture.{picture}
 use Rattle.answers.specs.Refusals.{accepted}
-use Rattle.meaning.specs.Operations.{paid, finished, withRow, looked, fresh, positionAfter, Slot, newNode, slotFor, slotOwes, added, insertOut}
-use Rattle.meaning.specs.Operations.{finishOut}
+use Rattle.meaning.specs.Operations.{paid, finished, withRow, looked, fresh, positionAfter, newNode, slotFor, slotOwes, added, insertOut, finishOut}
+use Rattle.meaning.specs.declared.Slot.{Slot}
 use Rattle.calls.specs.Saved.{insertedAll, finishedAll, readIn}
 use Rattle.calls.specs.Layer.ReadState.{nodesFrom, readState}
 use Rattle.meaning.proofs.Rows.Places.{node-past, onCell-cases}

@@ -17,13 +17,12 @@ use Rattle.meaning.specs.Reading.{read, settingsAt, isList}
 use Rattle.answers.specs.Refusals.{Outcome, accepted, answer}
 use Rattle.calls.specs.Pairs.{livePairs}
 use Rattle.calls.specs.Saved.{FileLent, fileLent, writeOut, readOut}
-use Rattle.calls.specs.Calls.{alone, outcome, afterCalls}
+use Rattle.calls.specs.Calls.{operated, outcome, afterCalls}
 use Rattle.calls.specs.Promises.{ReadList, ReadIsFresh, ValuesFit, Restarted, WriteThenRead, FileIsWritten}
-use Rattle.calls.specs.declared.Call.the-variants.{Insert, Finish}
+use Rattle.answers.specs.declared.Operation.the-variants.{Insert, Finish}
 use Rattle.meaning.proofs.Pictures.ReadBack.{list-sound}
 use Rattle.meaning.proofs.Outcomes.{set-up-outcome}
-use Rattle.calls.proofs.Restarted.Saved.{state-kept, list-length, fileFor, write-outcome, write-accepted, read-accepted}
-use Rattle.calls.proofs.Restarted.Saved.{read-is-calls, read-gives-list}
+use Rattle.calls.proofs.Restarted.Saved.{state-kept, list-length, fileFor, write-outcome, write-accepted, read-accepted, read-is-calls, read-gives-list}
 use Rattle.calls.proofs.Booked.Book.{takes-in-turn}
 
 -- What is written is read
@@ -114,7 +113,7 @@ read-is-fresh lent z =
       K = s .largest;
       C = s .cells;
       lent = lent .words;
-      calls = map (λ p. alone (Insert (p .key) (p .value))) pairs ++ map (λ p. alone (Finish (p .key))) pairs;
+      calls = map (λ p. operated (Insert (p .key) (p .value))) pairs ++ map (λ p. operated (Finish (p .key))) pairs;
       accepted =
           ap (λ o. o .answered .refusal) (
           set-up-outcome (s .dimensions) (s .largest) (s .cells) (lent .words) (keepable s pairs (file-keeps (lent .file) (a .0)) .ranges) (a .1)

@@ -26,10 +26,10 @@ use Rattle.answers.specs.Refusals.{Outcome, accepted, wrongLength, notAList, ba
 use Rattle.meaning.specs.Operations.{setUpOut}
 use Rattle.calls.specs.Pairs.{livePairs}
 use Rattle.calls.specs.Saved.{FileLent, fileLent, written, writeOn, writeOut, insertedAll, finishedAll, readIn, readFrom, readOut}
-use Rattle.calls.specs.Calls.{Made, alone, outcome, afterCalls}
+use Rattle.calls.specs.Calls.{Made, operated, outcome, afterCalls}
 use Rattle.calls.specs.Promises.{fileCalls, ReadIsCalls, ReadList, ReadGivesList}
 use Rattle.calls.specs.Layer.ReadState.{readState}
-use Rattle.calls.specs.declared.Call.the-variants.{Insert, Finish}
+use Rattle.answers.specs.declared.Operation.the-variants.{Insert, Finish}
 use Rattle.meaning.specs.declared.Reading.{Reading}
 use Rattle.meaning.specs.declared.Reading.the-variants.{IsList, NotAList}
 use Rattle.meaning.proofs.Rows.AscendingRow.{Asc}
@@ -181,12 +181,12 @@ read-accepted lent z =
 -- Reading is the calls that it stands for
 
 inserted-calls : (pairs : List Pair) (calls : List Made) (ws : List ℕ) →
-    afterCalls (map (λ p. alone (Insert (p .key) (p .value))) pairs ++ calls) ws ≡ afterCalls calls (insertedAll pairs ws)
+    afterCalls (map (λ p. operated (Insert (p .key) (p .value))) pairs ++ calls) ws ≡ afterCalls calls (insertedAll pairs ws)
 unfolding afterCalls insertedAll outcome
 inserted-calls [] calls ws = refl
 inserted-calls (p ∷ pairs) calls ws = inserted-calls pairs calls _
 
-finished-calls : (pairs : List Pair) (ws : List ℕ) → afterCalls (map (λ p. alone (Finish (p .key))) pairs) ws ≡ finishedAll pairs ws
+finished-calls : (pairs : List Pair) (ws : List ℕ) → afterCalls (map (λ p. operated (Finish (p .key))) pairs) ws ≡ finishedAll pairs ws
 unfolding afterCalls finishedAll outcome
 finished-calls [] ws = refl
 finished-calls (p ∷ pairs) ws = finished-calls pairs _
@@ -195,7 +195,7 @@ read-calls : (s : Settings) (pairs : List Pair) (ws : List ℕ) → readIn s pai
 unfolding readIn afterCalls outcome
 read-calls s pairs ws =
     let fresh = setUpOut (s .dimensions) (s .largest) (s .cells) ws .left in
-    sym (inserted-calls pairs (map (λ p. alone (Finish (p .key))) pairs) fresh ∙ finished-calls pairs (insertedAll pairs fresh))
+    sym (inserted-calls pairs (map (λ p. operated (Finish (p .key))) pairs) fresh ∙ finished-calls pairs (insertedAll pairs fresh))
 
 pub read-is-calls : ReadIsCalls
 read-is-calls lent z =

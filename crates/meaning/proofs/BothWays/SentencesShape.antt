@@ -28,8 +28,7 @@ use Rattle.meaning.proofs.BothWays.SentencesRow.Followed.{last, followe
 use Rattle.meaning.proofs.BothWays.SentencesRow.Led.{head, led}
 use Rattle.meaning.proofs.BothWays.SentencesRow.Compared.{same, later, earlier}
 use Rattle.meaning.proofs.BothWays.SentencesRow.Least.{least, nowhere}
-use Rattle.meaning.proofs.Cells.Placed.{Placed, Own, placed-has, placed-cell, placed-most, place-key, place-standing, cell-standing}
-use Rattle.meaning.proofs.Cells.Placed.{place-coordinate}
+use Rattle.meaning.proofs.Cells.Placed.{Placed, Own, placed-has, placed-cell, placed-most, place-key, place-standing, cell-standing, place-coordinate}
 
 -- q is the place after p; p is the head's or has a place before it; p is the last or has a place after it
 abbrev pub NextIn : State → Place → Place → Type 0

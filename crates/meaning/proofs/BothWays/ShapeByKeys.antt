@@ -8,9 +8,8 @@ use native.Mathlib.Omega.{arith}
 use Rattle.lists.specs.Compared.{agreed}
 use Rattle.lists.proofs.All.{All, all-map, all-of-map, all-mapped}
 use Rattle.meaning.specs.Keys.{coordinate, coordinates}
-use Rattle.meaning.specs.Reading.{isList}
+use Rattle.meaning.specs.Reading.{isList, standingKeys}
 use Rattle.meaning.specs.Words.{keyAt, owedAt, linkAt, dimensionsAt, baseAt, coordinateAt}
-use Rattle.meaning.specs.Reading.{standingKeys}
 use Rattle.meaning.specs.Sentences.{sharedAt, Standing, NextSmaller, Dimension, of-head, of-other, LargerAt, Settled, leads}
 use Rattle.meaning.specs.Sentences.{leads-nowhere, below-dimension, AList}
 use Rattle.meaning.proofs.Cells.Placed.{placed-node, place-key, place-standing, cell-standing}

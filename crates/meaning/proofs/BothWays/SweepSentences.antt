@@ -25,7 +25,7 @@ use Rattle.meaning.proofs.Rows.Places.{asc-left, asc-right}
 use Rattle.meaning.proofs.Kept.KeepsState.{cells-positive, row-split, deadFront-dead, fromLive-live, live-split, last-split, last-cases}
 use Rattle.meaning.proofs.Kept.KeepsSweep.{keptBy, swept-split, kept-asc, swept-dead, swept-sound}
 use Rattle.meaning.proofs.Cells.Placed.{Placed, placed-node, placed-cell, head-placed, place-key, place-value, place-mark, place-standing}
-use Rattle.meaning.proofs.Cells.Placed.{free-cell-rest, cell-standing, cell-free, free-cell, place-unowing}
+use Rattle.meaning.proofs.Cells.Placed.{mark-one, free-cell-rest, cell-standing, cell-free, free-cell, place-unowing}
 use Rattle.meaning.proofs.BothWays.SentencesShape.{HasPlace, row-placed}
 use Rattle.meaning.proofs.BothWays.Sentences.{position-is, picture-sentences}
 use Rattle.meaning.proofs.Written.SweepFinish.{paid-owes-nothing}
@@ -93,11 +93,6 @@ drop-below low (x ∷ y ∷ row) a = (last-above (x .key) y row (a .1), drop-bel
 -- the node that becomes the position
 abbrev target : State → Node
 target s = lastOf (deadFront (s .row))
-
--- a cell of mark 1 is live
-pub live-marked : (live : Bool) → mark live ≡ 1 → live ≡ true
-live-marked true e = refl
-live-marked false e = absurd (omega arith)
 
 -- a node on the words after the sweep, as it was
 pub record Stays (ws : List ℕ) (x : Node) : Type 0 where
@@ -224,7 +219,7 @@ module _ {s : State} (v : Sound s) where
       let (p, here) = cell-standing s x stands in
       let above =
       placed-node here (λ y. y .live ≡ true → target s .key < y .key) (λ l. absurd (true≢false (sym l))) live-above
-      (live-marked (p .node .live) (sym (place-mark v here) ∙ live)) in
+      (mark-one (p .node .live) (sym (place-mark v here) ∙ live)) in
       omega (arith, above, target-key, place-key v here)
 
   words-greatest : (x : ℕ) → Standing (picture s) x → ((y : ℕ) → Standing (picture s) y → markAt (picture s) y ≡ 1 →

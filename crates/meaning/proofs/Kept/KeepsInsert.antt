@@ -19,7 +19,8 @@ use Rattle.lists.proofs.Tests.{both}
 use Rattle.meaning.specs.Keys.{shared}
 use Rattle.meaning.specs.Row.{Node, headNode, firstOf, placesAfter, places, nodeAt, smallerThan}
 use Rattle.meaning.specs.State.{State, keyOf, positionKey}
-use Rattle.meaning.specs.Operations.{paid, finished, withRow, positionAfter, revivedNode, revived, Slot, newNode, slotFor, slotOwes, added}
+use Rattle.meaning.specs.Operations.{paid, finished, withRow, positionAfter, revivedNode, revived, newNode, slotFor, slotOwes, added}
+use Rattle.meaning.specs.declared.Slot.{Slot}
 use Rattle.meaning.proofs.Rows.AscendingRow.{Asc}
 use Rattle.meaning.proofs.Rows.Keys.{shared-less, ultra}
 use Rattle.meaning.proofs.Rows.Nodes.{node-split}
@@ -29,8 +30,7 @@ use Rattle.meaning.proofs.Rows.Places.{asc-left, lastFrom, dimensionFro
 use Rattle.meaning.proofs.Rows.Places.{asc-smaller, asc-larger, onCell, onCell-cases, onCell-keeping, keyOf-same, keyOf-other, keyOf-put}
 use Rattle.meaning.proofs.Kept.KeepsState.{changed-sound}
 use Rattle.meaning.proofs.Kept.KeepsFinish.{paid-keeping, finished-sound}
-use Rattle.meaning.proofs.Rows.Parent.{dimensionAfter, parentAfter, placesFrom, Without, Apart, all-last, asc-last, apart-at}
-use Rattle.meaning.proofs.Rows.Parent.{last-first, parent-is}
+use Rattle.meaning.proofs.Rows.Parent.{dimensionAfter, parentAfter, placesFrom, Without, Apart, all-last, asc-last, apart-at, last-first, parent-is}
 use Rattle.meaning.proofs.Walks.Smaller.{smaller-is}
 use Rattle.meaning.proofs.Kept.Slot.{Gap, gap, put-gap, asc-put, apart-put, sound-apart, first-free, dimensions-positive, cellAfter, SlotIs}
 use Rattle.meaning.proofs.Kept.Slot.{slot-is, without-changed, apart-changed, gap-changed, last-changed, gap-last, first-free-apart}

@@ -18,7 +18,8 @@ use Rattle.meaning.specs.Keys.{shared}
 use Rattle.meaning.specs.Row.{Node, headNode, firstOf, firstSharing, Place, places, settledLink, placeOf, nodeAt, put}
 use Rattle.meaning.specs.State.{State, keyOf}
 use Rattle.meaning.specs.Picture.{firstWith}
-use Rattle.meaning.specs.Operations.{dimensionAt, settledLinkAt, parentIn, Slot, newNode, slotFor}
+use Rattle.meaning.specs.Operations.{dimensionAt, settledLinkAt, parentIn, newNode, slotFor}
+use Rattle.meaning.specs.declared.Slot.{Slot}
 use Rattle.meaning.proofs.Rows.AscendingRow.{Asc, asc-above}
 use Rattle.meaning.proofs.Rows.Keys.{shared-less, ultra}
 use Rattle.meaning.proofs.Pictures.State.{Sound, base-positive}
@@ -26,8 +27,7 @@ use Rattle.meaning.proofs.Pictures.StateCells.{cells-distinct}
 use Rattle.meaning.proofs.Rows.Places.{keyOf-first, asc-left, lastFrom, Keeping}
 use Rattle.meaning.proofs.Rows.Put.{put-front, put-past}
 use Rattle.meaning.proofs.Rows.Parent.{dimensionAfter, parentAfter, Without, Apart, ParentPlace, all-last, asc-last, last-least, apart-left}
-use Rattle.meaning.proofs.Rows.Parent.{apart-before, place-at, sharing-skips, sharing-hits, sharing-none, near, first-place, parent-is}
-use Rattle.meaning.proofs.Rows.Parent.{sharing-above}
+use Rattle.meaning.proofs.Rows.Parent.{apart-before, place-at, sharing-skips, sharing-hits, sharing-none, near, first-place, parent-is, sharing-above}
 
 -- The nodes below a key and those above it, of a row in which the key does not stand
 

@@ -22,7 +22,7 @@ use Rattle.meaning.proofs.Rows.Keys.{shared-less}
 use Rattle.meaning.proofs.Pictures.State.{Sound, base-positive}
 use Rattle.meaning.proofs.Pictures.StateCells.{row-range}
 use Rattle.meaning.proofs.Kept.KeepsState.{cell-alone}
-use Rattle.meaning.proofs.Rows.Places.{lastFrom}
+use Rattle.meaning.proofs.Rows.Places.{lastFrom, last-from}
 use Rattle.meaning.proofs.Rows.Parent.{Apart, all-last, asc-last, apart-left, apart-before, place-at}
 use Rattle.meaning.proofs.Kept.Slot.{sound-apart, dimensions-positive}
 use Rattle.meaning.proofs.Cells.WalkRead.{link-read, row-key-read, row-mark-read}
@@ -65,12 +65,6 @@ next-highest ws path (suc n) e y h there other f = at (ℕ-discrete e n) (next-h
 -- On a list
 
 -- the last of some nodes, or the head, is the last from the head on
-pub last-from : (row : List Node) → lastOf row ≡ lastFrom headNode row
-unfolding lastOf lastFrom
-last-from [] = refl
-last-from (x ∷ []) = refl
-last-from (x ∷ y ∷ row) = last-from (y ∷ row)
-
 pub last-snoc : (x : Node) (row : List Node) (y : Node) → lastFrom x (row ++ (y ∷ [])) ≡ y
 unfolding lastFrom
 last-snoc x [] y = refl

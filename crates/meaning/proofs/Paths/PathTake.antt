@@ -21,13 +21,13 @@ use Rattle.meaning.specs.Operations.{deadFront, fromLive, deadNode, keys
 use Rattle.meaning.specs.Layer.Paths.{pathFor, PathOf}
 use Rattle.meaning.proofs.Rows.AscendingRow.{Asc, asc-above}
 use Rattle.meaning.proofs.Pictures.State.{Sound}
-use Rattle.meaning.proofs.Rows.Places.{Located, asc-left, asc-smaller, asc-larger, Keeping, onCell, keyOf-head-changed}
+use Rattle.meaning.proofs.Rows.Places.{Located, last-from, asc-left, asc-smaller, asc-larger, Keeping, onCell, keyOf-head-changed}
 use Rattle.meaning.proofs.Kept.KeepsState.{position-cases, position-head, position-node}
 use Rattle.meaning.proofs.Kept.KeepsTake.{dead-keeping, taken-key}
 use Rattle.meaning.proofs.Rows.Parent.{asc-last, last-greatest}
 use Rattle.meaning.proofs.Kept.Slot.{first-changed}
 use Rattle.meaning.proofs.Paths.Path.{path-is}
-use Rattle.meaning.proofs.Paths.PathNext.{last-from, last-of}
+use Rattle.meaning.proofs.Paths.PathNext.{last-of}
 
 -- Up to the first live node
 

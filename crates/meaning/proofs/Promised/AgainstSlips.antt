@@ -15,7 +15,8 @@ use Rattle.meaning.specs.Picture.{picture}
 use Rattle.answers.specs.Refusals.{accepted, keyLive, refused}
 use Rattle.meaning.specs.Words.{owedAt, lowAt, highAt, linkAt}
 use Rattle.meaning.specs.Walk.{linkRead}
-use Rattle.meaning.specs.Operations.{looked, paid, positionAfter, Slot, added, revived, insertAt, deadFront, fromLive, lastAlone, swept}
+use Rattle.meaning.specs.Operations.{looked, paid, positionAfter, added, revived, insertAt, deadFront, fromLive, lastAlone, swept}
+use Rattle.meaning.specs.declared.Slot.{Slot}
 
 -- Not by some leading coordinates: the node found for a key has that same key.
 pub present-is-that-key : (key : ℕ) (x : Node) (row : List Node) → nodeAt key row ≡ some x → x .key ≡ key

@@ -29,10 +29,9 @@ use Rattle.meaning.proofs.BothWays.Sentences.{position-key-is}
 use Rattle.meaning.proofs.Kept.Slot.{gap, sound-apart, dimensions-positive, slot-is}
 use Rattle.meaning.proofs.Paths.PathTake.{stops}
 use Rattle.meaning.proofs.Kept.KeepsInsert.{last-keyOf, revived-position, revived-sound, added-row, added-position-lowered, added-sound}
-use Rattle.meaning.proofs.Rows.Nodes.{node-split}
+use Rattle.meaning.proofs.Rows.Nodes.{node-split, node-key}
 use Rattle.meaning.proofs.Outcomes.{on-lists, take-outcome-first, insert-outcome-bad-key, insert-outcome-live, insert-outcome-dead, insert-outcome-new}
 use Rattle.meaning.proofs.Outcomes.{key-cases, live-cases}
-use Rattle.meaning.proofs.Rows.Nodes.{node-key}
 use Rattle.meaning.proofs.Promised.Serves.{refused-not, new-accepted}
 
 -- the higher the position, the less is passed

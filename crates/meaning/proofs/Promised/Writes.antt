@@ -30,12 +30,11 @@ use Rattle.meaning.proofs.Cells.Changed.{picture-path-word}
 use Rattle.meaning.proofs.Rows.Places.{asc-right, onCell}
 use Rattle.meaning.proofs.Kept.KeepsState.{live-split, deadFront-dead, fromLive-live, cell-stands}
 use Rattle.meaning.proofs.Kept.KeepsTake.{taken-sound}
-use Rattle.meaning.proofs.Cells.Placed.{placed-node, cell-standing, place-key, place-mark, place-standing}
+use Rattle.meaning.proofs.Cells.Placed.{placed-node, cell-standing, place-key, place-mark, place-standing, mark-one}
 use Rattle.meaning.proofs.BothWays.SentencesShape.{HasPlace, row-placed}
 use Rattle.meaning.proofs.BothWays.Sentences.{position-is, position-key-is}
 use Rattle.meaning.proofs.Cells.WalkRead.{row-key-read}
-use Rattle.meaning.proofs.Rows.Nodes.{node-has, node-key}
-use Rattle.meaning.proofs.Rows.Nodes.{node-split}
+use Rattle.meaning.proofs.Rows.Nodes.{node-has, node-key, node-split}
 use Rattle.meaning.proofs.Kept.KeepsInsert.{revived-keeping, revived-position, revived-sound}
 use Rattle.meaning.proofs.Walks.Smaller.{split-next-smaller}
 use Rattle.meaning.proofs.Written.FinishWords.{finish-moved, finish-own, finish-others, finish-nothing, finish-finished}
@@ -44,7 +43,7 @@ use Rattle.meaning.proofs.Written.InsertWords.{added-inserted}
 use Rattle.meaning.proofs.Outcomes.{on-read-lists, find-writes-nothing, take-outcome-none, take-outcome-first, insert-outcome-bad-key}
 use Rattle.meaning.proofs.Outcomes.{insert-outcome-live, insert-outcome-dead, insert-outcome-new, finish-outcome-bad-key}
 use Rattle.meaning.proofs.Outcomes.{finish-outcome-absent, finish-outcome-standing, sweep-outcome, key-cases, live-cases}
-use Rattle.meaning.proofs.BothWays.SweepSentences.{live-marked, swept-leaves}
+use Rattle.meaning.proofs.BothWays.SweepSentences.{swept-leaves}
 use Rattle.meaning.proofs.Promised.Serves.{refused-not, new-accepted}
 
 pub find-writes : FindWritesNothing
@@ -71,7 +70,7 @@ words-least s v x later e y stands live =
     let (p, here) = cell-standing s y stands in
     let least =
     placed-node here (λ z. z .live ≡ true → x .key ≤ z .key) (λ l. absurd (true≢false (sym l))) (live-least s v x later e)
-    (live-marked (p .node .live) (sym (place-mark v here) ∙ live)) in
+    (mark-one (p .node .live) (sym (place-mark v here) ∙ live)) in
     omega (arith, least, place-key v here)
 
 -- a cell's value and mark, and the path, are all that is written

@@ -5,8 +5,7 @@ use mathlib.Core.Bool.{true, false}
 use mathlib.Core.Logic.{_↔_}
 use mathlib.Core.List.{List, [], _∷_}
 use Prim.Native.Nat.{ℕ, zero, suc, _*_, _/_, _%_, _^_, _≤_, _<_, min}
-use native.Mathlib.Nat.{pow-zero, pow-suc, mod-lt}
-use native.Mathlib.Nat.{div-add-mod', div-mul-le-self, le-div-iff-mul-le, div-lt-iff-lt-mul}
+use native.Mathlib.Nat.{pow-zero, pow-suc, mod-lt, div-add-mod', div-mul-le-self, le-div-iff-mul-le, div-lt-iff-lt-mul}
 use native.Mathlib.Decide.{ℕ-discrete, decLt}
 use native.Mathlib.Omega.{arith}
 use lib.ListN.{length, getD, length-append, List·getD-append, List·getD-eq-default}

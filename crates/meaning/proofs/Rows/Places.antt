@@ -14,7 +14,7 @@ use Rattle.lists.specs.Lists.{occurrences}
 use Rattle.lists.proofs.Occurrences.{occurrences-past, occurrences-none, none-occurs}
 use Rattle.lists.proofs.All.{All, all-zip}
 use Rattle.meaning.specs.Keys.{shared}
-use Rattle.meaning.specs.Row.{Node, headNode, firstOf, Place, headPlace, placesAfter, places, nodeAt}
+use Rattle.meaning.specs.Row.{Node, headNode, firstOf, lastOf, Place, headPlace, placesAfter, places, nodeAt}
 use Rattle.meaning.specs.State.{keyOf}
 use Rattle.meaning.proofs.Rows.AscendingRow.{Asc, asc-weaken, asc-above}
 
@@ -142,6 +142,12 @@ row-of-places P b D a e (x ∷ row) h = (h .0, row-of-places P b D x (shared b D
 unfoldable pub lastFrom : Node → List Node → Node
 lastFrom a [] = a
 lastFrom a (x ∷ row) = lastFrom x row
+
+pub last-from : (row : List Node) → lastOf row ≡ lastFrom headNode row
+unfolding lastOf lastFrom
+last-from [] = refl
+last-from (x ∷ []) = refl
+last-from (x ∷ y ∷ row) = last-from (y ∷ row)
 
 unfoldable pub dimensionFrom : ℕ → ℕ → Node → ℕ → List Node → ℕ
 dimensionFrom b D a e [] = e

@@ -16,20 +16,11 @@ use Rattle.meaning.specs.Picture.{picture}
 use Rattle.meaning.specs.Sentences.{NextSmaller}
 use Rattle.meaning.proofs.Rows.AscendingRow.{Asc, asc-above}
 use Rattle.meaning.proofs.Pictures.State.{Sound}
-use Rattle.meaning.proofs.Rows.Places.{asc-right, lastFrom, dimensionFrom, places-nodes}
+use Rattle.meaning.proofs.Rows.Places.{asc-right, lastFrom, last-from, dimensionFrom, places-nodes}
 use Rattle.meaning.proofs.Rows.Parent.{dimensionAfter, Apart, apart-before, place-at}
 use Rattle.meaning.proofs.Cells.Placed.{Placed, placed-has, placed-other}
 use Rattle.meaning.proofs.Kept.Slot.{sound-apart}
 use Rattle.meaning.proofs.BothWays.SentencesShape.{place-next-smaller}
-
-pub last-of : (row : List Node) → lastOf row ≡ lastFrom headNode row
-unfolding lastOf lastFrom
-last-of [] = refl
-last-of (x ∷ row) = from x row
-  where
-    from : (x : Node) (row : List Node) → lastOf (x ∷ row) ≡ lastFrom x row
-    from x [] = refl
-    from x (y ∷ row) = from y row
 
 -- where the nodes in front are below the key and the rest is not
 pub smaller-is : (k : ℕ) (front rest : List Node) → All (λ y. y .key < k) front → All (λ y. k ≤ y .key) rest → smallerThan k (front ++ rest) ≡ lastFrom headNode front
@@ -40,7 +31,7 @@ smaller-is k front rest below above =
     ∙ ap₂ _++_ (those-all test front (all-map (λ y h. lt-ltb (y .key) k h) front below))
     (those-none test rest (all-map (λ y h. le-ltb (y .key) k h) rest above))
     ∙ append-nil front)
-    ∙ last-of front
+    ∙ last-from front
 
 -- It is the node of a place below the key with no later node below it.
 
@@ -62,7 +53,7 @@ pub smaller-placed : {s : State} → Sound s → {x : ℕ} {p : Place} → Place
     smallerThan k (s .row) ≡ p .node
 unfolding places LastBelow lastFrom those
 smaller-placed {s} v here k h beyond =
-    last-of (those (λ x. ltb (x .key) k) (s .row))
+    last-from (those (λ x. ltb (x .key) k) (s .row))
     ∙ placed-has here (LastBelow k (s .row) headNode) (
       λ l after. ap (lastFrom headNode) (those-none (λ y. ltb (y .key) k) (s .row) (all-map (λ y m. le-ltb (y .key) k m) (s .row) after)),
       last-below (s .settings .base) (s .settings .dimensions) k headNode 0 (s .row) (v .ascends),

@@ -23,7 +23,8 @@ use Rattle.meaning.specs.Row.{Node, headNode, firstOf, Place, places, ow
 use Rattle.meaning.specs.State.{State, placesOf}
 use Rattle.meaning.specs.Picture.{mark, standingWords, nextFree, freeWords, wordsOf, path, picture}
 use Rattle.meaning.specs.Words.{wordIndex, wordAt, linkAt, linkField}
-use Rattle.meaning.specs.Operations.{Slot, newNode, slotOwes}
+use Rattle.meaning.specs.Operations.{newNode, slotOwes}
+use Rattle.meaning.specs.declared.Slot.{Slot}
 use Rattle.meaning.specs.Layer.Stores.{store, writePath, newWords}
 use Rattle.meaning.proofs.Pictures.State.{Sound, base-positive}
 use Rattle.meaning.proofs.Pictures.Picture.{wordsOf-length, path-length}

@@ -21,7 +21,8 @@ use Rattle.meaning.specs.Picture.{nextFree, picture}
 use Rattle.meaning.specs.Words.{wordAt}
 use Rattle.meaning.specs.Sentences.{Settled}
 use Rattle.meaning.specs.Layer.Stores.{newLinks}
-use Rattle.meaning.specs.Operations.{withRow, Slot, newNode, slotOwes}
+use Rattle.meaning.specs.Operations.{withRow, newNode, slotOwes}
+use Rattle.meaning.specs.declared.Slot.{Slot}
 use Rattle.meaning.proofs.Rows.AscendingRow.{Asc}
 use Rattle.meaning.proofs.Rows.Keys.{shared-less}
 use Rattle.meaning.proofs.Pictures.State.{Sound, base-positive}

@@ -19,7 +19,8 @@ use Rattle.meaning.specs.Keys.{shared}
 use Rattle.meaning.specs.Row.{Node, headNode, Place, nodeAt}
 use Rattle.meaning.specs.State.{State, positionKey}
 use Rattle.meaning.specs.Picture.{path, picture}
-use Rattle.meaning.specs.Operations.{paid, finished, withRow, Slot, newNode, slotFor, slotOwes, added, settledLinkAt}
+use Rattle.meaning.specs.Operations.{paid, finished, withRow, newNode, slotFor, slotOwes, added, settledLinkAt}
+use Rattle.meaning.specs.declared.Slot.{Slot}
 use Rattle.meaning.specs.Writes.{Unmoved, OwesNothing, OwesSame, Inserted}
 use Rattle.meaning.specs.Words.{wordAt, keyAt, owedAt, lowAt, highAt, linkAt, linkField}
 use Rattle.meaning.specs.Sentences.{Standing, Settled, AList, NextSmaller}
