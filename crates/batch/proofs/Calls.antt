@@ -9,7 +9,7 @@ use lib.Dec.{leb, eqb}
 use lib.ListN.{length, getD, drop, length-drop}
 use lib.Seq.{drop-cons}
 use borrow.Author.Tests.{le-leb, lt-leb}
-use Rattle.meaning.specs.Batch.{isKind, callOf, areCalls, callsIn, fits}
+use Rattle.calls.specs.Batch.{isKind, operationOf, areCalls, callsIn, fits}
 
 -- three words from an index on
 three : (k : ℕ) (words : List ℕ) → k + 2 < length words →
@@ -33,7 +33,7 @@ module _ (words : List ℕ) (i : ℕ) (h : i < length words / 3) where
 
   pub calls-more :
       callsIn (drop (3 * i) words) ≡
-      callOf (getD words (3 * i) 0) (getD words (3 * i + 1) 0) (getD words (3 * i + 2) 0) ∷ callsIn (drop (3 * (i + 1)) words)
+      operationOf (getD words (3 * i) 0) (getD words (3 * i + 1) 0) (getD words (3 * i + 2) 0) ∷ callsIn (drop (3 * (i + 1)) words)
   unfolding callsIn
   calls-more = rw (three (3 * i) words (omega arith), after) refl
 

@@ -4,11 +4,12 @@ ghost use mathlib.Core.Bool.{true};
 ghost use Prim.Native.Nat.{_+_, _≤_};
 ghost use lib.ListN.{length};
 ghost use lib.Seq.{sets};
-ghost use Rattle.meaning.specs.Refusals.{Meets};
-ghost use Rattle.meaning.specs.Batch.{isKind, callOf, areCalls, callsIn, answerWords, fits, batchLent, batchDone};
+ghost use Rattle.settings.specs.Levels.{PowersOf};
+ghost use Rattle.answers.specs.Refusals.{Meets};
+ghost use Rattle.calls.specs.Batch.{isKind, operationOf, areCalls, callsIn, answerWords, fits, batchLent, batchDone};
 ghost use Rattle.meaning.specs.Layer.Listed.{Listed};
-ghost use Rattle.batch.specs.Batching.{CallMade};
-use meaning::Answer;
+use answers::Answer;
+use answers::Operation;
 use settings::Settings;
 
 const INSERT: u32 = 1;
@@ -28,24 +29,23 @@ const WORDS_PER_ANSWER: usize = 4;
 // The number that the count of a batch can tell at most.
 const MOST_CALLS: usize = 4294967295;
 
-// One call of a batch.
-fn one(list: &mut [u32], s: Settings, kind: u32, key: u32, value: u32) -> Answer
-    requires { ⌜ Listed (now list) s ⌝ }
-    ensures { λ r. ⌜ CallMade (callOf kind key value) s (now (list .entry)) r (now (list .exit)) ⌝ }
+// The operation that the three words of a call ask for.
+fn operation_of(kind: u32, key: u32, value: u32) -> Operation
+    ensures { λ r. ⌜ r ≡ operationOf kind key value ⌝ }
 {
     if kind == INSERT {
-        return insert::insert(list, s, key, value);
+        return Operation::Insert(key, value);
     }
     if kind == FIND {
-        return find::find(list, s, key);
+        return Operation::Find(key);
     }
     if kind == FINISH {
-        return finish::finish(list, s, key);
+        return Operation::Finish(key);
     }
     if kind == TAKE {
-        return take::take(list, s);
+        return Operation::Take;
     }
-    sweep::sweep(list, s)
+    Operation::Sweep
 }
 
 // Puts the four words of an answer.
@@ -98,17 +98,24 @@ pub fn fit(calls: &[u32], answers: &[u32]) -> bool
 }
 
 // On a list with settings s: The operations 8, where the calls fit.
-pub fn batch(list: &mut [u32], s: Settings, calls: &[u32], answers: &mut [u32]) -> Answer
-    requires { ⌜ Listed (now list) s × (fits (now calls) (now answers) ≡ true) ⌝ }
+pub fn batch(
+    list: &mut [u32],
+    s: Settings,
+    powers: &[u64],
+    calls: &[u32],
+    answers: &mut [u32],
+) -> Answer
+    requires { ⌜ Listed (now list) s × (PowersOf s (now powers) × (fits (now calls) (now answers) ≡ true)) ⌝ }
     ensures { λ r. ⌜ Meets (batchDone (callsIn (now (calls .entry))) (batchLent (now (list .entry)) (now (answers .entry)))) r (batchLent (now (list .exit)) (now (answers .exit))) ⌝ }
 {
     let n = calls.len() / WORDS_PER_CALL;
     let mut i = 0;
     while i < n {
         let at = WORDS_PER_CALL * i;
-        let a = one(list, s, calls[at], calls[at + 1], calls[at + 2]);
+        let operation = operation_of(calls[at], calls[at + 1], calls[at + 2]);
+        let a = operate::operate(list, s, powers, operation);
         put(answers, WORDS_PER_ANSWER * i, a);
         i += 1;
     }
-    meaning::accepted(0, 0, n as u32)
+    answers::accepted(0, 0, n as u32)
 }

@@ -14,11 +14,11 @@ use Rattle.meaning.specs.Keys.{blockStart}
 use Rattle.meaning.specs.Words.{keyAt, valueAt, markAt, owedAt, lowAt, highAt, linkAt, dimensionsAt, largestAt, cellsAt, baseAt}
 use Rattle.words.specs.Shaped.{Shaped}
 use Rattle.words.proofs.Shaped.{shaped-dimensions, shaped-base}
-use Rattle.tree.specs.declared.Seen.{Seen}
-use Rattle.tree.specs.Tree.{allFrom, follows, nodeRight}
-use Rattle.tree.specs.Loop.{aloneRight, linksNone, owesNothing, owesRight}
-use Rattle.tree.proofs.AcceptedTests.{joined-all}
-use Rattle.tree.proofs.Loop.{Owes, owes-told}
+use Rattle.account.specs.declared.Seen.{Seen}
+use Rattle.account.specs.Tree.{allFrom, follows, nodeRight}
+use Rattle.account.specs.Loop.{aloneRight, linksNone, owesNothing, owesRight}
+use Rattle.account.proofs.AcceptedTests.{joined-all}
+use Rattle.account.proofs.Loop.{Owes, owes-told}
 use Rattle.cell_tests.specs.Tests.{onlyLink}
 use Rattle.cell_tests.proofs.Tests.{refuted, all-start}
 

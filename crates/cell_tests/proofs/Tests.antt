@@ -17,9 +17,9 @@ use Rattle.lists.specs.Zeros.{allZero}
 use Rattle.meaning.specs.Words.{wordIndex, wordAt, keyAt, valueAt, markAt, dimensionsAt, cellsAt}
 use Rattle.words.specs.Shaped.{Shaped}
 use Rattle.words.proofs.Shaped.{shaped-dimensions, shaped-cells, part-inside, part-words}
-use Rattle.tree.specs.Tree.{allFrom, headRight, freeRight}
-use Rattle.tree.specs.Loop.{owesNothing}
-use Rattle.tree.proofs.AcceptedTests.{Head, head-right}
+use Rattle.account.specs.Tree.{allFrom, headRight, freeRight}
+use Rattle.account.specs.Loop.{owesNothing}
+use Rattle.account.proofs.AcceptedTests.{Head, head-right}
 
 -- Tests
 

@@ -1,2 +1,2 @@
--- The parts of the account on the words (crate tree) that have a function of their own.
+-- The parts of the account on the words (crate account) that have a function of their own.
 pub mod Tests

@@ -4,7 +4,7 @@ use mathlib.Core.List.{List}
 use Prim.Native.Nat.{ℕ}
 use lib.Dec.{eqb}
 use Rattle.meaning.specs.Words.{linkAt, dimensionsAt}
-use Rattle.tree.specs.Tree.{allFrom}
+use Rattle.account.specs.Tree.{allFrom}
 
 -- link d of y is c where d is `high`, and else 0
 abbrev pub linkIs : List ℕ → ℕ → ℕ → ℕ → ℕ → Bool

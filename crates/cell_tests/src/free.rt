@@ -1,7 +1,7 @@
 // The test of a free cell: its words after the first are 0.
 ghost use mathlib.Core.Path.{_≡_};
 ghost use Rattle.words.specs.Shaped.{Shaped};
-ghost use Rattle.tree.specs.Tree.{freeRight};
+ghost use Rattle.account.specs.Tree.{freeRight};
 use settings::Settings;
 
 // Whether cell c is one of the list's and its words after the first are 0.

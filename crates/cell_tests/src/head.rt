@@ -2,7 +2,7 @@
 ghost use mathlib.Core.Path.{_≡_};
 ghost use Prim.Native.Nat.{_<_};
 ghost use Rattle.words.specs.Shaped.{Shaped};
-ghost use Rattle.tree.specs.Tree.{headRight};
+ghost use Rattle.account.specs.Tree.{headRight};
 use settings::Settings;
 
 // Whether cell 0 is the head: key 0, value 0, dead, and owing nothing.

@@ -3,11 +3,11 @@ ghost use mathlib.Core.Path.{_≡_};
 ghost use Prim.Native.Nat.{_≤_, _<_};
 ghost use Rattle.settings.specs.Levels.{PowersOf};
 ghost use Rattle.words.specs.Shaped.{Shaped};
-ghost use Rattle.tree.specs.Tree.{follows, nodeRight};
-ghost use Rattle.tree.specs.Loop.{aloneRight, linksNone, owesNothing, owesRight};
+ghost use Rattle.account.specs.Tree.{follows, nodeRight};
+ghost use Rattle.account.specs.Loop.{aloneRight, linksNone, owesNothing, owesRight};
 ghost use Rattle.cell_tests.specs.Tests.{onlyLink};
+use account::Seen;
 use settings::Settings;
-use tree::Seen;
 
 // Whether cell y comes after cell x in key order and shares exactly e coordinates with it.
 fn cell_follows(list: &[u32], s: Settings, powers: &[u64], x: u32, y: u32, e: u32) -> bool
@@ -17,10 +17,10 @@ fn cell_follows(list: &[u32], s: Settings, powers: &[u64], x: u32, y: u32, e: u3
     let before = words::word(list, s, x, words::KEY) as u64;
     let key = words::word(list, s, y, words::KEY);
     let d = e as usize;
-    if before < words::block_start(key, powers[d]) {
+    if before < steps::block_start(key, powers[d]) {
         return false;
     }
-    before < words::block_start(key, powers[d + 1])
+    before < steps::block_start(key, powers[d + 1])
 }
 
 // Whether the key of cell y is at most K, and its mark and value are right: dead as long as the position has not been read.

@@ -4,14 +4,14 @@ use mathlib.Core.Bool.{true}
 use mathlib.Core.List.{List}
 use Prim.Native.Nat.{ℕ}
 use lib.ListN.{length}
-use Rattle.meaning.specs.Refusals.{Outcome, Meets, accepted}
+use Rattle.answers.specs.Refusals.{Outcome, Meets, accepted}
 use Rattle.meaning.specs.Operations.{fresh, setUpOut}
 use Rattle.meaning.specs.Reading.{isList}
-use Rattle.meaning.specs.declared.Answer.{Answer}
-use Rattle.meaning.proofs.Computing.{computing}
+use Rattle.answers.specs.declared.Answer.{Answer}
+use Rattle.calls.proofs.Computing.{computing}
 use Rattle.meaning.proofs.Outcomes.{set-up-outcome}
-use Rattle.meaning.proofs.ReadBack.{picture-is-list}
-use Rattle.meaning.proofs.KeepsSetUp.{fresh-sound}
+use Rattle.meaning.proofs.Pictures.ReadBack.{picture-is-list}
+use Rattle.meaning.proofs.Kept.KeepsSetUp.{fresh-sound}
 use Rattle.entry_list.specs.EntryList.{listDimensions, listLargest, listCells, listWords, freshWords, BaseOfEntries}
 
 numbers-accepted :

@@ -5,7 +5,6 @@ ghost use mathlib.Core.Bool.{true};
 ghost use Rattle.meaning.specs.Reading.{isList};
 ghost use Rattle.meaning.specs.Layer.Listed.{Listed};
 ghost use Rattle.entry_list.specs.EntryList.{listWords, freshWords};
-use meaning::Reading;
 use settings::Settings;
 
 const DIMENSIONS: u32 = 8;
@@ -14,7 +13,7 @@ const LARGEST_KEY: u32 = 4294967295;
 
 const CELLS: u32 = 512;
 
-// The words 1: 5 + D + C x (6 + 2D).
+// The words 1: 5 + D + C x (6 + D).
 pub const WORDS: usize = 7181;
 
 // The settings of a list that is one: the check is made once, and whoever keeps the list to himself needs no other.
@@ -22,15 +21,8 @@ fn settings_of(words: &[u32]) -> Settings
     requires { ⌜ isList (now words) ≡ true ⌝ }
     ensures { λ r. ⌜ Listed (now (words .entry)) r ⌝ }
 {
-    let Reading::IsList(s) = is_list::is_list(words) else {
-        return Settings {
-            dimensions: DIMENSIONS,
-            largest: LARGEST_KEY,
-            cells: CELLS,
-            base: 0,
-        };
-    };
-    s
+    let verdict = is_list::is_list(words);
+    verdict.settings
 }
 
 // Sets it up in an array of that length, and answers its settings.

@@ -1,30 +1,28 @@
 // Find: The operations 3.
 ghost use mathlib.Core.Path.{_≡_};
-ghost use Rattle.meaning.specs.Refusals.{keyNotLive, answerOf};
+ghost use Rattle.settings.specs.Levels.{PowersOf};
+ghost use Rattle.answers.specs.Refusals.{keyNotLive, answerOf, Meets};
 ghost use Rattle.meaning.specs.Operations.{findOut};
 ghost use Rattle.meaning.specs.Layer.Listed.{Listed};
-use meaning::Answer;
+use answers::Answer;
 use settings::Settings;
 
 // The refusal of a key that is not live.
 fn not_live(key: u32, looked: u32) -> Answer
     ensures { λ r. ⌜ r ≡ answerOf (keyNotLive key looked) ⌝ }
 {
-    meaning::refused_at(meaning::KEY_NOT_LIVE, key, looked)
+    answers::refused_at(answers::KEY_NOT_LIVE, key, looked)
 }
 
 // On a list with settings s.
-pub fn find(list: &[u32], s: Settings, key: u32) -> Answer
-    requires { ⌜ Listed (now list) s ⌝ }
-    ensures { λ r. ⌜ r ≡ findOut (now (list .entry)) key .answered ⌝ }
+pub fn find(list: &[u32], s: Settings, powers: &[u64], key: u32) -> Answer
+    requires { ⌜ Listed (now list) s × PowersOf s (now powers) ⌝ }
+    ensures { λ r. ⌜ Meets (findOut (now (list .entry)) key) r (now (list .entry)) ⌝ }
 {
-    if key == 0 {
-        return meaning::refused(meaning::BAD_KEY);
+    if !s.has_key(key) {
+        return answers::refused(answers::BAD_KEY);
     }
-    if s.largest < key {
-        return meaning::refused(meaning::BAD_KEY);
-    }
-    let f = search::search(list, s, key);
+    let f = search::search(list, s, powers, key);
     if !f.standing {
         return not_live(key, f.looked);
     }
@@ -32,5 +30,5 @@ pub fn find(list: &[u32], s: Settings, key: u32) -> Answer
         return not_live(key, f.looked);
     }
     let value = words::word(list, s, f.c, words::VALUE);
-    meaning::accepted(key, value, f.looked)
+    answers::accepted(key, value, f.looked)
 }

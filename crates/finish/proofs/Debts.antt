@@ -13,10 +13,10 @@ use Rattle.meaning.specs.State.{State, placesOf}
 use Rattle.meaning.specs.Picture.{picture}
 use Rattle.meaning.specs.Words.{lowAt, highAt}
 use Rattle.meaning.specs.Layer.Listed.{Listed}
-use Rattle.meaning.proofs.Keys.{shared-le}
-use Rattle.meaning.proofs.State.{Sound, Debt}
-use Rattle.meaning.proofs.Placed.{Placed, placed-has, place-low, place-high, free-cell-rest}
-use Rattle.meaning.proofs.CellsWithin.{owed-within}
+use Rattle.meaning.proofs.Rows.Keys.{shared-le}
+use Rattle.meaning.proofs.Pictures.State.{Sound, Debt}
+use Rattle.meaning.proofs.Cells.Placed.{Placed, placed-has, place-low, place-high, free-cell-rest}
+use Rattle.meaning.proofs.Cells.CellsWithin.{owed-within}
 use Rattle.words.proofs.Listed.{on-listed}
 use Rattle.finish.specs.Payable.{Payable}
 

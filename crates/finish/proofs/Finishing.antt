@@ -8,7 +8,7 @@ use lib.ListN.{getD}
 use Rattle.settings.specs.declared.Settings.{Settings}
 use Rattle.meaning.specs.Words.{wordIndex, owedAt, lowAt, highAt, linkAt, linkField}
 use Rattle.meaning.specs.Layer.Stores.{store, moveLinks, clearDebt, finishWords}
-use Rattle.meaning.proofs.Stores.{finishWords-none, finishWords-some}
+use Rattle.meaning.proofs.Cells.Stores.{finishWords-none, finishWords-some}
 use Rattle.words.specs.Shaped.{Shaped}
 use Rattle.words.proofs.Shaped.{shaped-dimensions}
 

@@ -1,13 +1,14 @@
 // Finish: what a cell owes is moved to it: Debts 5.
 ghost use mathlib.Core.Path.{_≡_};
 ghost use Prim.Native.Nat.{_-_, _≤_, _<_};
-ghost use Rattle.meaning.specs.Refusals.{Meets};
+ghost use Rattle.settings.specs.Levels.{PowersOf};
+ghost use Rattle.answers.specs.Refusals.{Meets};
 ghost use Rattle.meaning.specs.Operations.{finishOut};
 ghost use Rattle.meaning.specs.Layer.Stores.{moveLinks, clearDebt, finishWords};
 ghost use Rattle.meaning.specs.Layer.Listed.{Listed};
 ghost use Rattle.words.specs.Shaped.{Shaped};
 ghost use Rattle.finish.specs.Payable.{Payable};
-use meaning::Answer;
+use answers::Answer;
 use settings::Settings;
 
 // Links low to high-1 move from cell c to cell n.
@@ -50,21 +51,18 @@ pub fn finish_cell(list: &mut [u32], s: Settings, n: u32)
 }
 
 // On a list with settings s: The operations 4.
-pub fn finish(list: &mut [u32], s: Settings, key: u32) -> Answer
-    requires { ⌜ Listed (now list) s ⌝ }
+pub fn finish(list: &mut [u32], s: Settings, powers: &[u64], key: u32) -> Answer
+    requires { ⌜ Listed (now list) s × PowersOf s (now powers) ⌝ }
     ensures { λ r. ⌜ Meets (finishOut (now (list .entry)) key) r (now (list .exit)) ⌝ }
 {
-    if key == 0 {
-        return meaning::refused(meaning::BAD_KEY);
+    if !s.has_key(key) {
+        return answers::refused(answers::BAD_KEY);
     }
-    if s.largest < key {
-        return meaning::refused(meaning::BAD_KEY);
-    }
-    let f = search::search(list, s, key);
+    let f = search::search(list, s, powers, key);
     if !f.standing {
-        return meaning::refused_at(meaning::KEY_NOT_STANDING, key, 0);
+        return answers::refused_at(answers::KEY_NOT_STANDING, key, 0);
     }
     let moved = words::word(list, s, f.c, words::HIGH) - words::word(list, s, f.c, words::LOW);
     finish_cell(list, s, f.c);
-    meaning::accepted(key, 0, moved)
+    answers::accepted(key, 0, moved)
 }

@@ -15,8 +15,8 @@ use Rattle.meaning.specs.Picture.{freeWords}
 use Rattle.meaning.specs.Words.{wordIndex, wordAt, keyAt, linkAt, firstFreeAt, linkField}
 use Rattle.meaning.specs.Layer.Stores.{store}
 use Rattle.meaning.specs.Layer.SweepStores.{takeLinks, relinkHead, freeCell}
-use Rattle.meaning.proofs.Keys.{shared-le}
-use Rattle.meaning.proofs.Blocks.{shared-zeros}
+use Rattle.meaning.proofs.Rows.Keys.{shared-le}
+use Rattle.meaning.proofs.Rows.Blocks.{shared-zeros}
 use Rattle.words.specs.Shaped.{Shaped, Within}
 use Rattle.words.proofs.Shaped.{shaped-dimensions, word-is, part-inside, part-written}
 use Rattle.free_between.specs.Between.{zerosOf, Keyed, freeChained, ChainIn}

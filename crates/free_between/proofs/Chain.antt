@@ -20,9 +20,9 @@ use Rattle.meaning.specs.Operations.{swept}
 use Rattle.meaning.specs.Layer.Paths.{onward}
 use Rattle.meaning.specs.Layer.Stores.{store, writePath}
 use Rattle.meaning.specs.Layer.SweepStores.{takeLinks, relinkHead, freeCell, freeAll, dropFront}
-use Rattle.meaning.proofs.Stores.{Exact, wordIn, index-apart, index-above, exact-set, store-same}
-use Rattle.meaning.proofs.SweepStores.{Dropping, exact-taken, takeLinks-other, exact-relinked, relinkHead-cell}
-use Rattle.meaning.proofs.SweepStores.{exact-freed, freeCell-own, freeCell-cell}
+use Rattle.meaning.proofs.Cells.Stores.{Exact, wordIn, index-apart, index-above, exact-set, store-same}
+use Rattle.meaning.proofs.Written.SweepStores.{Dropping, exact-taken, takeLinks-other, exact-relinked, relinkHead-cell}
+use Rattle.meaning.proofs.Written.SweepStores.{exact-freed, freeCell-own, freeCell-cell}
 use Rattle.words.proofs.Listed.{listed-shaped}
 use Rattle.paths.specs.declared.Path.{Path}
 use Rattle.paths.specs.Paths.{pathOf, Formed}

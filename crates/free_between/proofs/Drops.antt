@@ -14,13 +14,13 @@ use Rattle.meaning.specs.Reading.{read}
 use Rattle.meaning.specs.Operations.{paid, deadFront, fromLive, freedBy, swept}
 use Rattle.meaning.specs.Layer.Paths.{PathOf, dimensionIn}
 use Rattle.meaning.specs.Layer.SweepStores.{dropFront}
-use Rattle.meaning.proofs.State.{Sound, base-positive}
-use Rattle.meaning.proofs.Placed.{place-key, placed-below}
-use Rattle.meaning.proofs.SentencesShape.{HasPlace, row-placed, key-below}
-use Rattle.meaning.proofs.PathNext.{way-key}
-use Rattle.meaning.proofs.SweepStores.{Dropping}
-use Rattle.meaning.proofs.SweepFinish.{paid-owes-nothing}
-use Rattle.meaning.proofs.SweepWords.{swept-front, sweptZeros, swept-dropping, unowing-swept}
+use Rattle.meaning.proofs.Pictures.State.{Sound, base-positive}
+use Rattle.meaning.proofs.Cells.Placed.{place-key, placed-below}
+use Rattle.meaning.proofs.BothWays.SentencesShape.{HasPlace, row-placed, key-below}
+use Rattle.meaning.proofs.Paths.PathNext.{way-key}
+use Rattle.meaning.proofs.Written.SweepStores.{Dropping}
+use Rattle.meaning.proofs.Written.SweepFinish.{paid-owes-nothing}
+use Rattle.meaning.proofs.Written.SweepWords.{swept-front, sweptZeros, swept-dropping, unowing-swept}
 use Rattle.words.proofs.Listed.{power-fits, on-listed}
 use Rattle.paths.specs.Paths.{pathOf}
 use Rattle.free_between.specs.declared.Target.{Target}

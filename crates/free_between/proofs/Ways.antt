@@ -14,11 +14,11 @@ use Rattle.meaning.specs.Operations.{deadFront, fromLive, freedBy}
 use Rattle.meaning.specs.Layer.Listed.{Listed}
 use Rattle.meaning.specs.Layer.Paths.{PathOf, nextFrom}
 use Rattle.meaning.specs.Layer.Stores.{store}
-use Rattle.meaning.proofs.StateCells.{free-length}
-use Rattle.meaning.proofs.KeepsSweep.{keptBy, swept-split}
-use Rattle.meaning.proofs.Parent.{Apart, apart-before}
-use Rattle.meaning.proofs.Slot.{sound-apart}
-use Rattle.meaning.proofs.SweepWords.{swept-front}
+use Rattle.meaning.proofs.Pictures.StateCells.{free-length}
+use Rattle.meaning.proofs.Kept.KeepsSweep.{keptBy, swept-split}
+use Rattle.meaning.proofs.Rows.Parent.{Apart, apart-before}
+use Rattle.meaning.proofs.Kept.Slot.{sound-apart}
+use Rattle.meaning.proofs.Written.SweepWords.{swept-front}
 use Rattle.words.proofs.Listed.{listed-picture, on-listed, listed-shaped}
 use Rattle.paths.specs.declared.Path.{Path}
 use Rattle.paths.specs.declared.Reached.{Reached}

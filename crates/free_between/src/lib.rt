@@ -6,6 +6,7 @@ ghost use Prim.Native.Nat.{suc, _-_, _≤_, _<_};
 ghost use lib.ListN.{length, getD, replicate};
 ghost use lib.Seq.{sets};
 ghost use Rattle.settings.specs.Numbers.{cellWords};
+ghost use Rattle.settings.specs.Levels.{PowersOf};
 ghost use Rattle.lists.specs.Lists.{firstNumber};
 ghost use Rattle.meaning.specs.Picture.{picture};
 ghost use Rattle.meaning.specs.Reading.{read};
@@ -70,15 +71,14 @@ fn chain_between(list: &mut [u32], s: Settings, position: u32) -> Freed
 
 // How many leading coordinates of cell x are 0: what it shares with the head. Those up to number d are 0 if its key is below the power of
 // level d + 1.
-fn leading_zeros(list: &[u32], s: Settings, x: u32) -> u32
-    requires { ⌜ Shaped (now list) s × Keyed (now list) s x ⌝ }
+fn leading_zeros(list: &[u32], s: Settings, powers: &[u64], x: u32) -> u32
+    requires { ⌜ Shaped (now list) s × (Keyed (now list) s x × PowersOf s (now powers)) ⌝ }
     ensures { λ r. ⌜ r ≡ zerosOf (now (list .entry)) s x ⌝ }
 {
-    let powers = s.powers();
     let key = words::word(list, s, x, words::KEY) as u64;
     let mut d: u32 = 0;
     while d < s.dimensions {
-        if powers.of[d as usize + 1] <= key {
+        if powers[d as usize + 1] <= key {
             return d;
         }
         d += 1;
@@ -154,11 +154,11 @@ fn free_chained(list: &mut [u32], s: Settings, chained: Freed)
 
 // Relinks head and new position, frees what is between, and redraws the path. The cells between are chained first: once the head is
 // relinked, no link leads to them. Answers how many are freed.
-pub fn drop_front(list: &mut [u32], s: Settings, t: Target) -> u32
-    requires { ⌜ Droppable (now list) s t ⌝ }
+pub fn drop_front(list: &mut [u32], s: Settings, powers: &[u64], t: Target) -> u32
+    requires { ⌜ Droppable (now list) s t × PowersOf s (now powers) ⌝ }
     ensures { λ r. ⌜ (now (list .exit) ≡ picture (swept (read (now (list .entry))))) × (r ≡ length (freedBy (read (now (list .entry)) .row))) ⌝ }
 {
-    let z = leading_zeros(list, s, t.cell);
+    let z = leading_zeros(list, s, powers, t.cell);
     let chained = chain_between(list, s, t.cell);
     take_links(list, s, t, z);
     relink_head(list, s, t.cell, z);

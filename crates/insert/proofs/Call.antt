@@ -9,60 +9,45 @@ use native.Mathlib.Omega.{arith}
 use lib.Dec.{eqb}
 use lib.ListN.{length, getD, set}
 use lib.Seq.{sets}
-use borrow.Author.Tests.{eq-eqb, ne-eqb}
+use borrow.Author.Tests.{eq-eqb}
 use Rattle.settings.specs.Numbers.{headerWords}
 use Rattle.settings.specs.declared.Settings.{Settings}
 use Rattle.lists.specs.Lists.{firstNumber}
 use Rattle.lists.proofs.All.{All, all-map}
 use Rattle.meaning.specs.Row.{Node, nodeAt}
 use Rattle.meaning.specs.State.{State, positionKey}
-use Rattle.meaning.specs.Picture.{mark, path, picture}
+use Rattle.meaning.specs.Picture.{path, picture}
 use Rattle.meaning.specs.Reading.{read}
-use Rattle.meaning.specs.Refusals.{answer, Meets, accepted}
+use Rattle.answers.specs.Refusals.{answer, Meets, accepted}
 use Rattle.meaning.specs.Words.{wordIndex, wordAt, markAt, owedAt, firstFreeAt, linkField}
-use Rattle.meaning.specs.Operations.{positionAfter, revived, Slot, slotFor, added, insertOut}
+use Rattle.meaning.specs.Operations.{positionAfter, revived, slotFor, added, insertOut}
+use Rattle.meaning.specs.declared.Slot.{Slot}
 use Rattle.meaning.specs.Layer.Stores.{store, finishWords, writePath, writeNode, newWords, insertWords, hungWords, paidWords}
-use Rattle.meaning.specs.declared.Answer.{Answer}
-use Rattle.meaning.specs.Layer.Listed.{Listed}
-use Rattle.meaning.proofs.State.{Sound, sound-valid}
-use Rattle.meaning.proofs.StateCells.{free-range}
-use Rattle.meaning.proofs.Slot.{first-free-all}
-use Rattle.meaning.proofs.Picture.{picture-free, path-length}
-use Rattle.meaning.proofs.ReadBack.{mark-live, read-of-picture}
-use Rattle.meaning.proofs.Placed.{place-mark}
-use Rattle.meaning.proofs.BookRow.{node-key}
-use Rattle.meaning.proofs.Stores.{Exact, picture-exact, exact-set, exact-sets, exact-finished, header-set-path, store-below, cell-sets-below}
-use Rattle.meaning.proofs.Stores.{path-sets-same, finishWords-none, finishWords-below}
-use Rattle.meaning.proofs.Changed.{picture-path-word}
-use Rattle.meaning.proofs.KeepsFinish.{finished-sound}
-use Rattle.meaning.proofs.KeepsInsert.{revived-sound, added-sound}
-use Rattle.meaning.proofs.FinishWords.{finish-words}
-use Rattle.meaning.proofs.TakeWords.{revived-words, revived-words-above}
-use Rattle.meaning.proofs.InsertWords.{added-words, added-path}
-use Rattle.meaning.proofs.Outcomes.{insert-outcome-bad-key, insert-outcome-live, insert-outcome-dead, insert-outcome-full, insert-outcome-new}
+use Rattle.answers.specs.declared.Answer.{Answer}
+use Rattle.meaning.proofs.Pictures.State.{Sound, sound-valid}
+use Rattle.meaning.proofs.Pictures.StateCells.{free-range}
+use Rattle.meaning.proofs.Kept.Slot.{first-free-all}
+use Rattle.meaning.proofs.Pictures.Picture.{picture-free, path-length}
+use Rattle.meaning.proofs.Pictures.ReadBack.{read-of-picture}
+use Rattle.meaning.proofs.Rows.Nodes.{node-key}
+use Rattle.meaning.proofs.Cells.Stores.{Exact, picture-exact, exact-set, exact-sets, exact-finished, header-set-path, store-below, cell-sets-below}
+use Rattle.meaning.proofs.Cells.Stores.{path-sets-same, finishWords-none, finishWords-below}
+use Rattle.meaning.proofs.Cells.Changed.{picture-path-word}
+use Rattle.meaning.proofs.Kept.KeepsFinish.{finished-sound}
+use Rattle.meaning.proofs.Kept.KeepsInsert.{revived-sound, added-sound}
+use Rattle.meaning.proofs.Written.FinishWords.{finish-words}
+use Rattle.meaning.proofs.Written.TakeWords.{revived-words, revived-words-above}
+use Rattle.meaning.proofs.Written.InsertWords.{added-words, added-path}
+use Rattle.meaning.proofs.Outcomes.{insert-outcome-live, insert-outcome-dead, insert-outcome-full, insert-outcome-new}
 use Rattle.words.specs.Shaped.{Shaped}
 use Rattle.words.proofs.Shaped.{word-is}
-use Rattle.search.specs.Found.{foundOf, Sought}
+use Rattle.search.specs.Found.{foundOf, slotOf, Sought}
 use Rattle.search.specs.declared.Found.{Found}
-use Rattle.words.proofs.Listed.{on-listed}
-use Rattle.search.proofs.Slots.{Present, SlotFound, node-placed, found-standing, found-missing, found-slot}
-use Rattle.new_cell.specs.NewCell.{slotOf, Fits}
+use Rattle.search.proofs.Slots.{Present, SlotFound, found-standing, found-missing, found-slot, marked-live, marked-dead, on-sought}
+use Rattle.new_cell.specs.NewCell.{Fits}
 use Rattle.finish.specs.Payable.{Payable}
 use Rattle.finish.proofs.Debts.{payable, listed-payable}
 use Rattle.insert.specs.Inserting.{Ending, EndsInSome, PathWritten, ComesLast}
-
--- what holds of each state in order, its picture and its settings, where the search has answered so, holds of the list
-on-sought :
-    (P : State → List ℕ → Settings → Type 0) {ws : List ℕ} {s : Settings} {key : ℕ} {f : Found} → Sought ws s key f →
-    ((t : State) → Sound t → key ≤ t .settings .largest → f ≡ foundOf t key → P t (picture t) (t .settings)) → P (read ws) ws s
-on-sought P {key = key} {f = f} k g = on-listed (λ t ws s. key ≤ s .largest → f ≡ foundOf t key → P t ws s) g (k .list) (k .most) (k .is)
-
-pub bad-key-meets :
-    {ws : List ℕ} {s : Settings} → Listed ws s → (key value : ℕ) {r : Answer} → (1 ≤ key → s .largest < key) → r ≡ answer 4 0 0 0 →
-    Meets (insertOut ws key value) r ws
-bad-key-meets h key value {r} bad a =
-    on-listed (λ t ws s. (1 ≤ key → s .largest < key) → Meets (insertOut ws key value) r ws)
-    (λ t v b. rw (insert-outcome-bad-key t v key value b) (record { answered = a; left = refl })) h bad
 
 -- The outcome of an accepted call is the picture of a state, at which the words us end when the path is written.
 pub record Leads (ws us : List ℕ) (s : Settings) (top key value : ℕ) (f : Found) : Type 0 where
@@ -85,18 +70,7 @@ module _ {ws us : List ℕ} {s : Settings} {top key value : ℕ} {f : Found} (l 
 
 -- A key that stands
 
-mark-told : (live : Bool) {m : ℕ} → m ≡ mark live → m ≡ 1 → live ≡ true
-mark-told live e one = sym (mark-live live) ∙ eq-eqb (mark live) 1 (sym e ∙ one)
-
-mark-dead : (live : Bool) {m : ℕ} → m ≡ mark live → (m ≡ 1 → ⊥) → live ≡ false
-mark-dead live e other = sym (mark-live live) ∙ ne-eqb (mark live) 1 (λ q. other (e ∙ q))
-
 module _ {t : State} (v : Sound t) {key : ℕ} {x : Node} {f : Found} (found : Present t key x f) where
-  present-mark : markAt (picture t) (f .c) ≡ mark (x .live)
-  present-mark =
-      let (p, here) = node-placed v key x (found .node) in
-      ap (markAt (picture t)) (found .c) ∙ place-mark v (here .0) ∙ ap (λ y. mark (y .live)) (here .1)
-
   revived-leads : 1 ≤ key → key ≤ t .settings .largest → (value : ℕ) → x .live ≡ false →
       Leads (picture t) (writeNode (t .settings .dimensions) (picture t) (f .c) value 1) (t .settings) (positionKey t) key value f
   revived-leads least most value dead =
@@ -125,15 +99,12 @@ module _ {t : State} (v : Sound t) {key : ℕ} {x : Node} {f : Found} (found : P
           made ∙ ap (positionAfter t) (node-key key x (t .row) (found .node)) ∙ ap (λ u. positionAfter u key) (sym (read-of-picture t v))
 
 module _ {ws : List ℕ} {s : Settings} {key : ℕ} {f : Found} (k : Sought ws s key f) (stands : f .standing ≡ true) where
-  pub standing-cell : f .c < s .cells
-  standing-cell = on-sought (λ t ws s. f .c < s .cells) k (λ t v m q. found-standing v (k .least) q stands .1 .c-below)
-
   pub live-meets : (value : ℕ) {r : Answer} {m : ℕ} → m ≡ markAt ws (f .c) → m ≡ 1 → r ≡ answer 5 key 0 (f .looked) → Meets (insertOut ws key value) r ws
   live-meets value {r} {m} word one a =
       on-sought (λ t ws s. m ≡ markAt ws (f .c) → Meets (insertOut ws key value) r ws) k
       (λ t v most q e.
       let (x, found) = found-standing v (k .least) q stands in
-      rw (insert-outcome-live t v key value (k .least) most x (found .node) (mark-told (x .live) (e ∙ present-mark v found) one))
+      rw (insert-outcome-live t v key value (k .least) most x (found .node) (marked-live v found e one))
       (record { answered = a ∙ ap (answer 5 key 0) (found .looked); left = refl }))
       word
 
@@ -143,7 +114,7 @@ module _ {ws : List ℕ} {s : Settings} {key : ℕ} {f : Found} (k : Sought ws s
       on-sought (λ t ws s. (markAt ws (f .c) ≡ 1 → ⊥) → Leads ws (writeNode (s .dimensions) ws (f .c) value 1) s (positionKey t) key value f) k
       (λ t v most q no.
       let (x, found) = found-standing v (k .least) q stands in
-      revived-leads v found (k .least) most value (mark-dead (x .live) (present-mark v found) no))
+      revived-leads v found (k .least) most value (marked-dead v found refl no))
       other
 
 -- A key that does not stand
@@ -172,10 +143,10 @@ same-slot D ws key value n g e = rw (same-words D key value n g, g .parent, g .p
 
 -- the steps of the code hang the new cell as the definition says
 pub hung :
-    {ws : List ℕ} {s : Settings} → Shaped ws s → (key value n : ℕ) (f : Found) {next : ℕ} {cell us : List ℕ} → next ≡ wordAt ws n 0 →
-    cell ≡ sets (set ws 4 next) (wordIndex (s .dimensions) n 0) (newWords (s .dimensions) key value (slotOf n f)) →
-    us ≡ store (s .dimensions) cell (f .parent) (linkField (f .p)) n → us ≡ hungWords (s .dimensions) ws key value (slotOf n f)
-hung h key value n f reads writes links = rw (links, writes, reads, ← word-is h n 0 refl) refl
+    {ws : List ℕ} {s : Settings} → Shaped ws s → (key value : ℕ) (t : Slot) {next : ℕ} {cell us : List ℕ} → next ≡ wordAt ws (t .n) 0 →
+    cell ≡ sets (set ws 4 next) (wordIndex (s .dimensions) (t .n) 0) (newWords (s .dimensions) key value t) →
+    us ≡ store (s .dimensions) cell (t .parent) (linkField (t .p)) (t .n) → us ≡ hungWords (s .dimensions) ws key value t
+hung h key value t reads writes links = rw (links, writes, reads, ← word-is h (t .n) 0 refl) refl
 
 -- .. and with the debts finished before, write what it says of the slot that was found, but for the path
 pub new-written :
@@ -283,7 +254,7 @@ module _ {ws : List ℕ} {s : Settings} {key : ℕ} {f : Found} (k : Sought ws s
       rw first (first-free-all (λ c. (0 < c) × (c < t .settings .cells)) (t .free) (free-some (t .free) first h) (free-range t v) .1))
       e
 
-  pub new-fits : {n : ℕ} → n ≡ firstFreeAt ws → 0 < n → Fits s n f
+  pub new-fits : {n : ℕ} → n ≡ firstFreeAt ws → 0 < n → Fits s (slotOf n f)
   new-fits e h = record { cell = new-cell e h; link = q-link; none = q-none }
 
   -- what the parent owes can be finished, and then what c owes

@@ -16,9 +16,9 @@ use Rattle.meaning.specs.Lower.{lowerFrom}
 use Rattle.meaning.specs.Layer.Stores.{writePath}
 use Rattle.meaning.specs.Words.{keyAt, positionAt}
 use Rattle.meaning.specs.Layer.Listed.{Listed}
-use Rattle.meaning.proofs.Sentences.{position-is}
-use Rattle.meaning.proofs.State.{valid-sound}
-use Rattle.meaning.proofs.Placed.{placed-keyOf, placed-below, place-key, position-placed}
+use Rattle.meaning.proofs.BothWays.Sentences.{position-is}
+use Rattle.meaning.proofs.Pictures.State.{valid-sound}
+use Rattle.meaning.proofs.Cells.Placed.{placed-keyOf, placed-below, place-key, position-placed}
 use Rattle.words.proofs.Listed.{on-listed}
 use Rattle.search.specs.Found.{Sought}
 use Rattle.search.specs.declared.Found.{Found}

@@ -6,7 +6,8 @@ ghost use Prim.Native.Nat.{_<_};
 ghost use lib.ListN.{getD};
 ghost use Rattle.meaning.specs.State.{positionKey};
 ghost use Rattle.meaning.specs.Reading.{read};
-ghost use Rattle.meaning.specs.Refusals.{Meets};
+ghost use Rattle.settings.specs.Levels.{PowersOf};
+ghost use Rattle.answers.specs.Refusals.{Meets};
 ghost use Rattle.meaning.specs.Operations.{positionAfter, insertOut};
 ghost use Rattle.meaning.specs.Words.{markAt};
 ghost use Rattle.meaning.specs.Layer.Stores.{finishWords, paidWords, hungWords};
@@ -14,9 +15,10 @@ ghost use Rattle.meaning.specs.Layer.Listed.{Listed};
 ghost use Rattle.words.specs.Shaped.{Shaped};
 ghost use Rattle.finish.specs.Payable.{Payable};
 ghost use Rattle.search.specs.Found.{Sought};
-ghost use Rattle.new_cell.specs.NewCell.{slotOf, Fits};
+ghost use Rattle.new_cell.specs.NewCell.{Fits};
 ghost use Rattle.insert.specs.Inserting.{EndsInSome, PathWritten, ComesLast};
-use meaning::Answer;
+use answers::Answer;
+use meaning::Slot;
 use search::Found;
 use settings::Settings;
 
@@ -41,62 +43,69 @@ fn position_after(list: &[u32], s: Settings, top: u32, key: u32, f: Found) -> u3
 }
 
 // The path of the position after the call, cell x, is written; a key above the position's key before the call, which is `top`, changes none.
-fn move_position(list: &mut [u32], s: Settings, top: u32, key: u32, x: u32)
-    requires { ⌜ Shaped (now list) s × EndsInSome (now list) s top key x ⌝ }
+fn move_position(list: &mut [u32], s: Settings, powers: &[u64], top: u32, key: u32, x: u32)
+    requires { ⌜ (Shaped (now list) s × EndsInSome (now list) s top key x) × PowersOf s (now powers) ⌝ }
     ensures { λ r. ⌜ PathWritten (now (list .entry)) (now (list .exit)) s top key x ⌝ }
 {
     if top < key {
         return;
     }
-    let path = paths::path_of(list, s, x);
+    let path = paths::path_of(list, s, powers, x);
     paths::write_path(list, s, path);
 }
 
 // The operations 2: a dead key is revived.
-fn revive(list: &mut [u32], s: Settings, f: Found, key: u32, value: u32)
-    requires { ⌜ Sought (now list) s key f × ((f .standing ≡ true) × (markAt (now list) (f .c) ≡ 1 → ⊥)) ⌝ }
+fn revive(list: &mut [u32], s: Settings, powers: &[u64], f: Found, key: u32, value: u32)
+    requires { ⌜ (Sought (now list) s key f × ((f .standing ≡ true) × (markAt (now list) (f .c) ≡ 1 → ⊥))) × PowersOf s (now powers) ⌝ }
     ensures { λ r. ⌜ now (list .exit) ≡ insertOut (now (list .entry)) key value .left ⌝ }
 {
     let top = position_key(list, s);
     let position = position_after(list, s, top, key, f);
     words::store(list, s, f.c, words::VALUE, value);
     words::store(list, s, f.c, words::MARK, words::LIVE);
-    move_position(list, s, top, key, position);
+    move_position(list, s, powers, top, key, position);
 }
 
 // Finishes what the parent owes, then what c owes, and nothing else.
-fn finish_neighbours(list: &mut [u32], s: Settings, f: Found)
-    requires { ⌜ Shaped (now list) s × (Payable (now list) s (f .parent) × Payable (finishWords (s .dimensions) (now list) (f .parent)) s (f .c)) ⌝ }
-    ensures { λ r. ⌜ (now (list .exit) ≡ paidWords (s .dimensions) (now (list .entry)) (f .parent) (f .c)) × Shaped (now (list .exit)) s ⌝ }
+fn finish_neighbours(list: &mut [u32], s: Settings, t: Slot)
+    requires { ⌜ Shaped (now list) s × (Payable (now list) s (t .parent) × Payable (finishWords (s .dimensions) (now list) (t .parent)) s (t .c)) ⌝ }
+    ensures { λ r. ⌜ (now (list .exit) ≡ paidWords (s .dimensions) (now (list .entry)) (t .parent) (t .c)) × Shaped (now (list .exit)) s ⌝ }
 {
-    finish::finish_cell(list, s, f.parent);
-    if f.c == 0 {
+    finish::finish_cell(list, s, t.parent);
+    if t.c == 0 {
         return;
     }
-    finish::finish_cell(list, s, f.c);
+    finish::finish_cell(list, s, t.c);
 }
 
 // Cell n, the first free one, is taken off its chain and written, and hung from the parent.
-fn hang(list: &mut [u32], s: Settings, n: u32, f: Found, key: u32, value: u32)
-    requires { ⌜ Shaped (now list) s × (Fits s n f × ((f .parent < s .cells) × (f .p < s .dimensions))) ⌝ }
-    ensures { λ r. ⌜ (now (list .exit) ≡ hungWords (s .dimensions) (now (list .entry)) key value (slotOf n f)) × Shaped (now (list .exit)) s ⌝ }
+fn hang(list: &mut [u32], s: Settings, t: Slot, key: u32, value: u32)
+    requires { ⌜ Shaped (now list) s × (Fits s t × ((t .parent < s .cells) × (t .p < s .dimensions))) ⌝ }
+    ensures { λ r. ⌜ (now (list .exit) ≡ hungWords (s .dimensions) (now (list .entry)) key value t) × Shaped (now (list .exit)) s ⌝ }
 {
     // as any free cell's, n's first word holds the next free cell
-    list[words::FIRST_FREE] = words::word(list, s, n, words::KEY);
-    new_cell::write_cell(list, s, n, f, key, value);
-    words::store_link(list, s, f.parent, f.p, n);
+    list[words::FIRST_FREE] = words::word(list, s, t.n, words::KEY);
+    new_cell::write_cell(list, s, t, key, value);
+    words::store_link(list, s, t.parent, t.p, t.n);
 }
 
 // A new cell n, the first free one, in the slot that was found.
-fn add(list: &mut [u32], s: Settings, n: u32, f: Found, key: u32, value: u32)
-    requires { ⌜ Sought (now list) s key f × ((f .standing ≡ false) × ((n ≡ getD (now list) 4 0) × (0 < n))) ⌝ }
+fn add(list: &mut [u32], s: Settings, powers: &[u64], n: u32, f: Found, key: u32, value: u32)
+    requires { ⌜ (Sought (now list) s key f × ((f .standing ≡ false) × ((n ≡ getD (now list) 4 0) × (0 < n)))) × PowersOf s (now powers) ⌝ }
     ensures { λ r. ⌜ now (list .exit) ≡ insertOut (now (list .entry)) key value .left ⌝ }
 {
     let top = position_key(list, s);
     let position = position_after(list, s, top, key, f);
-    finish_neighbours(list, s, f);
-    hang(list, s, n, f, key, value);
-    move_position(list, s, top, key, position);
+    let t = Slot {
+        n,
+        parent: f.parent,
+        p: f.p,
+        c: f.c,
+        q: f.q,
+    };
+    finish_neighbours(list, s, t);
+    hang(list, s, t, key, value);
+    move_position(list, s, powers, top, key, position);
 }
 
 // A new cell n, the first free one, for a key of which it is known without a search that no cell has its slot, that its parent owes nothing
@@ -105,56 +114,66 @@ pub fn add_last(list: &mut [u32], s: Settings, n: u32, parent: u32, p: u32, key:
     requires { ⌜ ComesLast (now list) s key parent p × ((n ≡ getD (now list) 4 0) × (0 < n)) ⌝ }
     ensures { λ r. ⌜ now (list .exit) ≡ insertOut (now (list .entry)) key value .left ⌝ }
 {
-    let f = Found {
-        standing: false,
+    let t = Slot {
+        n,
         parent,
         p,
         c: 0,
         q: 0,
-        looked: 0,
     };
-    hang(list, s, n, f, key, value);
+    hang(list, s, t, key, value);
 }
 
 // A key that stands: refused if it is live.
-fn insert_standing(list: &mut [u32], s: Settings, f: Found, key: u32, value: u32) -> Answer
-    requires { ⌜ Sought (now list) s key f × (f .standing ≡ true) ⌝ }
+fn insert_standing(
+    list: &mut [u32],
+    s: Settings,
+    powers: &[u64],
+    f: Found,
+    key: u32,
+    value: u32,
+) -> Answer
+    requires { ⌜ (Sought (now list) s key f × (f .standing ≡ true)) × PowersOf s (now powers) ⌝ }
     ensures { λ r. ⌜ Meets (insertOut (now (list .entry)) key value) r (now (list .exit)) ⌝ }
 {
     if words::word(list, s, f.c, words::MARK) == words::LIVE {
-        return meaning::refused_at(meaning::KEY_LIVE, key, f.looked);
+        return answers::refused_at(answers::KEY_LIVE, key, f.looked);
     }
-    revive(list, s, f, key, value);
-    meaning::accepted(key, 0, f.looked)
+    revive(list, s, powers, f, key, value);
+    answers::accepted(key, 0, f.looked)
 }
 
 // A key that does not stand: refused if there is no free cell.
-fn insert_new(list: &mut [u32], s: Settings, f: Found, key: u32, value: u32) -> Answer
-    requires { ⌜ Sought (now list) s key f × (f .standing ≡ false) ⌝ }
+fn insert_new(
+    list: &mut [u32],
+    s: Settings,
+    powers: &[u64],
+    f: Found,
+    key: u32,
+    value: u32,
+) -> Answer
+    requires { ⌜ (Sought (now list) s key f × (f .standing ≡ false)) × PowersOf s (now powers) ⌝ }
     ensures { λ r. ⌜ Meets (insertOut (now (list .entry)) key value) r (now (list .exit)) ⌝ }
 {
     let n = list[words::FIRST_FREE];
     if n == 0 {
-        return meaning::refused_at(meaning::NO_FREE_CELL, key, f.looked);
+        return answers::refused_at(answers::NO_FREE_CELL, key, f.looked);
     }
-    add(list, s, n, f, key, value);
-    meaning::accepted(key, 0, f.looked)
+    add(list, s, powers, n, f, key, value);
+    answers::accepted(key, 0, f.looked)
 }
 
 // On a list with settings s: The operations 2.
-pub fn insert(list: &mut [u32], s: Settings, key: u32, value: u32) -> Answer
-    requires { ⌜ Listed (now list) s ⌝ }
+pub fn insert(list: &mut [u32], s: Settings, powers: &[u64], key: u32, value: u32) -> Answer
+    requires { ⌜ Listed (now list) s × PowersOf s (now powers) ⌝ }
     ensures { λ r. ⌜ Meets (insertOut (now (list .entry)) key value) r (now (list .exit)) ⌝ }
 {
-    if key == 0 {
-        return meaning::refused(meaning::BAD_KEY);
+    if !s.has_key(key) {
+        return answers::refused(answers::BAD_KEY);
     }
-    if s.largest < key {
-        return meaning::refused(meaning::BAD_KEY);
-    }
-    let f = search::search(list, s, key);
+    let f = search::search(list, s, powers, key);
     if f.standing {
-        return insert_standing(list, s, f, key, value);
+        return insert_standing(list, s, powers, f, key, value);
     }
-    insert_new(list, s, f, key, value)
+    insert_new(list, s, powers, f, key, value)
 }

@@ -7,18 +7,18 @@ use lib.Dec.{eqb}
 use Rattle.settings.specs.declared.Settings.{Settings}
 use Rattle.entries.specs.Entries.{entryKey}
 use Rattle.entries.specs.declared.Entry.{Entry}
-use Rattle.records.specs.Notes.{NoteWithin, Within}
-use Rattle.records.specs.FullNumber.{fullNumber}
-use Rattle.records.specs.declared.note.Logged.{Logged}
-use Rattle.records.specs.declared.note.Logged.the-variants.{Note, NoNote}
-use Rattle.records.specs.declared.full_number.FullNumber.{FullNumber}
-use Rattle.records.specs.declared.full_number.FullNumber.the-variants.{Fits, Outside}
+use Rattle.notes.specs.Notes.{NoteWithin, Within}
+use Rattle.full_number.specs.FullNumber.{fullNumber}
+use Rattle.notes.specs.declared.Logged.{Logged}
+use Rattle.notes.specs.declared.Logged.the-variants.{Note, NoNote}
+use Rattle.full_number.specs.declared.FullNumber.{FullNumber}
+use Rattle.full_number.specs.declared.FullNumber.the-variants.{Fits, Outside}
 use Rattle.meaning.specs.Reading.{readingOf}
-use Rattle.meaning.specs.Refusals.{Outcome, Refusal, badRecord, numberOutside, Meets, answerOf}
+use Rattle.answers.specs.Refusals.{Outcome, Refusal, badRecord, numberOutside, Meets, answerOf}
 use Rattle.meaning.specs.Operations.{insertOut}
-use Rattle.meaning.specs.Records.{Lent, lentOf, nothing, insertion, numberAsks, noteAsks, askedOut, noteOut}
+use Rattle.calls.specs.Records.{Lent, lentOf, nothing, insertion, numberAsks, noteAsks, askedOut, noteOut}
 use Rattle.meaning.specs.Layer.Listed.{Listed}
-use Rattle.meaning.specs.declared.Answer.{Answer}
+use Rattle.answers.specs.declared.Answer.{Answer}
 use Rattle.insert_record.specs.Noted.{Noted}
 
 -- what a note that is made asks for

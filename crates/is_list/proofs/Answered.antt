@@ -1,28 +1,34 @@
--- What the check's answer says of the words, for callers; and what a test says of several numbers, for the loops.
-use mathlib.Core.Path.{_≡_, refl}
-use mathlib.Core.Bool.{Bool, true, false, cond}
+-- What the check's answer says of the words, and for its callers.
+use mathlib.Core.Path.{_≡_, refl, sym, _∙_}
+use mathlib.Core.Bool.{true, false, false≢true}
 use mathlib.Core.List.{List}
 use Prim.Native.Nat.{ℕ}
-use native.Mathlib.Omega.{arith}
+use Rattle.settings.specs.Levels.{PowersOf}
 use Rattle.settings.specs.declared.Settings.{Settings}
 use Rattle.meaning.specs.Layer.Listed.{Listed}
 use Rattle.meaning.specs.declared.Reading.the-variants as variants
 use Rattle.meaning.specs.Reading.{settingsAt, isList, readingOf}
+use Rattle.is_list.specs.declared.Verdict.{Verdict}
+use Rattle.is_list.specs.Verdict.{Decided}
 
--- What the answer says
+-- What is answered
 
-pub reading-listed : {ws : List ℕ} {s : Settings} → readingOf ws ≡ variants.IsList s → Listed ws s
+pub no-list : {ws : List ℕ} {v : Verdict} → v .list ≡ false → false ≡ isList ws → Decided ws v
+no-list none not = record { is = none ∙ not; accepted = λ e. absurd (false≢true (sym none ∙ e)) }
+
+pub decided : {ws : List ℕ} {v : Verdict} → settingsAt ws ≡ v .settings → PowersOf (v .settings) (v .powers .of) → v .list ≡ isList ws → Decided ws v
+decided settings levels is = record { is = is; accepted = λ e. record { listed = record { list = sym is ∙ e; settings = settings }; levels = levels } }
+
+-- What it says to a caller
+
+pub not-listed : {ws : List ℕ} {v : Verdict} → Decided ws v → v .list ≡ false → isList ws ≡ false
+not-listed d e = sym (d .is) ∙ e
+
+-- .. and what the words are then read as
+pub reading-none : (ws : List ℕ) → isList ws ≡ false → readingOf ws ≡ variants.NotAList
 unfolding readingOf
-reading-listed {ws} {s} e = at (isList ws) refl e
-  where
-    at : (t : Bool) → isList ws ≡ t → cond t (variants.IsList (settingsAt ws)) variants.NotAList ≡ variants.IsList s → Listed ws s
-    at true list e = record { list = list; settings = cc }
-    at false list e = absurd (let z : _≡_ {A = ℕ} 0 1 = cc in omega arith)
+reading-none ws none = rw none refl
 
-pub reading-none : (ws : List ℕ) → readingOf ws ≡ variants.NotAList → isList ws ≡ false
+pub reading-listed : {ws : List ℕ} {s : Settings} → Listed ws s → readingOf ws ≡ variants.IsList s
 unfolding readingOf
-reading-none ws e = at (isList ws) e
-  where
-    at : (t : Bool) → cond t (variants.IsList (settingsAt ws)) variants.NotAList ≡ variants.NotAList → t ≡ false
-    at true e = absurd (let z : _≡_ {A = ℕ} 0 1 = cc in omega arith)
-    at false e = refl
+reading-listed h = rw (h .list, h .settings) refl

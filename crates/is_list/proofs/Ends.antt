@@ -14,20 +14,19 @@ use Rattle.settings.specs.Base.{isBase}
 use Rattle.settings.specs.declared.Settings.{Settings}
 use Rattle.lists.proofs.Tests.{both, and-both}
 use Rattle.meaning.specs.Words.{wordAt, owedAt, lowAt, highAt, dimensionsAt, largestAt, cellsAt, baseAt, positionAt, firstFreeAt}
-use Rattle.meaning.specs.Reading.{settingsAt}
+use Rattle.meaning.specs.Reading.{settingsAt, isList}
 use Rattle.words.specs.Shaped.{Shaped}
 use Rattle.words.proofs.Shaped.{shaped-dimensions, shaped-cells}
-use Rattle.tree.specs.declared.Seen.{Seen}
-use Rattle.tree.specs.Tree.{pathRun, allFrom, linksBelow, debtRight, headRight, atHead, freeRight, chainRight, headerRight, seenAll, accepts}
-use Rattle.tree.specs.Pending.{putFrom}
-use Rattle.tree.specs.Loop.{leftOver}
-use Rattle.tree.proofs.AcceptedTests.{header-right, head-right}
-use Rattle.tree.proofs.Following.{head-followed}
-use Rattle.tree.proofs.Tree.{accepts-is-list}
+use Rattle.account.specs.declared.Seen.{Seen}
+use Rattle.account.specs.Tree.{pathRun, allFrom, linksBelow, debtRight, headRight, atHead, freeRight, chainRight, headerRight, seenAll, accepts}
+use Rattle.account.specs.Pending.{putFrom}
+use Rattle.account.specs.Loop.{leftOver}
+use Rattle.account.proofs.AcceptedTests.{header-right, head-right}
+use Rattle.account.proofs.Following.{head-followed}
+use Rattle.account.proofs.Tree.{accepts-is-list}
 use Rattle.meaning.specs.declared.Reading.{Reading}
 use Rattle.meaning.specs.declared.Reading.the-variants as variants
 use Rattle.is_list.specs.Standing.{headerOf}
-use Rattle.meaning.specs.Reading.{readingOf}
 use Rattle.cell_tests.proofs.Tests.{refuted}
 
 -- The head
@@ -170,13 +169,19 @@ accepts-all ws a =
     (and-both (headRight ws) ((atHead ws .right && seenAll ws .right) && (seenAll ws .reached && chain)) (a .head)
     (and-both (atHead ws .right && seenAll ws .right) (seenAll ws .reached && chain) right ends))
 
-pub refuse : (ws : List ℕ) → (Accepts ws → ⊥) → variants.NotAList ≡ readingOf ws
-unfolding readingOf
-refuse ws never = rw (← accepts-is-list ws, refuted (accepts ws) (λ t. never (accepted ws t))) refl
+pub refuse : (ws : List ℕ) → (Accepts ws → ⊥) → false ≡ isList ws
+refuse ws never = rw (← accepts-is-list ws) (sym (refuted (accepts ws) (λ t. never (accepted ws t))))
 
-pub accept : {ws : List ℕ} {s : Settings} → Shaped ws s → Accepts ws → variants.IsList s ≡ readingOf ws
-unfolding readingOf
-accept {ws} h a = rw (← accepts-is-list ws, accepts-all ws a, h .header) refl
+-- past the other tests the chain of free cells decides
+pub chain-decides :
+    (ws : List ℕ) {t : Bool} → headerRight ws ≡ true → headRight ws ≡ true → atHead ws .right ≡ true → seenAll ws .right ≡ true →
+    seenAll ws .reached ≡ true → t ≡ chainRight ws (seenAll ws .left) (firstFreeAt ws) → t ≡ isList ws
+chain-decides ws {t} header head start right reached e = at t e
+  where
+    at : (u : Bool) → u ≡ chainRight ws (seenAll ws .left) (firstFreeAt ws) → u ≡ isList ws
+    at true e =
+        sym (accepts-all ws (record { header = header; head = head; start = start; right = right; reached = reached; chain = sym e })) ∙ accepts-is-list ws
+    at false e = refuse ws (λ a. false≢true (e ∙ a .chain))
 
 pub head-last : (ws : List ℕ) {start : Seen} → start ≡ atHead ws → start .last ≡ 0
 unfolding atHead

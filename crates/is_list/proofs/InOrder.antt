@@ -16,12 +16,12 @@ use Rattle.lists.proofs.Tests.{both}
 use Rattle.meaning.specs.Words.{owedAt, highAt, linkAt, dimensionsAt, positionAt}
 use Rattle.words.specs.Shaped.{Shaped}
 use Rattle.words.proofs.Shaped.{shaped-dimensions, shaped-cells}
-use Rattle.tree.specs.declared.Seen.{Seen}
-use Rattle.tree.specs.Tree.{pathRun, agreedAt, wrong}
-use Rattle.tree.specs.Pending.{Link, putFrom, followed, followedAll}
-use Rattle.tree.specs.Loop.{aloneRight, metRight, met, linksNone, owesNothing, owesRight, Hung, plain, owed, leftOver, noList, verdict}
-use Rattle.tree.proofs.Following.{put-once}
-use Rattle.tree.proofs.Loop.{put-zero, owes-none, owes-told, links-wrong, goes-free, debt-wrong, goes-owing, met-wrong, met-goes}
+use Rattle.account.specs.declared.Seen.{Seen}
+use Rattle.account.specs.Tree.{pathRun, agreedAt, wrong}
+use Rattle.account.specs.Pending.{Link, putFrom, followed, followedAll}
+use Rattle.account.specs.Loop.{aloneRight, metRight, met, linksNone, owesNothing, owesRight, Hung, plain, owed, leftOver, noList, verdict}
+use Rattle.account.proofs.Following.{put-once}
+use Rattle.account.proofs.Loop.{put-zero, owes-none, owes-told, links-wrong, goes-free, debt-wrong, goes-owing, met-wrong, met-goes}
 use Rattle.cell_tests.proofs.OneCell.{alone}
 use Rattle.is_list.specs.Standing.{SeenWithin, Entered, pendingOf, Pending, owingNext, GoesOn, NextIs, Started}
 use Rattle.is_list.specs.declared.standing.Way.{Way}

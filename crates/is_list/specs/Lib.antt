@@ -1,2 +1,3 @@
--- What the check answers, and the parts of its account on the words (crate tree) that have a function of their own.
+-- What the check answers, and the parts of its account on the words (crate account) that have a function of their own.
 pub mod Standing
+pub mod Verdict

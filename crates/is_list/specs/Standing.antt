@@ -12,10 +12,10 @@ use Rattle.meaning.specs.Words.{owedAt, highAt, linkAt}
 use Rattle.meaning.specs.declared.Reading.{Reading}
 use Rattle.meaning.specs.declared.Reading.the-variants as variants
 use Rattle.words.specs.Shaped.{Shaped}
-use Rattle.tree.specs.declared.Seen.{Seen}
-use Rattle.tree.specs.Tree.{headerRight}
-use Rattle.tree.specs.Pending.{Link, putFrom, followedAll}
-use Rattle.tree.specs.Loop.{metRight, met, owesRight, Hung, leftOver, noList, verdict}
+use Rattle.account.specs.declared.Seen.{Seen}
+use Rattle.account.specs.Tree.{headerRight}
+use Rattle.account.specs.Pending.{Link, putFrom, followedAll}
+use Rattle.account.specs.Loop.{metRight, met, owesRight, Hung, leftOver, noList, verdict}
 use Rattle.is_list.specs.declared.standing.Way.{Way}
 use Rattle.is_list.specs.declared.standing.Next.{Next}
 use Rattle.is_list.specs.declared.standing.Next.the-variants.{Wrong, End, Goes}

@@ -1,7 +1,7 @@
 // The free cells, chained through their first words.
 ghost use mathlib.Core.Path.{_≡_};
 ghost use Rattle.words.specs.Shaped.{Shaped};
-ghost use Rattle.tree.specs.Tree.{chainRight};
+ghost use Rattle.account.specs.Tree.{chainRight};
 use settings::Settings;
 
 // Whether the chain from cell `first` has n free cells and then ends in 0.

@@ -2,7 +2,7 @@
 ghost use mathlib.Core.Path.{_≡_};
 ghost use Prim.Native.Nat.{_-_, _≤_, _<_};
 ghost use Rattle.words.specs.Shaped.{Shaped};
-ghost use Rattle.tree.specs.Tree.{pathRun, agreedAt};
+ghost use Rattle.account.specs.Tree.{pathRun, agreedAt};
 use settings::Settings;
 
 // How many leading path words agree with the way down, where those from number d on are to be cell y.

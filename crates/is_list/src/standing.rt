@@ -6,15 +6,15 @@ ghost use Prim.Native.Nat.{_-_, _≤_, _<_};
 ghost use Rattle.settings.specs.Levels.{PowersOf};
 ghost use Rattle.meaning.specs.Words.{linkAt};
 ghost use Rattle.words.specs.Shaped.{Shaped};
-ghost use Rattle.tree.specs.Tree.{atHead};
-ghost use Rattle.tree.specs.Tree as tree;
-ghost use Rattle.tree.specs.Pending.{putFrom};
-ghost use Rattle.tree.specs.Loop.{leftOver, verdict};
+ghost use Rattle.account.specs.Tree.{atHead};
+ghost use Rattle.account.specs.Tree as tree;
+ghost use Rattle.account.specs.Pending.{putFrom};
+ghost use Rattle.account.specs.Loop.{leftOver, verdict};
 ghost use Rattle.is_list.specs.Standing.{SeenWithin, Entered, pendingOf, Pending, owingNext, NextIs, Started};
 use super::path;
+use account::Seen;
 use cell_tests::standing;
 use settings::Settings;
-use tree::Seen;
 
 // Where to go on: the cell that a pending link leads to and the link's number, the least number by which that cell may have a link, and how
 // many links are pending then.

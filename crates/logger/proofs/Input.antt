@@ -11,23 +11,24 @@ use borrow.Author.Tests.{eq-eqb}
 use Rattle.lists.proofs.All.{All}
 use Rattle.text.specs.Parts.{begunOver, handedOver}
 use Rattle.text.proofs.Parts.{begun-append, handed-append}
-use Rattle.records.specs.Notes.{noteBy, Within}
-use Rattle.records.specs.Export.{closes}
-use Rattle.records.specs.Feeding.{begunAfter, handedBy, handedAtEnd, begunAfterPart, handedByPart, feedOf, toldIn, ToldWithin, Stepped, FeedEnded}
-use Rattle.records.specs.declared.note.Logged.{Logged}
-use Rattle.records.specs.declared.feed.Feed.{Feed}
-use Rattle.records.specs.declared.feed.Fed.{Fed}
-use Rattle.records.specs.declared.feed.Told.{Told}
-use Rattle.records.specs.declared.feed.Told.the-variants.{NoRecord, Record}
-use Rattle.records.proofs.Notes.{note-within}
+use Rattle.notes.specs.Notes.{noteBy, Within}
+use Rattle.notes.specs.Export.{closes}
+use Rattle.notes.specs.Feeding.{begunAfter, handedBy, handedAtEnd, begunAfterPart, handedByPart, feedOf, toldIn, ToldWithin, Stepped, FeedEnded}
+use Rattle.notes.specs.declared.Logged.{Logged}
+use Rattle.notes.specs.declared.feed.Feed.{Feed}
+use Rattle.notes.specs.declared.feed.Fed.{Fed}
+use Rattle.notes.specs.declared.feed.Told.{Told}
+use Rattle.notes.specs.declared.feed.Told.the-variants.{NoRecord, Record}
+use Rattle.notes.proofs.Notes.{notes-within}
 use Rattle.meaning.specs.Operations.{takeOut}
-use Rattle.meaning.specs.Records.{Lent, noteOut}
-use Rattle.meaning.specs.Calls.{outcome, alone, lending}
-use Rattle.meaning.specs.declared.Call.the-variants.{Take}
+use Rattle.calls.specs.Records.{Lent, noteOut}
+use Rattle.calls.specs.Calls.{outcome, operated, lending}
+use Rattle.answers.specs.declared.Operation.the-variants.{Take}
+use Rattle.calls.specs.declared.Call.the-variants.{Operate}
 use Rattle.settings.specs.declared.Settings.{Settings}
 use Rattle.meaning.specs.Layer.Listed.{Listed}
-use Rattle.meaning.proofs.Listed.{call-listed, note-listed}
-use Rattle.meaning.proofs.Promises.{refused-alters-nothing}
+use Rattle.calls.proofs.Listed.{operation-listed, note-listed}
+use Rattle.calls.proofs.Promises.{refused-alters-nothing}
 use Rattle.logger_step.specs.Printed.{afterNotes}
 use Rattle.logger.specs.Input.{kept, Known, BytesTaken, EndTaken, NothingToTake, Took}
 use Rattle.logger.specs.declared.Turn.{Turn}
@@ -44,13 +45,13 @@ unfolding handedBy
 handed-within begun byte = at (closes begun byte)
   where
     at : (t : Bool) → All Within (cond t (noteBy (begun ++ (byte ∷ [])) ∷ []) [])
-    at true = (note-within (begun ++ (byte ∷ [])), tt)
+    at true = (notes-within (begun ++ (byte ∷ [])), tt)
     at false = tt
 
 end-within : (begun : List ℕ) → All Within (handedAtEnd begun)
 unfolding handedAtEnd
 end-within [] = tt
-end-within (b ∷ begun) = (note-within (b ∷ begun), tt)
+end-within (b ∷ begun) = (notes-within (b ∷ begun), tt)
 
 pub byte-told-within : {feed : Feed} {byte : ℕ} {r : Fed} → Known feed → Stepped feed byte r → ToldWithin (r .told)
 byte-told-within {byte = byte} {r = r} known step =
@@ -134,14 +135,14 @@ end-listed {words} {last = last} {s = s} known listed taken =
 
 pub take-listed : {before after : List ℕ} {r : Turn} {s : Settings} → Listed before s → Took before after r → Listed after s
 unfolding outcome
-take-listed {s = s} listed took = subst (λ (us : List ℕ). Listed us s) (sym (took .left)) (call-listed Take refl listed)
+take-listed {s = s} listed took = subst (λ (us : List ℕ). Listed us s) (sym (took .left)) (operation-listed Take listed)
 
 -- A take that is refused leaves the words, so that the next one is refused too.
 refused-stays : (ws : List ℕ) → NothingToTake ws → takeOut ws .left ≡ ws
 unfolding outcome
 refused-stays ws none =
     ap (λ (lent : Lent). lent .words)
-    (refused-alters-nothing Take (lending (alone Take) ws) (λ z. let e = eq-eqb (takeOut ws .answered .refusal) 0 z in true≢false (sym e ∙ none)))
+    (refused-alters-nothing (Operate Take) (lending (operated Take) ws) (λ z. let e = eq-eqb (takeOut ws .answered .refusal) 0 z in true≢false (sym e ∙ none)))
 
 pub nothing-after : {before after : List ℕ} {r : Turn} → Took before after r → r ≡ NoMore → NothingToTake after
 nothing-after {before} took e =

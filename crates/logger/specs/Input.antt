@@ -5,11 +5,11 @@ use mathlib.Core.List.{List, []}
 use Prim.Native.Nat.{ℕ}
 use lib.Dec.{eqb}
 use lib.ListN.{length, take}
-use Rattle.records.specs.Feeding.{begunAfterPart, handedByPart, handedAtEnd, feedOf}
-use Rattle.records.specs.declared.note.Logged.{Logged}
-use Rattle.records.specs.declared.feed.Feed.{Feed}
+use Rattle.notes.specs.Feeding.{begunAfterPart, handedByPart, handedAtEnd, feedOf}
+use Rattle.notes.specs.declared.Logged.{Logged}
+use Rattle.notes.specs.declared.feed.Feed.{Feed}
 use Rattle.meaning.specs.Operations.{takeOut}
-use Rattle.meaning.specs.Records.{Lent, lentOf}
+use Rattle.calls.specs.Records.{Lent, lentOf}
 use Rattle.logger_step.specs.Printed.{afterNotes, notesText, takeText}
 use Rattle.logger.specs.declared.State.{State}
 use Rattle.logger.specs.declared.Turn.{Turn}

@@ -12,13 +12,13 @@
 // The file stdout has the answers of the separate ordered set: compare/ordered_set/target/release/ordered_set logger < stdin > stdout
 ghost use mathlib.Core.Path.{_≡_};
 ghost use mathlib.Core.List.{[], _∷_};
-ghost use Rattle.records.specs.Feeding.{toldIn, ToldWithin};
+ghost use Rattle.notes.specs.Feeding.{toldIn, ToldWithin};
 ghost use Rattle.meaning.specs.Layer.Listed.{Listed};
 ghost use Rattle.entry_list.specs.EntryList.{freshWords};
 ghost use Rattle.logger_step.specs.Printed.{afterNotes};
 ghost use Rattle.logger.specs.Input.{kept, Known, TextOf, TextOfTake, BytesTaken, PartTaken, EndTaken, Took, Drained};
-use records::feed::Feed;
-use records::feed::Told;
+use notes::feed::Feed;
+use notes::feed::Told;
 use settings::Settings;
 
 // What is kept from one byte to the next, beside the words and the last number: whether every answer has been written.
@@ -72,7 +72,7 @@ fn take_byte(words: &mut [u32], settings: Settings, last: &mut u64, feed: Feed, 
     requires { ⌜ Listed (now words) settings × Known feed ⌝ }
     ensures { λ r. ⌜ BytesTaken (byte ∷ []) feed (kept (now (words .entry)) (now (last .entry))) (r .feed) (kept (now (words .exit)) (now (last .exit))) ⌝ }
 {
-    let fed = records::feed::feed_byte(feed, byte);
+    let fed = notes::feed::feed_byte(feed, byte);
     let next = fed.feed;
     let ended = fed.told;
     let written = take_record(words, settings, last, ended);
@@ -114,7 +114,7 @@ fn take_last(words: &mut [u32], settings: Settings, last: &mut u64, feed: Feed) 
     requires { ⌜ Listed (now words) settings × Known feed ⌝ }
     ensures { λ r. ⌜ EndTaken feed (kept (now (words .entry)) (now (last .entry))) (kept (now (words .exit)) (now (last .exit))) ⌝ }
 {
-    let ended = records::feed::finish(feed);
+    let ended = notes::feed::finish(feed);
     if take_record(words, settings, last, ended) {
         return End::AllAnswered;
     }
@@ -127,7 +127,7 @@ fn take_all(words: &mut [u32], settings: Settings, last: &mut u64) -> End
     requires { ⌜ (now words ≡ freshWords) × Listed (now words) settings ⌝ }
     ensures { λ r. ⌜ Listed (now (words .exit)) settings ⌝ }
 {
-    let mut feed = records::feed::start();
+    let mut feed = notes::feed::start();
     let mut part = io::large_buffer();
     let mut turns = u64::MAX;
     while 0 < turns {
@@ -204,7 +204,7 @@ fn run(words: &mut [u32], settings: Settings, last: &mut u64) -> End
 
 fn main() {
     let mut words = [0u32; entry_list::WORDS];
-    let mut last = records::full_number::NO_NUMBER;
+    let mut last = full_number::NO_NUMBER;
     let settings = entry_list::set_up(&mut words);
     let end = run(&mut words, settings, &mut last);
     match end {

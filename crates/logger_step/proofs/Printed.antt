@@ -6,15 +6,15 @@ use native.Mathlib.Omega.{arith}
 use lib.Dec.{eqb}
 use lib.ListN.{length}
 use Rattle.text.specs.Lines.{lineFeed}
-use Rattle.records.specs.Feeding.{toldIn, ToldWithin}
-use Rattle.records.specs.Notes.{Within}
-use Rattle.records.specs.declared.note.Logged.{Logged}
-use Rattle.records.specs.declared.feed.Told.{Told}
-use Rattle.records.specs.declared.feed.Told.the-variants.{NoRecord, Record}
-use Rattle.meaning.specs.Refusals.{Meets}
+use Rattle.notes.specs.Feeding.{toldIn, ToldWithin}
+use Rattle.notes.specs.Notes.{Within}
+use Rattle.notes.specs.declared.Logged.{Logged}
+use Rattle.notes.specs.declared.feed.Told.{Told}
+use Rattle.notes.specs.declared.feed.Told.the-variants.{NoRecord, Record}
+use Rattle.answers.specs.Refusals.{Meets}
 use Rattle.meaning.specs.Operations.{takeOut}
-use Rattle.meaning.specs.Records.{Lent, lentOf, noteOut}
-use Rattle.meaning.specs.declared.Answer.{Answer}
+use Rattle.calls.specs.Records.{Lent, lentOf, noteOut}
+use Rattle.answers.specs.declared.Answer.{Answer}
 use Rattle.insert_record.specs.Noted.{Noted}
 use Rattle.report.specs.Report.{answerText, Put}
 use Rattle.report.proofs.Puts.{put-start}

@@ -5,9 +5,9 @@ use Prim.Native.Nat.{ℕ, _≤_}
 use lib.Dec.{eqb}
 use lib.ListN.{length, take}
 use Rattle.text.specs.Lines.{lineFeed}
-use Rattle.records.specs.declared.note.Logged.{Logged}
+use Rattle.notes.specs.declared.Logged.{Logged}
 use Rattle.meaning.specs.Operations.{takeOut}
-use Rattle.meaning.specs.Records.{Lent, noteOut}
+use Rattle.calls.specs.Records.{Lent, noteOut}
 use Rattle.report.specs.Report.{answerText}
 use Rattle.logger_step.specs.declared.TakeText.{TakeText}
 

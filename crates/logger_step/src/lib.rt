@@ -2,18 +2,31 @@
 ghost use mathlib.Core.List.{[]};
 ghost use Prim.Native.Nat.{_≤_};
 ghost use lib.ListN.{length};
-ghost use Rattle.records.specs.Feeding.{toldIn, ToldWithin};
-ghost use Rattle.meaning.specs.Records.{lentOf};
+ghost use Rattle.notes.specs.Notes.{Within};
+ghost use Rattle.notes.specs.Feeding.{toldIn, ToldWithin};
+ghost use Rattle.insert_record.specs.Noted.{Noted};
+ghost use Rattle.calls.specs.Records.{lentOf};
 ghost use Rattle.meaning.specs.Layer.Listed.{Listed};
 ghost use Rattle.report.specs.Report.{answerBytes};
 ghost use Rattle.logger_step.specs.Printed.{NotesAnswered, TakeAnswered};
-use records::feed::Told;
+use answers::Answer;
+use notes::Logged;
+use notes::feed::Told;
 use settings::Settings;
 
 // What a take puts: how many bytes, and whether there may be more to take.
 pub struct TakeText {
     pub bytes: usize,
     pub more: bool,
+}
+
+// Enters what a record notes.
+fn note(list: &mut [u32], s: Settings, last: &mut u64, logged: Logged) -> Answer
+    requires { ⌜ Listed (now list) s × Within logged ⌝ }
+    ensures { λ r. ⌜ Noted logged (now (list .entry)) (now (last .entry)) r (now (list .exit)) (now (last .exit)) ⌝ }
+{
+    let powers = s.powers();
+    insert_record::insert_record(list, s, &powers.of, logged, last)
 }
 
 // Enters the record that is told of, if one is: puts the bytes that are printed for it into `out`, from the first on; how many they are.
@@ -26,7 +39,7 @@ pub fn note_text(list: &mut [u32], s: Settings, last: &mut u64, told: Told, out:
         Told::Record(logged) => return report::put_answer(
             out,
             0,
-            insert_record::insert_record(list, s, logged, last),
+            note(list, s, last, logged),
             b'\n',
         ),
     }

@@ -1,7 +1,6 @@
 -- The outcome of each operation on the picture of a state in order, case by case. The picture is a list and reads as its state, so the
--- tests of an operation are those of the state. And, by going through each operation on any words: a call is accepted, or it is refused by a
--- number of the table and alters nothing.
-use mathlib.Core.Path.{_≡_, refl, sym, ap, _∙_, subst}
+-- tests of an operation are those of the state. And what holds of each end of an operation holds of its outcome, on any words.
+use mathlib.Core.Path.{_≡_, refl, ap, _∙_, subst}
 use mathlib.Core.Bool.{Bool, true, false, cond, _&&_}
 use mathlib.Core.List.{List, [], _∷_}
 use mathlib.Core.Option.{Option, none, some}
@@ -11,36 +10,28 @@ use native.Mathlib.Decide.{decLe}
 use native.Mathlib.Omega.{arith}
 use lib.Dec.{eqb, leb}
 use lib.ListN.{length}
-use borrow.Author.Tests.{eq-eqb, ne-eqb, le-leb, lt-leb}
-use Rattle.settings.specs.Numbers.{inRange, lengthOf}
+use borrow.Author.Tests.{eq-eqb, ne-eqb}
+use Rattle.settings.specs.Numbers.{inRange, isKey, lengthOf}
 use Rattle.settings.specs.Checked.{checkedOf, settingsOf}
 use Rattle.settings.specs.declared.Checked.the-variants.{Accepted, OutOfRange}
+use Rattle.settings.specs.declared.Settings.{Settings}
+use Rattle.settings.proofs.Numbers.{key-in, key-out}
 use Rattle.lists.proofs.Tests.{cond-has}
-use Rattle.records.specs.Notes.{noteBy}
-use Rattle.files.specs.Files.{fileOf, contentsOf}
-use Rattle.files.specs.declared.Contents.{Contents}
-use Rattle.files.specs.declared.Contents.the-variants.{IsFile, NotAFile}
-use Rattle.meaning.specs.Pairs.{livePairs}
 use Rattle.meaning.specs.Row.{Node, placeOf, nodeAt}
 use Rattle.meaning.specs.State.{State, positionKey, placesOf}
 use Rattle.meaning.specs.Picture.{picture}
-use Rattle.meaning.specs.Reading.{read, settingsAt, isList, readingOf}
-use Rattle.meaning.specs.Refusals.{Outcome, accepted, Refusal, outOfRange, wrongLength, notAList, badKey, keyLive, noFreeCell, nothingLive}
-use Rattle.meaning.specs.Refusals.{keyNotLive, keyNotStanding, lineNotReadable, badFile, noRoom, badRecord, numberOutside, badBatch, answerOf}
-use Rattle.meaning.specs.Refusals.{refused}
+use Rattle.meaning.specs.Reading.{read, isList, readingOf}
+use Rattle.answers.specs.Refusals.{Outcome, accepted, Refusal, outOfRange, wrongLength, notAList, badKey, keyLive, noFreeCell, nothingLive}
+use Rattle.answers.specs.Refusals.{keyNotLive, keyNotStanding, refused, answer, Meets}
+use Rattle.answers.specs.declared.Answer.{Answer}
 use Rattle.meaning.specs.Operations.{onList, onKey, looked, fresh, setUpOut, finished, withRow, linksMoved, finishAt, finishOut, onReading, setUpBy}
 use Rattle.meaning.specs.Operations.{findAt, findOut, revived, slotFor, added, insertNew, insertAt, insertOut, fromLive, keysAbove, keysPassed}
 use Rattle.meaning.specs.Operations.{taken, takeFrom, takeOut, freedBy, swept, sweepOut}
-use Rattle.meaning.specs.Records.{Lent, lentOf, Asked, nothing, insertion, noteAsks, recorded, askedOut, noteOn, noteOut, recordOut}
-use Rattle.meaning.specs.Saved.{FileLent, fileLent, writeOn, writeOut, readFrom, readOut}
-use Rattle.meaning.specs.Calls.{onWords, onFile, outcome}
-use Rattle.meaning.specs.Promises.{RefusedAltersNothing}
-use Rattle.meaning.specs.declared.Call.{Call}
-use Rattle.meaning.specs.declared.Call.the-variants.{SetUp, Insert, Find, Finish, Take, Sweep, Record, Write, Read}
+use Rattle.meaning.specs.Layer.Listed.{Listed}
 use Rattle.meaning.specs.declared.Reading.{Reading}
 use Rattle.meaning.specs.declared.Reading.the-variants.{IsList, NotAList}
-use Rattle.meaning.proofs.State.{Sound}
-use Rattle.meaning.proofs.ReadBack.{read-of-picture, picture-is-list, list-is-picture, list-sound}
+use Rattle.meaning.proofs.Pictures.State.{Sound}
+use Rattle.meaning.proofs.Pictures.ReadBack.{read-of-picture, picture-is-list, list-is-picture, list-sound}
 
 -- What holds of each state in order and its picture holds of each list and the state that it holds.
 pub on-read-lists : (P : State → List ℕ → Type 0) → ((s : State) → Sound s → P s (picture s)) → (ws : List ℕ) → isList ws ≡ true → P (read ws) ws
@@ -61,15 +52,11 @@ on-picture s v act = rw (picture-is-list s v) (ap act (read-of-picture s v))
 
 on-good-key : (ws : List ℕ) (s : State) (key : ℕ) (done : Outcome (List ℕ)) → 1 ≤ key → key ≤ s .settings .largest → onKey ws s key done ≡ done
 unfolding onKey
-on-good-key ws s key done l h = rw (le-leb 1 key l, le-leb key (s .settings .largest) h) refl
+on-good-key ws s key done l h = rw (key-in l h) refl
 
 on-bad-key : (ws : List ℕ) (s : State) (key : ℕ) (done : Outcome (List ℕ)) → (1 ≤ key → s .settings .largest < key) → onKey ws s key done ≡ refused badKey ws
 unfolding onKey
-on-bad-key ws s key done f = at (decLe 1 key)
-  where
-    at : Dec (1 ≤ key) → cond (leb 1 key && leb key (s .settings .largest)) done (refused badKey ws) ≡ refused badKey ws
-    at (yes l) = rw (le-leb 1 key l, lt-leb key (s .settings .largest) (f l)) refl
-    at (no l) = let none : key < 1 = omega arith in rw (lt-leb 1 key none) refl
+on-bad-key ws s key done f = rw (key-out f) refl
 
 on-picture-key : (s : State) → Sound s → (key : ℕ) (act : State → Outcome (List ℕ)) → 1 ≤ key → key ≤ s .settings .largest →
     onList (picture s) (λ t. onKey (picture s) t key (act t)) ≡ act s
@@ -78,6 +65,13 @@ on-picture-key s v key act l h = on-picture s v (λ t. onKey (picture s) t key (
 on-picture-bad-key : (s : State) → Sound s → (key : ℕ) (act : State → Outcome (List ℕ)) → (1 ≤ key → s .settings .largest < key) →
     onList (picture s) (λ t. onKey (picture s) t key (act t)) ≡ refused badKey (picture s)
 on-picture-bad-key s v key act f = on-picture s v (λ t. onKey (picture s) t key (act t)) ∙ on-bad-key (picture s) s key (act s) f
+
+-- .. and so it is on a list, as the code has it
+pub bad-key-meets :
+    {ws : List ℕ} {s : Settings} → Listed ws s → (key : ℕ) (act : State → Outcome (List ℕ)) {r : Answer} → isKey (s .largest) key ≡ false →
+    r ≡ answer 4 0 0 0 → Meets (onList ws (λ t. onKey ws t key (act t))) r ws
+unfolding onList readingOf onReading onKey read
+bad-key-meets h key act bad a = rw (h .list, ap (λ (s : Settings). s .largest) (h .settings), bad) (record { answered = a; left = refl })
 
 -- Set up
 
@@ -245,7 +239,7 @@ onKey-has P ws s key done p q = cond-has P (leb 1 key && leb key (s .settings .l
 
 -- P holds of every refusal of the words, and of what each operation accepts
 module _ (P : Outcome (List ℕ) → Type 0) (ws : List ℕ) (turned : (r : Refusal) → P (refused r ws)) where
-  set-up-has : (D K C : ℕ) → P (accepted 0 0 0 (picture (fresh D K C))) → P (setUpOut D K C ws)
+  pub set-up-has : (D K C : ℕ) → P (accepted 0 0 0 (picture (fresh D K C))) → P (setUpOut D K C ws)
   unfolding setUpOut checkedOf setUpBy
   set-up-has D K C done = at (inRange D K C)
     where
@@ -260,7 +254,7 @@ module _ (P : Outcome (List ℕ) → Type 0) (ws : List ℕ) (turned : (r : Refu
   keyed-has : (key : ℕ) (act : State → Outcome (List ℕ)) → ((s : State) → P (act s)) → P (onList ws (λ s. onKey ws s key (act s)))
   keyed-has key act done = onList-has P ws (λ s. onKey ws s key (act s)) (turned notAList) (λ s. onKey-has P ws s key (act s) (turned badKey) (done s))
 
-  insert-has : (key value : ℕ) → ((count : ℕ) (s : State) → P (accepted key 0 count (picture s))) → P (insertOut ws key value)
+  pub insert-has : (key value : ℕ) → ((count : ℕ) (s : State) → P (accepted key 0 count (picture s))) → P (insertOut ws key value)
   unfolding insertOut insertAt insertNew
   insert-has key value done = keyed-has key (λ s. insertAt ws s key value (nodeAt key (s .row))) (λ s. at s (nodeAt key (s .row)))
     where
@@ -269,7 +263,7 @@ module _ (P : Outcome (List ℕ) → Type 0) (ws : List ℕ) (turned : (r : Refu
           cond-has P (eqb (length (s .free)) 0) _ _ (turned (noFreeCell key (looked s key))) (done (looked s key) (added s key value (slotFor s key)))
       at s (some x) = cond-has P (x .live) _ _ (turned (keyLive key (looked s key))) (done (looked s key) (revived s x value))
 
-  find-has : (key : ℕ) → ((value count : ℕ) → P (accepted key value count ws)) → P (findOut ws key)
+  pub find-has : (key : ℕ) → ((value count : ℕ) → P (accepted key value count ws)) → P (findOut ws key)
   unfolding findOut findAt
   find-has key done = keyed-has key (λ s. findAt ws s key (nodeAt key (s .row))) (λ s. at s (nodeAt key (s .row)))
     where
@@ -277,7 +271,7 @@ module _ (P : Outcome (List ℕ) → Type 0) (ws : List ℕ) (turned : (r : Refu
       at s none = turned (keyNotLive key (looked s key))
       at s (some x) = cond-has P (x .live) _ _ (done (x .value) (looked s key)) (turned (keyNotLive key (looked s key)))
 
-  finish-has : (key : ℕ) → ((count : ℕ) (s : State) → P (accepted key 0 count (picture s))) → P (finishOut ws key)
+  pub finish-has : (key : ℕ) → ((count : ℕ) (s : State) → P (accepted key 0 count (picture s))) → P (finishOut ws key)
   unfolding finishOut finishAt
   finish-has key done = keyed-has key (λ s. finishAt ws s key (nodeAt key (s .row))) (λ s. at s (nodeAt key (s .row)))
     where
@@ -285,7 +279,7 @@ module _ (P : Outcome (List ℕ) → Type 0) (ws : List ℕ) (turned : (r : Refu
       at s none = turned (keyNotStanding key)
       at s (some x) = done (linksMoved s (placeOf (x .cell) (placesOf s (s .row)))) (withRow s (finished (x .cell) (s .row)))
 
-  take-has : ((key value count : ℕ) (s : State) → P (accepted key value count (picture s))) → P (takeOut ws)
+  pub take-has : ((key value count : ℕ) (s : State) → P (accepted key value count (picture s))) → P (takeOut ws)
   unfolding takeOut takeFrom
   take-has done = onList-has P ws (λ s. takeFrom ws s (fromLive (s .row))) (turned notAList) (λ s. at s (fromLive (s .row)))
     where
@@ -293,125 +287,11 @@ module _ (P : Outcome (List ℕ) → Type 0) (ws : List ℕ) (turned : (r : Refu
       at s [] = turned (nothingLive (keysAbove (positionKey s) (s .row)))
       at s (x ∷ later) = done (x .key) (x .value) (keysPassed (positionKey s) (x .key) (s .row)) (taken s x)
 
-  sweep-has : ((count : ℕ) (s : State) → P (accepted 0 0 count (picture s))) → P (sweepOut ws)
+  pub sweep-has : ((count : ℕ) (s : State) → P (accepted 0 0 count (picture s))) → P (sweepOut ws)
   unfolding sweepOut
   sweep-has done =
       onList-has P ws (λ s. accepted 0 0 (length (freedBy (s .row))) (picture (swept s))) (turned notAList)
       (λ s. done (length (freedBy (s .row))) (swept s))
-
--- A call is accepted, or it is refused by a number of the table and alters nothing.
-
-data Ends {Lent : Type 0} (lent : Lent) (o : Outcome Lent) : Type 0 where
-  well : o .answered .refusal ≡ 0 → Ends lent o
-  refusing : (r : Refusal) → o ≡ refused r lent → Ends lent o
-
-turned-away : {Lent : Type 0} (lent : Lent) (r : Refusal) → Ends lent (refused r lent)
-turned-away lent r = refusing r refl
-
--- .. and so nothing else that was lent
-ends-lent : (lent : Lent) (o : Outcome (List ℕ)) → Ends (lent .words) o → Ends lent (onWords lent o)
-ends-lent lent o (well z) = well z
-ends-lent lent o (refusing r e) = refusing r (ap (onWords lent) e)
-
-ends-file : (lent : Lent) (o : Outcome FileLent) → Ends (fileLent (lent .words) (lent .bytes)) o → Ends lent (onFile lent o)
-ends-file lent o (well z) = well z
-ends-file lent o (refusing r e) = refusing r (ap (onFile lent) e)
-
--- the numbers of the table
-pub table : (r : Refusal) → (answerOf r .refusal ≡ 0 → ⊥) × (answerOf r .refusal ≡ 9 → ⊥)
-table outOfRange = (λ e. omega arith, λ e. omega arith)
-table wrongLength = (λ e. omega arith, λ e. omega arith)
-table notAList = (λ e. omega arith, λ e. omega arith)
-table badKey = (λ e. omega arith, λ e. omega arith)
-table (keyLive key count) = (λ e. omega arith, λ e. omega arith)
-table (noFreeCell key count) = (λ e. omega arith, λ e. omega arith)
-table (nothingLive above) = (λ e. omega arith, λ e. omega arith)
-table (keyNotLive key count) = (λ e. omega arith, λ e. omega arith)
-table (keyNotStanding key) = (λ e. omega arith, λ e. omega arith)
-table lineNotReadable = (λ e. omega arith, λ e. omega arith)
-table badFile = (λ e. omega arith, λ e. omega arith)
-table noRoom = (λ e. omega arith, λ e. omega arith)
-table badRecord = (λ e. omega arith, λ e. omega arith)
-table numberOutside = (λ e. omega arith, λ e. omega arith)
-table badBatch = (λ e. omega arith, λ e. omega arith)
-
-insert-ends : (ws : List ℕ) (key value : ℕ) → Ends ws (insertOut ws key value)
-insert-ends ws key value = insert-has (Ends ws) ws (turned-away ws) key value (λ count s. well refl)
-
--- a refused insert advances no last number
-ends-recorded : (lent : Lent) (number : ℕ) (o : Outcome (List ℕ)) → Ends (lent .words) o → Ends lent (recorded lent number o)
-ends-recorded lent number o (well z) = well z
-ends-recorded lent number o (refusing r e) =
-    refusing r (ap (recorded lent number) e ∙
-    ap (λ t. record { answered = answerOf r; left = lentOf (lent .words) (lent .bytes) (cond t number (lent .last)) }) (ne-eqb (answerOf r .refusal) 0 (table r .0)))
-
-asked-ends : (lent : Lent) (asked : Asked) → Ends lent (askedOut lent asked)
-asked-ends lent (nothing r) = refusing r refl
-asked-ends lent (insertion key number) = ends-recorded lent number (insertOut (lent .words) key number) (insert-ends (lent .words) key number)
-
-write-ends : (lent : FileLent) → Ends lent (writeOut lent)
-unfolding writeOut
-write-ends lent = at (readingOf (lent .words))
-  where
-    at : (reading : Reading) → Ends lent (writeOn lent reading)
-    at (IsList s) =
-        let file = fileOf s (livePairs (lent .words)) in
-        cond-has (Ends lent) (leb (length file) (length (lent .file))) _ _ (well refl) (turned-away lent noRoom)
-    at NotAList = turned-away lent notAList
-
-read-ends : (lent : FileLent) → Ends lent (readOut lent)
-unfolding readOut
-read-ends lent = at (contentsOf (lent .file))
-  where
-    at : (contents : Contents) → Ends lent (readFrom lent contents)
-    at (IsFile s n) =
-        cond-has (Ends lent) (eqb (length (lent .words)) (lengthOf (s .dimensions) (s .cells))) _ _ (well refl) (turned-away lent wrongLength)
-    at NotAFile = turned-away lent badFile
-
-ends : (call : Call) (lent : Lent) → Ends lent (outcome call lent)
-unfolding outcome recordOut noteOut
-ends (SetUp D K C) lent = ends-lent lent _ (set-up-has (Ends (lent .words)) (lent .words) (turned-away (lent .words)) D K C (well refl))
-ends (Insert key value) lent = ends-lent lent _ (insert-ends (lent .words) key value)
-ends (Find key) lent = ends-lent lent _ (find-has (Ends (lent .words)) (lent .words) (turned-away (lent .words)) key (λ value count. well refl))
-ends (Finish key) lent = ends-lent lent _ (finish-has (Ends (lent .words)) (lent .words) (turned-away (lent .words)) key (λ count s. well refl))
-ends Take lent = ends-lent lent _ (take-has (Ends (lent .words)) (lent .words) (turned-away (lent .words)) (λ key value count s. well refl))
-ends Sweep lent = ends-lent lent _ (sweep-has (Ends (lent .words)) (lent .words) (turned-away (lent .words)) (λ count s. well refl))
-ends Record lent = at (readingOf (lent .words))
-  where
-    at : (reading : Reading) → Ends lent (noteOn lent (noteBy (lent .bytes)) reading)
-    at (IsList s) = asked-ends lent (noteAsks (lent .last) (noteBy (lent .bytes)))
-    at NotAList = refusing notAList refl
-ends Write lent = ends-file lent _ (write-ends (fileLent (lent .words) (lent .bytes)))
-ends Read lent = ends-file lent _ (read-ends (fileLent (lent .words) (lent .bytes)))
-
-pub refused-alters-nothing : RefusedAltersNothing
-refused-alters-nothing call lent ne = at (ends call lent)
-  where
-    at : Ends lent (outcome call lent) → outcome call lent .left ≡ lent
-    at (well z) = absurd (ne z)
-    at (refusing r e) = ap (λ o. o .left) e
-
-pub call-never-nine : (call : Call) (lent : Lent) → outcome call lent .answered .refusal ≡ 9 → ⊥
-call-never-nine call lent nine = at (ends call lent)
-  where
-    at : Ends lent (outcome call lent) → ⊥
-    at (well z) = omega arith
-    at (refusing r e) = table r .1 (sym (ap (λ o. o .answered .refusal) e) ∙ nine)
-
--- on a list a record does what it asks for
-pub record-asks : (lent : Lent) → isList (lent .words) ≡ true → recordOut lent ≡ askedOut lent (noteAsks (lent .last) (noteBy (lent .bytes)))
-unfolding recordOut noteOut readingOf
-record-asks lent e = rw e refl
-
--- .. and what is accepted was asked of a list
-pub accepted-on-list : (lent : Lent) → recordOut lent .answered .refusal ≡ 0 → isList (lent .words) ≡ true
-unfolding recordOut noteOut readingOf
-accepted-on-list lent = at (isList (lent .words))
-  where
-    at :
-        (t : Bool) → noteOn lent (noteBy (lent .bytes)) (cond t (IsList (settingsAt (lent .words))) NotAList) .answered .refusal ≡ 0 → t ≡ true
-    at true z = refl
-    at false z = absurd (omega arith)
 
 -- a find writes nothing
 pub find-writes-nothing : (ws : List ℕ) (key : ℕ) → findOut ws key .left ≡ ws

@@ -1,59 +1,45 @@
 -- The promises of specs/Promises.antt, each proved: the laws of states, carried to lists.
 use mathlib.Core.Path.{_≡_, refl, _∙_, sym, ap, ap₂, subst}
-use mathlib.Core.Bool.{true, false, cond, true≢false}
+use mathlib.Core.Bool.{true, false, true≢false}
 use mathlib.Core.List.{List, map}
 use mathlib.Core.Logic.{_↔_}
 use Prim.Native.Nat.{ℕ, _*_, _-_, _^_, _≤_, _<_}
 use native.Mathlib.Omega.{arith}
 use lib.ListN.{length}
-use borrow.Author.Tests.{eq-eqb}
 use Rattle.settings.specs.Numbers.{baseOf}
 use Rattle.lists.specs.Lists.{occurrences}
 use Rattle.lists.proofs.Occurrences.{distinct-once}
 use Rattle.meaning.specs.Row.{smallerThan}
 use Rattle.meaning.specs.State.{State}
 use Rattle.meaning.specs.Picture.{picture}
-use Rattle.meaning.specs.Reading.{read, isList}
-use Rattle.meaning.specs.Refusals.{Outcome, badKey, refused}
+use Rattle.meaning.specs.Reading.{read, isList, standingKeys}
+use Rattle.answers.specs.Refusals.{Outcome, badKey, refused}
 use Rattle.meaning.specs.Operations.{looked, insertOut, findOut}
-use Rattle.meaning.specs.Records.{Lent, askedOut}
 use Rattle.meaning.specs.Rule.{rule}
 use Rattle.meaning.specs.Words.{keyAt, dimensionsAt, largestAt, baseAt}
 use Rattle.meaning.specs.Walk.{trailFrom, trail, ends, walk}
 use Rattle.meaning.specs.Lower.{lowerWayFor, lowerFor}
-use Rattle.meaning.specs.Pairs.{standingKeys}
-use Rattle.meaning.specs.Promises.{ListsStayLists, CallsKeepLists, CallsKeepSettings, RefusedAltersNothing, Looks, answersLooked, LookedIsWalk}
-use Rattle.meaning.specs.Promises.{PresentMeansThatKey, TakesInTurn, TakesEnd, CallsAreBooked, FindWritesNothing, TakeWrites, ReviveWrites}
+use Rattle.meaning.specs.Promises.{Looks, answersLooked, CountsWalk, ListsCountWalks, PresentMeansThatKey, FindWritesNothing, TakeWrites, ReviveWrites}
 use Rattle.meaning.specs.Promises.{InsertWrites, FinishWrites, SweepWrites, EachCellOnce, SweptCellsFirst, InsertUsesFirst, SharedMeansLeading}
 use Rattle.meaning.specs.Promises.{ListMeansSentences, WalkIsRule, WalkOnce, WalkBounded, WalkEnds, WalkByKeysAlone, OrderIsLexicographic}
-use Rattle.meaning.specs.Promises.{ShapeByKeysAlone, AnswersAreBooked, OneOutcome, RecordIsInsert, LastIsValue, BatchIsCalls, RefusedBatchAltersNothing, BatchRefusals}
-use Rattle.meaning.specs.Promises.{OwedCellsStand, OwedCellsStandFromFresh, OwedCellsStandInSweep, NineIsRetired, WayToLower, LateInserts}
-use Rattle.meaning.specs.Promises.{RunPasses, RunPassesAtMost, RunWithInsertsPasses}
-use Rattle.meaning.specs.Promises.{ReadIsCalls, ReadGivesList, ReadIsFresh, WriteThenRead, FileIsWritten}
-use Rattle.meaning.proofs.Keys.{shared-agreed, lexicographic, coordinates-determine}
-use Rattle.meaning.proofs.AscendingKeys.{asc-rising, rising-equal}
-use Rattle.meaning.proofs.State.{Sound, base-positive, base-above}
-use Rattle.meaning.proofs.ReadBack.{list-sound, picture-is-list, read-of-picture}
-use Rattle.meaning.proofs.Outcomes as outcomes
+use Rattle.meaning.specs.Promises.{ShapeByKeysAlone, OwedCellsStand, OwedCellsStandInSweep, WayToLower, LateInserts}
+use Rattle.meaning.proofs.Rows.Keys.{shared-agreed, lexicographic, coordinates-determine}
+use Rattle.meaning.proofs.Rows.AscendingKeys.{asc-rising, rising-equal}
+use Rattle.meaning.proofs.Pictures.State.{Sound, base-positive, base-above}
+use Rattle.meaning.proofs.Pictures.ReadBack.{list-sound, picture-is-list, read-of-picture}
 use Rattle.meaning.proofs.Outcomes.{on-lists, insert-outcome-bad-key, insert-outcome-live, insert-outcome-dead, insert-outcome-full}
 use Rattle.meaning.proofs.Outcomes.{on-read-lists, insert-outcome-new, find-outcome-bad-key, find-outcome-absent, find-outcome-dead, find-outcome-live}
-use Rattle.meaning.proofs.Outcomes.{key-cases, live-cases, free-cases, record-asks, accepted-on-list}
-use Rattle.meaning.proofs.Book as book
-use Rattle.meaning.proofs.BookReplies as replies
-use Rattle.meaning.proofs.Writes as leaves
-use Rattle.meaning.proofs.Batch as batch
-use Rattle.meaning.proofs.OwedCells as owed
-use Rattle.meaning.proofs.Lower as lower
-use Rattle.meaning.proofs.FallsBack as back
-use Rattle.meaning.proofs.Runs as runs
-use Rattle.meaning.proofs.Saved as saved
-use Rattle.meaning.proofs.Restart as restart
-use Rattle.meaning.proofs.Serves as serves
-use Rattle.meaning.proofs.BookPresent as present
-use Rattle.meaning.proofs.Walk as walks
-use Rattle.meaning.proofs.Walk.{trail-ends, trail-more, walk-looked}
-use Rattle.meaning.proofs.Converse.{list-exactly-if}
-use Rattle.meaning.proofs.ShapeByKeys.{keys-alike, links-by-keys}
+use Rattle.meaning.proofs.Outcomes.{key-cases, live-cases, free-cases}
+use Rattle.meaning.proofs.Promised.Writes as leaves
+use Rattle.meaning.proofs.Promised.OwedCells as owed
+use Rattle.meaning.proofs.Walks.Lower as lower
+use Rattle.meaning.proofs.Promised.FallsBack as back
+use Rattle.meaning.proofs.Promised.Serves as serves
+use Rattle.meaning.proofs.Promised.Present as present
+use Rattle.meaning.proofs.Walks.Walk as walks
+use Rattle.meaning.proofs.Walks.Walk.{trail-ends, trail-more, walk-looked}
+use Rattle.meaning.proofs.BothWays.Converse.{list-exactly-if}
+use Rattle.meaning.proofs.BothWays.ShapeByKeys.{keys-alike, links-by-keys}
 
 -- keys up to K are below b to the power D
 pub list-keys : (ws : List ℕ) → isList ws ≡ true → (0 < baseAt ws) × (largestAt ws < baseAt ws ^ dimensionsAt ws)
@@ -132,11 +118,6 @@ order-is-lexicographic ws e x y hx hy =
           (k .0) (omega arith) (omega arith),
     )
 
-pub one-outcome : OneOutcome
-one-outcome Lent o r s one other m n = (m .answered ∙ sym (n .answered), m .left ∙ sym (n .left))
-
--- The counts of insert and find, where they answer looked.
-
 -- an outcome on a list that answers looked has a key in range, and answers looked
 pub record Counts (s : State) (key : ℕ) (o : Outcome (List ℕ)) : Type 0 where
   pub least : 1 ≤ key
@@ -182,64 +163,11 @@ looks s v key o c =
       bounded = subst (λ (t : ℕ). t ≤ s .settings .dimensions * (s .settings .base - 1)) (n ∙ sym (c .count)) (walks.walk-bounded s v key (c .least) (c .most));
     }
 
-pub looked-is-walk : LookedIsWalk
-looked-is-walk ws fresh =
-    on-lists
-    (λ ws. (key value : ℕ)
-    → (answersLooked (insertOut ws key value .answered .refusal) ≡ true → Looks ws key (insertOut ws key value .answered .count))
-    × (answersLooked (findOut ws key .answered .refusal) ≡ true → Looks ws key (findOut ws key .answered .count)))
-    (λ s v key value. (
-      λ e. looks s v key (insertOut (picture s) key value) (insert-counts s v key value e),
-      λ e. looks s v key
-          (findOut (picture s) key) (find-counts s v key e),
-    ))
-    ws
-    (book.lists-stay-lists ws fresh)
-
--- Records
-
-pub record-is-insert : RecordIsInsert
-record-is-insert lent e key number asks =
-    let o = record-asks lent e ∙ ap (askedOut lent) asks in
-    (ap (λ (p : Outcome Lent). p .answered) o, ap (λ (p : Outcome Lent). p .left .words) o)
-
-pub last-is-value : LastIsValue
-last-is-value lent key number asks z =
-    let o = record-asks lent (accepted-on-list lent z) ∙ ap (askedOut lent) asks in
-    let y = sym (ap (λ (p : Outcome Lent). p .answered .refusal) o) ∙ z in
-    ap (λ (p : Outcome Lent). p .left .last) o ∙ ap (λ t. cond t number (lent .last)) (eq-eqb (insertOut (lent .words) key number .answered .refusal) 0 y)
-
--- Promises whose law is stated elsewhere, of lists already.
-
-pub lists-stay-lists : ListsStayLists
-lists-stay-lists = book.lists-stay-lists
-
-pub calls-keep-lists : CallsKeepLists
-calls-keep-lists = book.calls-keep-lists
-
-pub calls-keep-settings : CallsKeepSettings
-calls-keep-settings = book.calls-keep-settings
-
-pub batch-is-calls : BatchIsCalls
-batch-is-calls = batch.batch-is-calls
-
-pub refused-batch-alters-nothing : RefusedBatchAltersNothing
-refused-batch-alters-nothing = batch.refused-batch-alters-nothing
-
-pub batch-refusals : BatchRefusals
-batch-refusals = batch.batch-refusals
-
 pub owed-cells-stand : OwedCellsStand
 owed-cells-stand = owed.owed-cells-stand
 
-pub owed-cells-stand-from-fresh : OwedCellsStandFromFresh
-owed-cells-stand-from-fresh ws from = owed-cells-stand ws (lists-stay-lists ws from)
-
 pub owed-cells-stand-in-sweep : OwedCellsStandInSweep
 owed-cells-stand-in-sweep = owed.owed-cells-stand-in-sweep
-
-pub nine-is-retired : NineIsRetired
-nine-is-retired = (λ r. outcomes.table r .1, (outcomes.call-never-nine, batch.batch-never-nine))
 
 pub way-to-lower : WayToLower
 unfolding picture
@@ -252,41 +180,8 @@ way-to-lower =
 pub late-inserts : LateInserts
 late-inserts = back.late-inserts
 
-pub run-passes : RunPasses
-run-passes = runs.run-passes
-
-pub run-passes-at-most : RunPassesAtMost
-run-passes-at-most = runs.run-passes-at-most
-
-pub run-with-inserts-passes : RunWithInsertsPasses
-run-with-inserts-passes = runs.run-with-inserts-passes
-
-pub read-is-calls : ReadIsCalls
-read-is-calls = saved.read-is-calls
-
-pub read-gives-list : ReadGivesList
-read-gives-list = saved.read-gives-list
-
-pub read-is-fresh : ReadIsFresh
-read-is-fresh = restart.read-is-fresh
-
-pub write-then-read : WriteThenRead
-write-then-read = restart.write-then-read
-
-pub file-is-written : FileIsWritten
-file-is-written = restart.file-is-written
-
-pub refused-alters-nothing : RefusedAltersNothing
-refused-alters-nothing = outcomes.refused-alters-nothing
-
 pub present-means-that-key : PresentMeansThatKey
 present-means-that-key = present.present-means-that-key
-
-pub takes-in-turn : TakesInTurn
-takes-in-turn = book.takes-in-turn
-
-pub takes-end : TakesEnd
-takes-end = book.takes-end
 
 pub find-writes-nothing : FindWritesNothing
 find-writes-nothing = leaves.find-writes
@@ -315,8 +210,9 @@ swept-cells-first = serves.swept-cells-first
 pub insert-uses-first : InsertUsesFirst
 insert-uses-first = serves.insert-uses-first
 
-pub calls-are-booked : CallsAreBooked
-calls-are-booked = book.calls-are-booked
-
-pub answers-are-booked : AnswersAreBooked
-answers-are-booked = replies.answers-are-booked
+pub lists-count-walks : ListsCountWalks
+lists-count-walks =
+    on-lists CountsWalk (λ s v key value. (
+      λ e. looks s v key (insertOut (picture s) key value) (insert-counts s v key value e),
+      λ e. looks s v key (findOut (picture s) key) (find-counts s v key e),
+    ))

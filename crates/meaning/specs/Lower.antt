@@ -7,7 +7,7 @@ use lib.Dec.{eqb, ltb}
 use lib.ListN.{length, getD}
 use Rattle.meaning.specs.Words.{keyAt, dimensionsAt, baseAt}
 use Rattle.meaning.specs.Walk.{linkRead}
-use Rattle.meaning.specs.Layer.Resting.{rest}
+use Rattle.meaning.specs.Resting.{rest}
 
 -- the cells gone to from cell x where its link of number d leads to y, if `further` are those from a cell and a number on: along the link, or
 -- on with the next number where it leads nowhere

@@ -6,7 +6,7 @@ use mathlib.Core.Option.{Option, none, some}
 use Prim.Native.Nat.{ℕ, _-_}
 use lib.Dec.{eqb, leb, ltb}
 use lib.ListN.{length, drop}
-use Rattle.settings.specs.Numbers.{lengthOf}
+use Rattle.settings.specs.Numbers.{isKey, lengthOf}
 use Rattle.settings.specs.Checked.{settingsOf, checkedOf}
 use Rattle.settings.specs.declared.Checked.{Checked}
 use Rattle.settings.specs.declared.Checked.the-variants.{Accepted, OutOfRange}
@@ -16,11 +16,14 @@ use Rattle.meaning.specs.Row.{Node, lastOf, Place, settledLink, low, hig
 use Rattle.meaning.specs.State.{State, keyOf, positionKey, placesOf}
 use Rattle.meaning.specs.Picture.{picture}
 use Rattle.meaning.specs.Reading.{read, readingOf}
-use Rattle.meaning.specs.Refusals.{Outcome, accepted, outOfRange, wrongLength, notAList, badKey, keyLive, noFreeCell, nothingLive, keyNotLive}
-use Rattle.meaning.specs.Refusals.{keyNotStanding, refused}
+use Rattle.answers.specs.Refusals.{Outcome, accepted, outOfRange, wrongLength, notAList, badKey, keyLive, noFreeCell, nothingLive, keyNotLive}
+use Rattle.answers.specs.Refusals.{keyNotStanding, refused}
+use Rattle.answers.specs.declared.Operation.{Operation}
+use Rattle.answers.specs.declared.Operation.the-variants.{Insert, Find, Finish, Take, Sweep}
 use Rattle.meaning.specs.Rule.{rule}
 use Rattle.meaning.specs.declared.Reading.{Reading}
 use Rattle.meaning.specs.declared.Reading.the-variants.{IsList, NotAList}
+use Rattle.meaning.specs.declared.Slot.{Slot}
 
 -- Refusal 3: the buffer is not a list. It goes by what the words are read as.
 unfoldable pub onReading : List ℕ → (State → Outcome (List ℕ)) → Reading → Outcome (List ℕ)
@@ -32,7 +35,7 @@ onList ws act = onReading ws act (readingOf ws)
 
 -- Refusal 4: key 0 or above K.
 unfoldable pub onKey : List ℕ → State → ℕ → Outcome (List ℕ) → Outcome (List ℕ)
-onKey ws s key done = cond (leb 1 key && leb key (s .settings .largest)) done (refused badKey ws)
+onKey ws s key done = cond (isKey (s .settings .largest) key) done (refused badKey ws)
 
 -- Looked 5: looked is over the keys that stand before the call; by the rule, Looked 4.
 unfoldable pub looked : State → ℕ → ℕ
@@ -131,18 +134,11 @@ revived s x value =
     let row = map (λ y. cond (eqb (y .cell) (x .cell)) (revivedNode value y) y) (s .row) in
     record { settings = s .settings; row = row; free = s .free; position = positionAfter s (x .key) }
 
--- The operations 2: a key that does not stand gets the first free cell n, as link p of its parent in the new settled shape. If a cell c had
--- that slot in the settled shape before, c becomes link q of n, where n and c share q coordinates. Where there is no c, q says nothing.
-pub record Slot : Type 0 where
-  pub n : ℕ
-  pub parent : ℕ
-  pub p : ℕ
-  pub c : ℕ
-  pub q : ℕ
-
 abbrev pub newNode : ℕ → ℕ → ℕ → Bool → Node
 newNode n key value owes = record { cell = n; key = key; value = value; live = true; owes = owes }
 
+-- The operations 2: a key that does not stand gets the first free cell n, as link p of its parent in the new settled shape. If a cell c had
+-- that slot in the settled shape before, c becomes link q of n, where n and c share q coordinates. Where there is no c, q says nothing.
 unfoldable pub slotFor : State → ℕ → Slot
 slotFor s key =
     let b = s .settings .base in
@@ -239,3 +235,11 @@ swept s =
 -- The operations 6: sweep answers the number of cells freed.
 unfoldable pub sweepOut : List ℕ → Outcome (List ℕ)
 sweepOut ws = onList ws (λ s. accepted 0 0 (length (freedBy (s .row))) (picture (swept s)))
+
+-- Any of the five operations on a list that has been set up.
+abbrev pub operationOut : Operation → List ℕ → Outcome (List ℕ)
+operationOut (Insert key value) ws = insertOut ws key value
+operationOut (Find key) ws = findOut ws key
+operationOut (Finish key) ws = finishOut ws key
+operationOut Take ws = takeOut ws
+operationOut Sweep ws = sweepOut ws

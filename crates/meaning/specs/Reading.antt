@@ -1,6 +1,6 @@
 -- The state that a buffer's words hold, and when a buffer is a list: A list 1.
 use mathlib.Core.Bool.{Bool, true, false, cond, _&&_, not}
-use mathlib.Core.List.{List, [], _∷_}
+use mathlib.Core.List.{List, [], _∷_, map}
 use Prim.Native.Nat.{ℕ, zero, suc, _+_}
 use lib.Dec.{eqb}
 use lib.ListN.{length, getD, drop}
@@ -54,6 +54,10 @@ read ws =
       free = chain (cellsAt ws) cells (firstFreeAt ws);
       position = positionAt ws;
     }
+
+-- the keys of the standing cells but the head, ascending
+abbrev pub standingKeys : List ℕ → List ℕ
+standingKeys ws = map (λ x. x .key) (read ws .row)
 
 -- Numbers 1 and The words 1: D, K and C are in range, and the length is exact.
 unfoldable pub sized : List ℕ → Bool

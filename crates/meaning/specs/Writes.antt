@@ -8,7 +8,7 @@ use Rattle.settings.specs.Numbers.{headerWords, fieldsBeforeLinks, cellWords}
 use Rattle.meaning.specs.Keys.{shared}
 use Rattle.meaning.specs.Words.{wordAt, keyAt, valueAt, markAt, owedAt, lowAt, highAt, linkAt, cellsAt, positionAt, dimensionsAt}
 use Rattle.meaning.specs.Words.{baseAt, firstFreeAt, linkField, freeMark, liveMark, deadMark, pathAt, valueField, markField}
-use Rattle.meaning.specs.Operations.{Slot}
+use Rattle.meaning.specs.declared.Slot.{Slot}
 use Rattle.meaning.specs.Sentences.{Free, Standing, NextSmaller, Settled}
 
 -- Debts 4: a cell that owes nothing has owed, low and high 0.

@@ -15,10 +15,10 @@ use borrow.Rule.Slice.PartMut.{midOf, putMid, mid-len}
 use Rattle.settings.specs.declared.Settings.{Settings}
 use Rattle.meaning.specs.Words.{wordIndex, linkField}
 use Rattle.meaning.specs.Layer.Stores.{store, newWords, newLinks}
+use Rattle.meaning.specs.declared.Slot.{Slot}
 use Rattle.words.specs.Shaped.{Shaped}
 use Rattle.words.proofs.Shaped.{part-inside, part-written}
-use Rattle.search.specs.declared.Found.{Found}
-use Rattle.new_cell.specs.NewCell.{slotOf, fieldWords}
+use Rattle.new_cell.specs.NewCell.{fieldWords}
 
 -- Runs of stores
 
@@ -45,14 +45,15 @@ six-written D ws n key value mark owed low high =
     let fourth : wordIndex D n 3 ≡ suc (suc (suc (wordIndex D n 0))) = omega arith in
     rw (second, third, fourth) refl
 
-pub owing-written : (D : ℕ) (ws : List ℕ) (n key value : ℕ) (f : Found) → f .p < f .q →
-    sets (store D (store D (store D ws n 0 key) n 1 value) n 2 1) (wordIndex D n 3) (f .c ∷ f .p ∷ f .q ∷ [])
-    ≡ sets ws (wordIndex D n 0) (fieldWords key value f)
-owing-written D ws n key value f h = rw (lt-ltb (f .p) (f .q) h) (six-written D ws n key value 1 (f .c) (f .p) (f .q))
+pub owing-written : (D : ℕ) (ws : List ℕ) (t : Slot) (key value : ℕ) → t .p < t .q →
+    sets (store D (store D (store D ws (t .n) 0 key) (t .n) 1 value) (t .n) 2 1) (wordIndex D (t .n) 3) (t .c ∷ t .p ∷ t .q ∷ [])
+    ≡ sets ws (wordIndex D (t .n) 0) (fieldWords key value t)
+owing-written D ws t key value h = rw (lt-ltb (t .p) (t .q) h) (six-written D ws (t .n) key value 1 (t .c) (t .p) (t .q))
 
-pub settled-written : (D : ℕ) (ws : List ℕ) (n key value : ℕ) (f : Found) → f .q ≤ f .p →
-    sets (store D (store D (store D ws n 0 key) n 1 value) n 2 1) (wordIndex D n 3) (0 ∷ 0 ∷ 0 ∷ []) ≡ sets ws (wordIndex D n 0) (fieldWords key value f)
-settled-written D ws n key value f h = rw (le-ltb (f .p) (f .q) h) (six-written D ws n key value 1 0 0 0)
+pub settled-written : (D : ℕ) (ws : List ℕ) (t : Slot) (key value : ℕ) → t .q ≤ t .p →
+    sets (store D (store D (store D ws (t .n) 0 key) (t .n) 1 value) (t .n) 2 1) (wordIndex D (t .n) 3) (0 ∷ 0 ∷ 0 ∷ [])
+    ≡ sets ws (wordIndex D (t .n) 0) (fieldWords key value t)
+settled-written D ws t key value h = rw (le-ltb (t .p) (t .q) h) (six-written D ws (t .n) key value 1 0 0 0)
 
 -- Links
 
@@ -88,20 +89,19 @@ module _ {ws : List ℕ} {s : Settings} (h : Shaped ws s) {n : ℕ} (cell : n < 
 -- A cell
 
 -- the two parts are the definition's words: without a c there is no debt either
-new-words : (D n key value : ℕ) (f : Found) → (f .c ≡ 0 → f .q ≡ 0) →
-    fieldWords key value f ++ newLinks D (f .q) (f .c) ≡ newWords D key value (slotOf n f)
+new-words : (D key value : ℕ) (t : Slot) → (t .c ≡ 0 → t .q ≡ 0) → fieldWords key value t ++ newLinks D (t .q) (t .c) ≡ newWords D key value t
 unfolding newWords
-new-words D n key value f none = at (ℕ-discrete (f .c) 0)
+new-words D key value t none = at (ℕ-discrete (t .c) 0)
   where
-    at : Dec (f .c ≡ 0) → fieldWords key value f ++ newLinks D (f .q) (f .c) ≡ newWords D key value (slotOf n f)
+    at : Dec (t .c ≡ 0) → fieldWords key value t ++ newLinks D (t .q) (t .c) ≡ newWords D key value t
     at (yes z) =
-        let settled : ltb (f .p) (f .q) ≡ false = le-ltb (f .p) (f .q) (omega (arith, none z)) in
-        rw (settled, eq-eqb (f .c) 0 z) refl
-    at (no ne) = rw (ne-eqb (f .c) 0 ne) refl
+        let settled : ltb (t .p) (t .q) ≡ false = le-ltb (t .p) (t .q) (omega (arith, none z)) in
+        rw (settled, eq-eqb (t .c) 0 z) refl
+    at (no ne) = rw (ne-eqb (t .c) 0 ne) refl
 
-pub cell-written : (D : ℕ) (ws : List ℕ) (n key value : ℕ) (f : Found) → (f .c ≡ 0 → f .q ≡ 0) →
-    sets (sets ws (wordIndex D n 0) (fieldWords key value f)) (wordIndex D n (linkField 0)) (newLinks D (f .q) (f .c))
-    ≡ sets ws (wordIndex D n 0) (newWords D key value (slotOf n f))
-cell-written D ws n key value f none =
-    sets-both ws (fieldWords key value f) (newLinks D (f .q) (f .c)) (wordIndex D n 0) (wordIndex D n (linkField 0)) (omega arith)
-    ∙ ap (sets ws (wordIndex D n 0)) (new-words D n key value f none)
+pub cell-written : (D : ℕ) (ws : List ℕ) (t : Slot) (key value : ℕ) → (t .c ≡ 0 → t .q ≡ 0) →
+    sets (sets ws (wordIndex D (t .n) 0) (fieldWords key value t)) (wordIndex D (t .n) (linkField 0)) (newLinks D (t .q) (t .c))
+    ≡ sets ws (wordIndex D (t .n) 0) (newWords D key value t)
+cell-written D ws t key value none =
+    sets-both ws (fieldWords key value t) (newLinks D (t .q) (t .c)) (wordIndex D (t .n) 0) (wordIndex D (t .n) (linkField 0)) (omega arith)
+    ∙ ap (sets ws (wordIndex D (t .n) 0)) (new-words D key value t none)

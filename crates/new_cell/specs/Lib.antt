@@ -1,2 +1,2 @@
--- A new cell's words by the slot that was found.
+-- A new cell's words by its slot.
 pub mod NewCell

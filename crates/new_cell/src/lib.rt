@@ -7,8 +7,8 @@ ghost use lib.Seq.{sets};
 ghost use Rattle.meaning.specs.Words.{wordIndex, linkField};
 ghost use Rattle.meaning.specs.Layer.Stores.{newWords, newLinks};
 ghost use Rattle.words.specs.Shaped.{Shaped};
-ghost use Rattle.new_cell.specs.NewCell.{slotOf, Fits, fieldWords};
-use search::Found;
+ghost use Rattle.new_cell.specs.NewCell.{Fits, fieldWords};
+use meaning::Slot;
 use settings::Settings;
 
 // The links of a new cell: link q to c where there is a c, every other link 0.
@@ -33,19 +33,19 @@ fn write_debt(list: &mut [u32], s: Settings, n: u32, owed: u32, low: u32, high: 
     words::store(list, s, n, words::HIGH, high);
 }
 
-// The words of new cell n before its links: live, its debt if p is below q.
-fn write_fields(list: &mut [u32], s: Settings, n: u32, f: Found, key: u32, value: u32)
-    requires { ⌜ Shaped (now list) s × (n < s .cells) ⌝ }
-    ensures { λ r. ⌜ (now (list .exit) ≡ sets (now (list .entry)) (wordIndex (s .dimensions) n 0) (fieldWords key value f)) × Shaped (now (list .exit)) s ⌝ }
+// The words of a new cell before its links: live, its debt if p is below q.
+fn write_fields(list: &mut [u32], s: Settings, t: Slot, key: u32, value: u32)
+    requires { ⌜ Shaped (now list) s × (t .n < s .cells) ⌝ }
+    ensures { λ r. ⌜ (now (list .exit) ≡ sets (now (list .entry)) (wordIndex (s .dimensions) (t .n) 0) (fieldWords key value t)) × Shaped (now (list .exit)) s ⌝ }
 {
-    words::store(list, s, n, words::KEY, key);
-    words::store(list, s, n, words::VALUE, value);
-    words::store(list, s, n, words::MARK, words::LIVE);
-    if f.p < f.q {
-        write_debt(list, s, n, f.c, f.p, f.q);
+    words::store(list, s, t.n, words::KEY, key);
+    words::store(list, s, t.n, words::VALUE, value);
+    words::store(list, s, t.n, words::MARK, words::LIVE);
+    if t.p < t.q {
+        write_debt(list, s, t.n, t.c, t.p, t.q);
         return;
     }
-    write_debt(list, s, n, 0, 0, 0);
+    write_debt(list, s, t.n, 0, 0, 0);
 }
 
 // The links of cell n become those of a new cell.
@@ -58,11 +58,11 @@ fn put_links(list: &mut [u32], s: Settings, n: u32, q: u32, c: u32)
     write_links(&mut list[start..end], q, c);
 }
 
-// Cell n gets the words of a new cell in the slot that was found.
-pub fn write_cell(list: &mut [u32], s: Settings, n: u32, f: Found, key: u32, value: u32)
-    requires { ⌜ Shaped (now list) s × Fits s n f ⌝ }
-    ensures { λ r. ⌜ (now (list .exit) ≡ sets (now (list .entry)) (wordIndex (s .dimensions) n 0) (newWords (s .dimensions) key value (slotOf n f))) × Shaped (now (list .exit)) s ⌝ }
+// Cell n gets the words of a new cell in its slot.
+pub fn write_cell(list: &mut [u32], s: Settings, t: Slot, key: u32, value: u32)
+    requires { ⌜ Shaped (now list) s × Fits s t ⌝ }
+    ensures { λ r. ⌜ (now (list .exit) ≡ sets (now (list .entry)) (wordIndex (s .dimensions) (t .n) 0) (newWords (s .dimensions) key value t)) × Shaped (now (list .exit)) s ⌝ }
 {
-    write_fields(list, s, n, f, key, value);
-    put_links(list, s, n, f.q, f.c);
+    write_fields(list, s, t, key, value);
+    put_links(list, s, t.n, t.q, t.c);
 }

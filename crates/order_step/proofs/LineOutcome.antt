@@ -4,8 +4,8 @@ use mathlib.Core.Path.{_≡_, refl}
 use mathlib.Core.List.{List}
 use Prim.Native.Nat.{ℕ}
 use Rattle.text.specs.Lines.{line, tooLong}
-use Rattle.meaning.specs.Refusals.{Meets, answer}
-use Rattle.meaning.specs.declared.Answer.{Answer}
+use Rattle.answers.specs.Refusals.{Meets, answer}
+use Rattle.answers.specs.declared.Answer.{Answer}
 use Rattle.lines.specs.Grammar.{parsedOf}
 use Rattle.lines.specs.declared.Line.{Line}
 use Rattle.lines.specs.declared.Parsed.the-variants.{Readable, Unreadable}

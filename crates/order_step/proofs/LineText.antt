@@ -9,8 +9,8 @@ use Rattle.text.specs.Lines.{lineFeed, Handed, line, tooLong}
 use Rattle.text.specs.Feeding.{toldIn}
 use Rattle.text.specs.declared.feed.Told.{Told}
 use Rattle.text.specs.declared.feed.Told.the-variants.{NoLine, Line, LongLine}
-use Rattle.meaning.specs.Refusals.{Meets}
-use Rattle.meaning.specs.declared.Answer.{Answer}
+use Rattle.answers.specs.Refusals.{Meets}
+use Rattle.answers.specs.declared.Answer.{Answer}
 use Rattle.report.specs.Report.{answerText, Put}
 use Rattle.report.proofs.Puts.{put-start}
 use Rattle.order_step.specs.Step.{lineOutcome}

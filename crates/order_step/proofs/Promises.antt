@@ -1,27 +1,25 @@
 -- No line of the program is answered 4: what each call replies follows from the book, an entry's key is from 1 to K, and K stays as it is.
-use mathlib.Core.Path.{_≡_, refl, sym, ap, subst, _∙_}
-use mathlib.Core.Bool.{Bool, true, false, cond, _&&_, _||_}
+use mathlib.Core.Path.{_≡_, refl, sym, ap, _∙_}
+use mathlib.Core.Bool.{Bool, true, false, cond, _||_}
 use mathlib.Core.List.{List, [], _∷_}
 use Prim.Native.Nat.{ℕ, suc, _≤_}
 use native.Mathlib.Omega.{arith}
-use lib.Dec.{leb, ltb}
+use lib.Dec.{ltb}
 use lib.ListN.{length}
-use borrow.Author.Tests.{le-leb}
-use Rattle.settings.specs.Numbers.{mostLargest}
+use Rattle.settings.specs.Numbers.{mostLargest, isKey}
+use Rattle.settings.proofs.Numbers.{key-in}
 use Rattle.text.specs.Lines.{Handed, line, tooLong}
 use Rattle.meaning.specs.Words.{largestAt}
 use Rattle.meaning.specs.Reading.{isList}
-use Rattle.meaning.specs.Calls.{outcome, Made, alone, madeOn, afterCalls}
-use Rattle.meaning.specs.declared.Answer.{Answer}
-use Rattle.meaning.specs.declared.Call.the-variants as calls
+use Rattle.calls.specs.Calls.{outcome, Made, operated, madeOn, afterCalls}
+use Rattle.answers.specs.declared.Answer.{Answer}
 use Rattle.files.specs.Files.{Pair}
-use Rattle.meaning.specs.Book.{Book, bookOf, hasKey, liveIn, inserted, keyInserted, bookedCall, booked, bookedAll}
-use Rattle.meaning.specs.Book.{Reply, keyed, insertReply, takeReply, replyToCall, replyTo}
+use Rattle.calls.specs.Book.{Book, bookOf, hasKey, liveIn, inserted, keyInserted, bookedBy, booked, bookedAll}
+use Rattle.calls.specs.Book.{Reply, keyed, insertReply, takeReply, operationReply, replyToCall, replyTo}
 use Rattle.settings.specs.declared.Settings.{Settings}
-use Rattle.meaning.specs.Promises.{keepsSettings}
 use Rattle.meaning.specs.Layer.Listed.{Listed}
-use Rattle.meaning.proofs.Listed.{made-listed}
-use Rattle.meaning.proofs.Promises.{answers-are-booked, calls-are-booked, calls-keep-lists}
+use Rattle.calls.proofs.Listed.{operation-listed}
+use Rattle.calls.proofs.Promises.{answers-are-booked, calls-are-booked, calls-keep-lists}
 use Rattle.entries.specs.Entries.{entryKey}
 use Rattle.entries.proofs.Promises.{key-within}
 use Rattle.lines.specs.Grammar.{parsedOf, KindInRange}
@@ -30,33 +28,21 @@ use Rattle.lines.specs.declared.Kind.the-variants.{Insert, Find, Finish, Take, 
 use Rattle.lines.specs.declared.Parsed.{Parsed}
 use Rattle.lines.specs.declared.Parsed.the-variants.{Readable, Unreadable}
 use Rattle.lines.proofs.Grammar.{read-in-range}
-use Rattle.order_step.specs.Step.{kindOutcome, parsedOutcome, lineOutcome}
+use Rattle.order_step.specs.Step.{kindOperation, kindOutcome, parsedOutcome, lineOutcome}
 use Rattle.order_step.specs.Printed.{wordsAfter}
 use Rattle.order_step.specs.Promises.{NeverFour}
 
 -- a kind of line as a call, and that its outcome is the call's
 abbrev callOf : Kind → Made
-callOf (Insert e value) = alone (calls.Insert (entryKey e) value)
-callOf (Find e) = alone (calls.Find (entryKey e))
-callOf (Finish e) = alone (calls.Finish (entryKey e))
-callOf Take = alone calls.Take
-callOf Sweep = alone calls.Sweep
+callOf kind = operated (kindOperation kind)
 
 kind-answers : (kind : Kind) (ws : List ℕ) → madeOn (callOf kind) ws .answered ≡ kindOutcome kind ws .answered
 unfolding outcome
-kind-answers (Insert e value) ws = refl
-kind-answers (Find e) ws = refl
-kind-answers (Finish e) ws = refl
-kind-answers Take ws = refl
-kind-answers Sweep ws = refl
+kind-answers kind ws = refl
 
 kind-leaves : (kind : Kind) (ws : List ℕ) → madeOn (callOf kind) ws .left .words ≡ kindOutcome kind ws .left
 unfolding outcome
-kind-leaves (Insert e value) ws = refl
-kind-leaves (Find e) ws = refl
-kind-leaves (Finish e) ws = refl
-kind-leaves Take ws = refl
-kind-leaves Sweep ws = refl
+kind-leaves kind ws = refl
 
 -- a reply that is not 4
 abbrev NotFour : Reply → Type 0
@@ -69,11 +55,11 @@ either false r s p q = q
 -- a key from 1 to K
 in-range : (key : ℕ) (k : Book) (r : Reply) → 1 ≤ key → key ≤ k .largest → NotFour r → NotFour (keyed key k r)
 unfolding keyed
-in-range key k r least most p = rw (le-leb 1 key least, le-leb key (k .largest) most) p
+in-range key k r least most p = rw (key-in least most) p
 
 -- the call that a kind of line asks for
 kind-reply : (kind : Kind) → KindInRange kind → (long : ℕ) (k : Book) → k .largest ≡ mostLargest → NotFour (replyTo (callOf kind) long k)
-unfolding replyToCall insertReply
+unfolding replyToCall operationReply insertReply
 kind-reply (Insert e value) i long k top =
     let w = key-within e i in
     in-range (entryKey e) k (insertReply (entryKey e) k) (omega arith) (omega arith)
@@ -118,9 +104,9 @@ inserted-largest key value k =
     (either-largest (ltb (suc (length (k .standing))) (k .cells)) _ _ (k .largest) refl refl))
 
 kind-largest : (kind : Kind) (long : ℕ) (k : Book) → booked (callOf kind) long k .largest ≡ k .largest
-unfolding bookedCall keyInserted
+unfolding bookedBy keyInserted
 kind-largest (Insert e value) long k =
-    either-largest (leb 1 (entryKey e) && leb (entryKey e) (k .largest)) _ _ (k .largest) (inserted-largest (entryKey e) value k) refl
+    either-largest (isKey (k .largest) (entryKey e)) _ _ (k .largest) (inserted-largest (entryKey e) value k) refl
 kind-largest (Find e) long k = refl
 kind-largest (Finish e) long k = refl
 kind-largest Take long k = refl
@@ -159,18 +145,8 @@ unfolding lineOutcome
 line-listed tooLong listed = listed
 line-listed {ws} {s} (line bytes) listed = at (parsedOf bytes)
   where
-    kept : (kind : Kind) → keepsSettings (callOf kind .call) ≡ true
-    kept (Insert e value) = refl
-    kept (Find e) = refl
-    kept (Finish e) = refl
-    kept Take = refl
-    kept Sweep = refl
-
-    by : (kind : Kind) → Listed (kindOutcome kind ws .left) s
-    by kind = subst (λ (us : List ℕ). Listed us s) (kind-leaves kind ws) (made-listed (callOf kind) (kept kind) listed)
-
     at : (p : Parsed) → Listed (parsedOutcome p ws .left) s
-    at (Readable l) = by (l .kind)
+    at (Readable l) = operation-listed (kindOperation (l .kind)) listed
     at Unreadable = listed
 
 pub lines-listed : {ws : List ℕ} {s : Settings} (hs : List Handed) → Listed ws s → Listed (wordsAfter hs ws) s

@@ -2,8 +2,10 @@
 use mathlib.Core.List.{List}
 use Prim.Native.Nat.{ℕ}
 use Rattle.text.specs.Lines.{Handed, line, tooLong}
-use Rattle.meaning.specs.Refusals.{Outcome, lineNotReadable, refused}
-use Rattle.meaning.specs.Operations.{insertOut, findOut, finishOut, takeOut, sweepOut}
+use Rattle.answers.specs.Refusals.{Outcome, lineNotReadable, refused}
+use Rattle.answers.specs.declared.Operation.{Operation}
+use Rattle.answers.specs.declared.Operation.the-variants as operations
+use Rattle.meaning.specs.Operations.{operationOut}
 use Rattle.entries.specs.Entries.{entryKey}
 use Rattle.lines.specs.Grammar.{parsedOf}
 use Rattle.lines.specs.declared.Kind.{Kind}
@@ -12,12 +14,15 @@ use Rattle.lines.specs.declared.Parsed.{Parsed}
 use Rattle.lines.specs.declared.Parsed.the-variants.{Readable, Unreadable}
 
 -- the operation that a kind of line asks for, on its entry's key
+abbrev pub kindOperation : Kind → Operation
+kindOperation (Insert e value) = operations.Insert (entryKey e) value
+kindOperation (Find e) = operations.Find (entryKey e)
+kindOperation (Finish e) = operations.Finish (entryKey e)
+kindOperation Take = operations.Take
+kindOperation Sweep = operations.Sweep
+
 abbrev pub kindOutcome : Kind → List ℕ → Outcome (List ℕ)
-kindOutcome (Insert e value) ws = insertOut ws (entryKey e) value
-kindOutcome (Find e) ws = findOut ws (entryKey e)
-kindOutcome (Finish e) ws = finishOut ws (entryKey e)
-kindOutcome Take ws = takeOut ws
-kindOutcome Sweep ws = sweepOut ws
+kindOutcome kind ws = operationOut (kindOperation kind) ws
 
 -- Refusal 10, which is given before the list is called
 abbrev pub unreadable : List ℕ → Outcome (List ℕ)

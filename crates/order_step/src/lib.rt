@@ -1,33 +1,35 @@
 // One line of the order program on the words of its list, which it keeps to itself and need not check again and again: 10 for a line that is not
 // readable, before the list is called; else the operation
 // that the line asks for. And the bytes that are printed for it.
+ghost use mathlib.Core.Path.{_≡_};
 ghost use Prim.Native.Nat.{_≤_};
 ghost use lib.ListN.{length};
 ghost use Rattle.text.specs.Lines.{line, tooLong};
 ghost use Rattle.text.specs.Feeding.{toldIn, LineIn};
-ghost use Rattle.meaning.specs.Refusals.{Meets};
+ghost use Rattle.answers.specs.Refusals.{Meets};
 ghost use Rattle.meaning.specs.Layer.Listed.{Listed};
 ghost use Rattle.lines.specs.Grammar.{KindInRange};
 ghost use Rattle.report.specs.Report.{answerBytes};
-ghost use Rattle.order_step.specs.Step.{kindOutcome, lineOutcome};
+ghost use Rattle.order_step.specs.Step.{kindOperation, lineOutcome};
 ghost use Rattle.order_step.specs.Printed.{LinesAnswered};
+use answers::Answer;
+use answers::Operation;
 use lines::Kind;
 use lines::Parsed;
-use meaning::Answer;
 use settings::Settings;
 use text::feed::Told;
 
 // The operation that a kind of line asks for.
-fn make(list: &mut [u32], s: Settings, kind: Kind) -> Answer
-    requires { ⌜ Listed (now list) s × KindInRange kind ⌝ }
-    ensures { λ r. ⌜ Meets (kindOutcome kind (now (list .entry))) r (now (list .exit)) ⌝ }
+fn operation_of(kind: Kind) -> Operation
+    requires { ⌜ KindInRange kind ⌝ }
+    ensures { λ r. ⌜ r ≡ kindOperation kind ⌝ }
 {
     match kind {
-        Kind::Insert(e, value) => return insert::insert(list, s, entries::entry_key(e), value),
-        Kind::Find(e) => return find::find(list, s, entries::entry_key(e)),
-        Kind::Finish(e) => return finish::finish(list, s, entries::entry_key(e)),
-        Kind::Take => return take::take(list, s),
-        Kind::Sweep => return sweep::sweep(list, s),
+        Kind::Insert(e, value) => return Operation::Insert(entries::entry_key(e), value),
+        Kind::Find(e) => return Operation::Find(entries::entry_key(e)),
+        Kind::Finish(e) => return Operation::Finish(entries::entry_key(e)),
+        Kind::Take => return Operation::Take,
+        Kind::Sweep => return Operation::Sweep,
     }
 }
 
@@ -35,7 +37,7 @@ fn make(list: &mut [u32], s: Settings, kind: Kind) -> Answer
 fn long_line(list: &[u32]) -> Answer
     ensures { λ r. ⌜ Meets (lineOutcome tooLong (now (list .entry))) r (now (list .entry)) ⌝ }
 {
-    meaning::refused(meaning::LINE_NOT_READABLE)
+    answers::refused(answers::LINE_NOT_READABLE)
 }
 
 // A line of at most 64 bytes, or any other that is handed over whole.
@@ -44,10 +46,11 @@ fn step(list: &mut [u32], s: Settings, bytes: &[u8]) -> Answer
     ensures { λ r. ⌜ Meets (lineOutcome (line (now (bytes .entry))) (now (list .entry))) r (now (list .exit)) ⌝ }
 {
     let Parsed::Readable(l) = lines::parse(bytes) else {
-        return meaning::refused(meaning::LINE_NOT_READABLE);
+        return answers::refused(answers::LINE_NOT_READABLE);
     };
     let kind = l.kind;
-    make(list, s, kind)
+    let powers = s.powers();
+    operate::operate(list, s, &powers.of, operation_of(kind))
 }
 
 // Answers the line that is told of, if one is: puts the bytes that are printed for it into `out`, from the first on; how many they are.

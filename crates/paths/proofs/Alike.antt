@@ -16,7 +16,7 @@ use Rattle.meaning.specs.Words.{wordAt, owedAt, lowAt, highAt, linkAt, linkFiel
 use Rattle.meaning.specs.Walk.{linkRead, stepAt, onFrom, trailFrom, trail}
 use Rattle.meaning.specs.Layer.Paths.{NextCell, nextFrom}
 use Rattle.meaning.specs.Layer.Stores.{store, writePath}
-use Rattle.meaning.proofs.Stores.{store-other, store-below, path-sets-header, path-sets-word}
+use Rattle.meaning.proofs.Cells.Stores.{store-other, store-below, path-sets-header, path-sets-word}
 use Rattle.words.specs.Shaped.{Shaped}
 use Rattle.words.proofs.Shaped.{shaped-dimensions, store-shaped}
 use Rattle.paths.specs.Paths.{Walkable}

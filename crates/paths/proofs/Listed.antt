@@ -15,15 +15,15 @@ use Rattle.meaning.specs.Walk.{trail}
 use Rattle.meaning.specs.Layer.Near.{NearAlong}
 use Rattle.meaning.specs.Layer.Paths.{pathFor, pathOver}
 use Rattle.meaning.specs.Layer.Listed.{Listed}
-use Rattle.meaning.proofs.State.{Sound, valid-sound, base-positive}
-use Rattle.meaning.proofs.Picture.{path-length, picture-dimensions}
-use Rattle.meaning.proofs.Walk.{trail-ends, trail-near}
-use Rattle.meaning.proofs.Stores.{path-sets-header}
-use Rattle.meaning.proofs.Placed.{Placed, placed-keyOf, placed-below, placed-most, placed-above, place-key, occurs-placed}
-use Rattle.meaning.proofs.SentencesShape.{key-below}
-use Rattle.meaning.proofs.CellsWithin.{owed-within, linkRead-within}
-use Rattle.meaning.proofs.Path.{path-head}
-use Rattle.meaning.proofs.PathWalk.{path-of-cell}
+use Rattle.meaning.proofs.Pictures.State.{Sound, valid-sound, base-positive}
+use Rattle.meaning.proofs.Pictures.Picture.{path-length, picture-dimensions}
+use Rattle.meaning.proofs.Walks.Walk.{trail-ends, trail-near}
+use Rattle.meaning.proofs.Cells.Stores.{path-sets-header}
+use Rattle.meaning.proofs.Cells.Placed.{Placed, placed-keyOf, placed-below, placed-most, placed-above, place-key, occurs-placed}
+use Rattle.meaning.proofs.BothWays.SentencesShape.{key-below}
+use Rattle.meaning.proofs.Cells.CellsWithin.{owed-within, linkRead-within}
+use Rattle.meaning.proofs.Paths.Path.{path-head}
+use Rattle.meaning.proofs.Paths.PathWalk.{path-of-cell}
 use Rattle.words.proofs.Listed.{picture-shaped, power-fits, on-listed}
 use Rattle.paths.specs.declared.Path.{Path}
 use Rattle.paths.specs.Paths.{pathOf, Formed, Walkable, WalkEnds, StandsIn, CellPath}

@@ -14,8 +14,8 @@ use Rattle.settings.specs.declared.Settings.{Settings}
 use Rattle.meaning.specs.Walk.{linkRead}
 use Rattle.meaning.specs.Layer.Paths.{onward, nextFrom}
 use Rattle.meaning.specs.Layer.Stores.{writePath}
-use Rattle.meaning.proofs.Path.{onward-front, onward-back}
-use Rattle.meaning.proofs.PathNext.{next-none, next-down, next-here}
+use Rattle.meaning.proofs.Paths.Path.{onward-front, onward-back}
+use Rattle.meaning.proofs.Paths.PathNext.{next-none, next-down, next-here}
 use Rattle.words.specs.Shaped.{Shaped}
 use Rattle.words.proofs.Shaped.{set-shaped}
 use Rattle.paths.specs.declared.Path.{Path}

@@ -9,7 +9,7 @@ use Rattle.meaning.specs.Walk.{stepAt, onFrom, trail}
 use Rattle.meaning.specs.Layer.Paths.{onward, pathOver}
 use Rattle.meaning.specs.declared.Step.{Step}
 use Rattle.meaning.specs.declared.Step.the-variants.{Go, Up, End}
-use Rattle.words.proofs.Walking.{trailAt, Walking, walking-start, walked, walking-go, walking-up}
+use Rattle.steps.proofs.Walking.{trailAt, Walking, walking-start, walked, walking-go, walking-up}
 use Rattle.paths.specs.declared.Path.{Path}
 use Rattle.paths.specs.Paths.{pathOf, Formed, Walkable, WalkEnds}
 

@@ -12,9 +12,9 @@ use Rattle.meaning.specs.Reading.{read}
 use Rattle.meaning.specs.Words.{markAt}
 use Rattle.meaning.specs.Layer.Paths.{PathOf, dimensionIn, onward}
 use Rattle.meaning.specs.Layer.Listed.{Listed}
-use Rattle.meaning.proofs.State.{Sound}
-use Rattle.meaning.proofs.KeepsState.{cell-alone}
-use Rattle.meaning.proofs.PathNext.{head-on-way, way-within, way-next, way-end, way-mark, way-above, way-on}
+use Rattle.meaning.proofs.Pictures.State.{Sound}
+use Rattle.meaning.proofs.Kept.KeepsState.{cell-alone}
+use Rattle.meaning.proofs.Paths.PathNext.{head-on-way, way-within, way-next, way-end, way-mark, way-above, way-on}
 use Rattle.words.proofs.Listed.{on-listed}
 use Rattle.paths.specs.declared.Path.{Path}
 use Rattle.paths.specs.declared.Reached.{Reached}

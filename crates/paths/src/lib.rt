@@ -6,12 +6,13 @@ ghost use mathlib.Core.List.{_++_};
 ghost use Prim.Native.Nat.{_≤_, _<_};
 ghost use lib.ListN.{length, take, drop, replicate};
 ghost use Rattle.settings.specs.Numbers.{headerWords, mostDimensions};
+ghost use Rattle.settings.specs.Levels.{PowersOf};
 ghost use Rattle.meaning.specs.Walk.{trail};
 ghost use Rattle.meaning.specs.Layer.Paths.{pathOver};
 ghost use Rattle.meaning.specs.Layer.Paths as definitions;
 ghost use Rattle.meaning.specs.Layer.Stores.{writePath};
 ghost use Rattle.words.specs.Shaped.{Shaped};
-ghost use Rattle.words.specs.Sought.{Sought};
+ghost use Rattle.steps.specs.Blocks.{BlocksOf};
 ghost use Rattle.paths.specs.Paths.{pathOf, Formed, held, PathIn, Walkable, WalkEnds, NextFound, NextIs, StandsInSome, CellPath};
 use meaning::Step;
 use settings::Settings;
@@ -97,7 +98,7 @@ pub fn write_path(list: &mut [u32], s: Settings, path: Path)
 
 // The path of the standing cell with key k, along the walk for k; `starts` tells where k's blocks start.
 fn path_along(list: &[u32], s: Settings, starts: &[u64], powers: &[u64], k: u32) -> Path
-    requires { ⌜ Walkable (now list) s × (Sought s k (now starts) (now powers) × WalkEnds (now list) s k) ⌝ }
+    requires { ⌜ Walkable (now list) s × (BlocksOf s k (now starts) (now powers) × WalkEnds (now list) s k) ⌝ }
     ensures { λ r. ⌜ (pathOf r ≡ pathOver (s .dimensions) (replicate (s .dimensions) 0) 0 (trail (now (list .entry)) k))
         × Formed (s .dimensions) r ⌝ }
 {
@@ -105,7 +106,7 @@ fn path_along(list: &[u32], s: Settings, starts: &[u64], powers: &[u64], k: u32)
     let mut at: u32 = 0;
     let mut d: u32 = 0;
     loop {
-        let next = words::step(list, s, starts, powers, k, at, d);
+        let next = steps::step(list, s, starts, powers, k, at, d);
         match next {
             Step::Go(y) => {
                 path = onward(path, d, y);
@@ -122,17 +123,16 @@ fn path_along(list: &[u32], s: Settings, starts: &[u64], powers: &[u64], k: u32)
 }
 
 // The path of standing cell x.
-pub fn path_of(list: &[u32], s: Settings, x: u32) -> Path
-    requires { ⌜ StandsInSome (now list) s x ⌝ }
+pub fn path_of(list: &[u32], s: Settings, powers: &[u64], x: u32) -> Path
+    requires { ⌜ StandsInSome (now list) s x × PowersOf s (now powers) ⌝ }
     ensures { λ r. ⌜ CellPath (now (list .entry)) s x r ⌝ }
 {
     if x == 0 {
         return head_path(s);
     }
     let k = words::word(list, s, x, words::KEY);
-    let powers = s.powers();
-    let starts = words::block_starts(k, s, &powers.of);
-    path_along(list, s, &starts, &powers.of, k)
+    let starts = steps::block_starts(k, s, powers);
+    path_along(list, s, &starts, powers, k)
 }
 
 // The next standing cell in key order after the cell that a path leads to, whose words these cell numbers begin with: the highest link d of

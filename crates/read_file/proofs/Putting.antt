@@ -22,15 +22,15 @@ use Rattle.meaning.specs.Words.{owedAt}
 use Rattle.meaning.specs.Operations.{looked, insertOut}
 use Rattle.meaning.specs.Layer.Listed.{Listed}
 use Rattle.meaning.specs.Layer.Paths.{pathFor, onward}
-use Rattle.meaning.specs.Layer.ReadState.{nodesFrom, readState, lastKey}
-use Rattle.meaning.proofs.State.{Sound, base-above}
-use Rattle.meaning.proofs.Picture.{picture-free}
-use Rattle.meaning.proofs.ReadBack.{read-of-picture, picture-is-list}
-use Rattle.meaning.proofs.Path.{pathFor-at}
-use Rattle.meaning.proofs.KeepsState.{position-head}
-use Rattle.meaning.proofs.ReadState.{read-state-sound, read-unowing, stands-unowing, next-pair}
-use Rattle.meaning.proofs.ReadIn.{insert-last}
-use Rattle.meaning.proofs.ReadInPath.{last-key-snoc, next-above, AboveAll, read-state-next, path-next}
+use Rattle.calls.specs.Layer.ReadState.{nodesFrom, readState, lastKey}
+use Rattle.meaning.proofs.Pictures.State.{Sound, base-above}
+use Rattle.meaning.proofs.Pictures.Picture.{picture-free}
+use Rattle.meaning.proofs.Pictures.ReadBack.{read-of-picture, picture-is-list}
+use Rattle.meaning.proofs.Paths.Path.{pathFor-at}
+use Rattle.meaning.proofs.Kept.KeepsState.{position-head}
+use Rattle.calls.proofs.Restarted.ReadState.{read-state-sound, read-unowing, stands-unowing, next-pair}
+use Rattle.calls.proofs.Restarted.ReadIn.{insert-last}
+use Rattle.calls.proofs.Restarted.ReadInPath.{last-key-snoc, next-above, AboveAll, read-state-next, path-next}
 use Rattle.search.specs.Found.{slotNumber, slotParent, slotShared, slotCell, foundAt, foundOf}
 use Rattle.search.specs.declared.Found.{Found}
 use Rattle.search.proofs.Slots.{found-missing}

@@ -20,15 +20,15 @@ use Rattle.files.proofs.Written.{file-length}
 use Rattle.files.proofs.Pairs.{pairAt, pairs-in-length, pairs-more}
 use Rattle.files.proofs.Files.{keepable}
 use Rattle.meaning.specs.Picture.{picture}
-use Rattle.meaning.specs.Refusals.{answer, Meets}
+use Rattle.answers.specs.Refusals.{answer, Meets}
 use Rattle.meaning.specs.Operations.{setUpOut}
-use Rattle.meaning.specs.Saved.{fileLent, insertedAll, finishedAll, readIn, readOut}
+use Rattle.calls.specs.Saved.{fileLent, insertedAll, finishedAll, readIn, readOut}
 use Rattle.meaning.specs.Layer.Listed.{Listed}
-use Rattle.meaning.specs.Layer.ReadState.{nodesFrom, readState, lastKey}
-use Rattle.meaning.specs.declared.Answer.{Answer}
-use Rattle.meaning.proofs.Path.{path-head}
-use Rattle.meaning.proofs.ReadState.{keeps-left}
-use Rattle.meaning.proofs.ReadIn.{read-in-is}
+use Rattle.calls.specs.Layer.ReadState.{nodesFrom, readState, lastKey}
+use Rattle.answers.specs.declared.Answer.{Answer}
+use Rattle.meaning.proofs.Paths.Path.{path-head}
+use Rattle.calls.proofs.Restarted.ReadState.{keeps-left}
+use Rattle.calls.proofs.Restarted.ReadIn.{read-in-is}
 use Rattle.paths.proofs.Paths.{zeros-taken, zeros-formed}
 use Rattle.read_file.specs.Putting.{Putting, NextOfSome, PairPut}
 use Rattle.read_file.proofs.Putting.{state-listed}

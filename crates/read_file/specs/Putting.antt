@@ -8,7 +8,7 @@ use Rattle.settings.specs.declared.Settings.{Settings}
 use Rattle.files.specs.Files.{Pair, keeps}
 use Rattle.meaning.specs.Picture.{picture}
 use Rattle.meaning.specs.Layer.Paths.{pathFor}
-use Rattle.meaning.specs.Layer.ReadState.{nodesFrom, readState, lastKey}
+use Rattle.calls.specs.Layer.ReadState.{nodesFrom, readState, lastKey}
 use Rattle.paths.specs.Paths.{pathOf, Formed, held}
 
 -- Words to which some pairs of a file have been given: the picture of the state that reading them gives, the last of their keys (0 if

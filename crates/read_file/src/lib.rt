@@ -6,12 +6,12 @@ ghost use Rattle.settings.specs.Levels.{PowersOf};
 ghost use Rattle.files.specs.Files.{pairsIn, contentsOf};
 ghost use Rattle.files.specs.declared.Contents.the-variants.{IsFile};
 ghost use Rattle.meaning.specs.Picture.{picture};
-ghost use Rattle.meaning.specs.Refusals.{Meets};
-ghost use Rattle.meaning.specs.Saved.{fileLent, readOut};
-ghost use Rattle.meaning.specs.Layer.ReadState.{readState};
+ghost use Rattle.answers.specs.Refusals.{Meets};
+ghost use Rattle.calls.specs.Saved.{fileLent, readOut};
+ghost use Rattle.calls.specs.Layer.ReadState.{readState};
 ghost use Rattle.read_file.specs.Putting.{NextOfSome, PairPut};
+use answers::Answer;
 use files::Contents;
-use meaning::Answer;
 use settings::Settings;
 
 // The next pair: its key is above all that stand, `last` is the key before and `path` begins with that one's path, which becomes the new key's.
@@ -27,7 +27,7 @@ fn put_pair(
     requires { ⌜ NextOfSome (now list) s last (now path) (record { key = key; value = value }) × PowersOf s (now powers) ⌝ }
     ensures { λ r. ⌜ PairPut (now (list .entry)) (now (list .exit)) s last (now (path .entry)) (now (path .exit)) (record { key = key; value = value }) ⌝ }
 {
-    let p = words::shared(s, powers, last, key);
+    let p = steps::shared(s, powers, last, key);
     let n = list[words::FIRST_FREE];
     let parent = path[p as usize];
     insert::add_last(list, s, n, parent, p, key, value);
@@ -58,13 +58,13 @@ pub fn read_file(file: &[u8], list: &mut [u32]) -> Answer
 {
     let contents = files::read_contents(file);
     let Contents::IsFile(s, n) = contents else {
-        return meaning::refused(meaning::BAD_FILE);
+        return answers::refused(answers::BAD_FILE);
     };
     if list.len() != s.length() {
-        return meaning::refused(meaning::WRONG_LENGTH);
+        return answers::refused(answers::WRONG_LENGTH);
     }
     // accepted: the settings of a file are in range, and the length is right
     set_up::set_up(s.dimensions, s.largest, s.cells, list);
     put_pairs(list, s, file, n);
-    meaning::accepted(0, 0, n)
+    answers::accepted(0, 0, n)
 }

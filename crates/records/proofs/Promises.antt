@@ -11,12 +11,8 @@ use Rattle.records.specs.Grammar.{Field, escaped, non-escaped, Fields, l
 use Rattle.records.specs.Reading.{fields}
 use Rattle.records.specs.Promises.{ReadingIsGrammar, OneRecord, Writing, plainly, betweenQuotes}
 use Rattle.records.specs.Promises.{valueOf, doubled, written, canWrite, writtenAll, WrittenReadsBack}
-use Rattle.records.specs.Promises.{OneFullNumber, SomeFullNumber, FullNumberIs, FirstNumber, ExportInParts, NotesWithin}
 use Rattle.records.proofs.Accepts.{accepts}
 use Rattle.records.proofs.Derives.{derives}
-use Rattle.records.proofs.Notes.{note-within}
-use Rattle.records.proofs.FullNumber.{one-full, round-on, full-is, first-full}
-use Rattle.records.proofs.Feeding.{parts-hand}
 
 pub reading-is-grammar : ReadingIsGrammar
 reading-is-grammar bytes values = (derives bytes values, accepts)
@@ -53,25 +49,3 @@ written-fields first (next ∷ writings) a = more (written-field first (a .0)) (
 pub written-reads-back : WrittenReadsBack
 written-reads-back first writings h =
     let f = written-fields first writings (every-all canWrite (first ∷ writings) h) in (accepts (unclosed f), accepts (closed f))
-
--- Numbers
-
-pub one-full-number : OneFullNumber
-one-full-number = one-full
-
-pub some-full-number : SomeFullNumber
-some-full-number = round-on
-
-pub full-number-is : FullNumberIs
-full-number-is = full-is
-
-pub first-number : FirstNumber
-first-number before own h = sym (first-full before own h)
-
--- Exports
-
-pub export-in-parts : ExportInParts
-export-in-parts = parts-hand
-
-pub notes-within : NotesWithin
-notes-within = note-within

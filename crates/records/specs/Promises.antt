@@ -1,18 +1,13 @@
--- What is promised of records, their numbers and exports. proofs/Promises.antt proves each.
+-- What is promised of the reading of a record. proofs/Promises.antt proves each.
 use mathlib.Core.Path.{_≡_}
 use mathlib.Core.Bool.{Bool, true, cond, _||_}
-use mathlib.Core.List.{List, [], _∷_, _++_, map, flatten}
+use mathlib.Core.List.{List, [], _∷_, _++_, map}
 use mathlib.Core.Logic.{_↔_}
-use Prim.Native.Nat.{ℕ, _+_, _≤_, _<_}
+use Prim.Native.Nat.{ℕ}
 use lib.Dec.{eqb}
 use Rattle.lists.specs.Lists.{every}
 use Rattle.records.specs.Grammar.{comma, quote, isText, standsInQuotes, lineEnd, Record}
 use Rattle.records.specs.Reading.{fields, saidBy}
-use Rattle.records.specs.Notes.{noteBy, Within}
-use Rattle.records.specs.FullNumber.{numbersPerRound, mostFull, Full, roundOn, fullNumber}
-use Rattle.records.specs.Export.{notesOf}
-use Rattle.records.specs.Feeding.{handedByParts}
-use Rattle.records.specs.declared.full_number.FullNumber.the-variants.{Fits}
 
 -- the reading accepts exactly the bytes that the grammar derives, with the same fields
 abbrev pub ReadingIsGrammar : Type 0
@@ -56,27 +51,3 @@ WrittenReadsBack =
     (first : Writing) (writings : List Writing) → every canWrite (first ∷ writings) ≡ true →
     (saidBy (writtenAll first writings) ≡ fields (map valueOf (first ∷ writings))) ×
     (saidBy (writtenAll first writings ++ lineEnd) ≡ fields (map valueOf (first ∷ writings)))
-
--- two numbers that are both the full number of a record's own are the same
-abbrev pub OneFullNumber : Type 0
-OneFullNumber = (last own n m : ℕ) → Full last own n → Full last own m → n ≡ m
-
--- .. and there always is one, if one counts from a round further on: the full number itself may be below 0
-abbrev pub SomeFullNumber : Type 0
-SomeFullNumber = (last own : ℕ) → Full (last + numbersPerRound) own (roundOn last own)
-
--- after an accepted record the full number is what it is to be, or there is none that fits
-abbrev pub FullNumberIs : Type 0
-FullNumberIs = (last own n : ℕ) → last ≤ mostFull → (fullNumber last own ≡ Fits n) ↔ (Full last own n × (n ≤ mostFull))
-
--- until a record is accepted it is the record's own and 65,536
-abbrev pub FirstNumber : Type 0
-FirstNumber = (last own : ℕ) → mostFull < last → fullNumber last own ≡ Fits (own + numbersPerRound)
-
--- however an export is cut into parts, what its records note is handed on
-abbrev pub ExportInParts : Type 0
-ExportInParts = (parts : List (List ℕ)) → handedByParts [] parts ≡ notesOf (flatten parts)
-
--- a note's entry and number are in range
-abbrev pub NotesWithin : Type 0
-NotesWithin = (bytes : List ℕ) → Within (noteBy bytes)

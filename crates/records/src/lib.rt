@@ -1,8 +1,4 @@
 // The logger's records: their grammar, read byte by byte. Where a record stands is a value, so no byte of it need be kept.
-pub mod note; // note.rt: what a record notes
-pub mod full_number; // full_number.rt: the logger's number in full
-pub mod feed; // feed.rt: the records of an export, out of bytes that come in parts
-
 ghost use mathlib.Core.Path.{_≡_};
 ghost use Rattle.records.specs.Grammar.{isText, standsInQuotes};
 ghost use Rattle.records.specs.Reading.{to, stepOn, afterField, mayEnd};

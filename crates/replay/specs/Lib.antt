@@ -1,3 +1,2 @@
--- What the replay keeps to, so that it is safe, and what it prints.
+-- What the replay keeps to, so that it is safe.
 pub mod Kept
-pub mod Printed

@@ -27,19 +27,13 @@
 // each in order h becomes (h x 1,000,003 + it) mod 2,147,483,647.
 //
 // The file stdout has the answers of the separate ordered set: compare/ordered_set/target/release/ordered_set replay < stdin > stdout
-mod answer; // answer.rt: what a line does, and the line printed
-
 ghost use mathlib.Core.Path.{_≡_};
 ghost use lib.ListN.{length};
 ghost use Rattle.text.specs.Lines.{mostBytes};
-ghost use Rattle.text.specs.Feeding.{LineIn};
-ghost use Rattle.trace.specs.Trace.{mostWords, mostHeld, Fits};
-ghost use Rattle.replay.specs.Kept.{Room, Kept, heldIn};
-ghost use Rattle.replay.specs.Printed.{leftBy, ReadAs};
-use answer::Sizes;
+ghost use Rattle.trace.specs.Lines.{mostWords, mostHeld};
+ghost use Rattle.replay.specs.Kept.{Kept};
 use text::feed::Feed;
-use text::feed::Told;
-use trace::Kind;
+use trace_step::Sizes;
 
 // What is kept from one byte to the next, beside the arrays, the last number and the bytes of the line begun: how much is held.
 pub struct State {
@@ -47,74 +41,8 @@ pub struct State {
     pub sizes: Sizes,
 }
 
-// Does what a line says and prints its answer; how much is held afterwards.
-fn reply(
-    words: &mut [u32],
-    bytes: &mut [u8],
-    last: &mut u64,
-    sizes: Sizes,
-    line: &[u8],
-    ended: Told,
-    kind: Kind,
-) -> Sizes
-    requires { ⌜ (Room (now words) (now bytes) sizes × Fits kind) × ReadAs ended kind ⌝ }
-    ensures held { λ r. ⌜ Room (now (words .exit)) (now (bytes .exit)) r ⌝ }
-    ensures left { λ r. ⌜ heldIn (now (words .exit)) (now (bytes .exit)) (now (last .exit)) r ≡ leftBy kind (now (line .entry)) (heldIn (now (words .entry)) (now (bytes .entry)) (now (last .entry)) sizes) ⌝ }
-{
-    let mut out = [0u8; answer::LINE_BYTES];
-    let done = answer::line_text(words, bytes, last, sizes, line, kind, &mut out);
-    let n = done.used;
-    let m = done.filled;
-    let end = done.text;
-    let number = *last;
-    answer::write(
-        &out[..end],
-        ended,
-        line,
-        kind,
-        &words[..n],
-        &bytes[..m],
-        number,
-    );
-    Sizes { used: n, filled: m }
-}
-
-// The line that ended, if one did.
-fn take_line(
-    words: &mut [u32],
-    bytes: &mut [u8],
-    last: &mut u64,
-    sizes: Sizes,
-    line: &[u8],
-    ended: Told,
-) -> Sizes
-    requires { ⌜ Room (now words) (now bytes) sizes × LineIn (now line) ended ⌝ }
-    ensures { λ r. ⌜ Room (now (words .exit)) (now (bytes .exit)) r ⌝ }
-{
-    match ended {
-        Told::NoLine => return sizes,
-        Told::Line(n) => return reply(
-            words,
-            bytes,
-            last,
-            sizes,
-            &line[0..n],
-            ended,
-            trace::parse(&line[0..n]),
-        ),
-        Told::LongLine => return reply(
-            words,
-            bytes,
-            last,
-            sizes,
-            &line[0..0],
-            ended,
-            Kind::Unreadable,
-        ),
-    }
-}
-
-fn take_byte(
+// One byte of the input: the feed keeps it, or the line that it ends is answered.
+fn feed_byte(
     words: &mut [u32],
     bytes: &mut [u8],
     last: &mut u64,
@@ -129,11 +57,12 @@ fn take_byte(
     let feed = fed.feed;
     let ended = fed.told;
     let before = state.sizes;
-    let sizes = take_line(words, bytes, last, before, line, ended);
+    let sizes = trace_step::answer_line(words, bytes, last, before, line, ended);
     State { feed, sizes }
 }
 
-fn take_part(
+// A part of the input, byte by byte.
+fn feed_part(
     words: &mut [u32],
     bytes: &mut [u8],
     last: &mut u64,
@@ -147,7 +76,7 @@ fn take_part(
     let mut s = state;
     let mut i = 0;
     while i < part.len() {
-        s = take_byte(words, bytes, last, line, s, part[i]);
+        s = feed_byte(words, bytes, last, line, s, part[i]);
         i += 1;
     }
     s
@@ -155,7 +84,7 @@ fn take_part(
 
 // The input, in parts, to its end or to a read that fails. Nothing says that an input ends, so the turns are counted down from a number
 // that no run uses up.
-fn take_all(words: &mut [u32], bytes: &mut [u8], last: &mut u64, line: &mut [u8])
+fn read_all(words: &mut [u32], bytes: &mut [u8], last: &mut u64, line: &mut [u8])
     requires { ⌜ (length (now words) ≡ mostWords) × ((length (now bytes) ≡ mostHeld) × (length (now line) ≡ mostBytes)) ⌝ }
 {
     let mut s = State {
@@ -170,18 +99,18 @@ fn take_all(words: &mut [u32], bytes: &mut [u8], last: &mut u64, line: &mut [u8]
             break;
         }
         let n = io::count(got, &part);
-        s = take_part(words, bytes, last, line, s, &part[..n]);
+        s = feed_part(words, bytes, last, line, s, &part[..n]);
         turns -= 1;
     }
     let ended = text::feed::finish(s.feed);
     let sizes = s.sizes;
-    take_line(words, bytes, last, sizes, line, ended);
+    trace_step::answer_line(words, bytes, last, sizes, line, ended);
 }
 
 fn main() {
     let mut words = [0u32; trace::MOST_WORDS];
     let mut bytes = [0u8; trace::MOST_HELD];
-    let mut last = records::full_number::NO_NUMBER;
+    let mut last = full_number::NO_NUMBER;
     let mut line = [0u8; text::feed::MOST_BYTES];
-    take_all(&mut words, &mut bytes, &mut last, &mut line);
+    read_all(&mut words, &mut bytes, &mut last, &mut line);
 }

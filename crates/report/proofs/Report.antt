@@ -12,7 +12,7 @@ use lib.Seq.{take-at}
 use borrow.Author.Tests.{ltb-true, ltb-false, leb-true, le-leb, lt-ltb, ne-eqb}
 use Rattle.settings.proofs.Numbers.{and-left, and-right}
 use Rattle.text.specs.Fields.{space, isDigit, fieldsOf, allDigits, decimalFrom, isDecimal}
-use Rattle.meaning.specs.declared.Answer.{Answer}
+use Rattle.answers.specs.declared.Answer.{Answer}
 use Rattle.report.specs.Report.{mostDigits, decimalIn, decimal, answerText}
 
 -- One digit more, behind the others

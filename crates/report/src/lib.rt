@@ -6,7 +6,7 @@ ghost use Prim.Native.Nat.{_+_, _≤_};
 ghost use lib.ListN.{length};
 ghost use Rattle.report.specs.Report.{decimal, answerText, fieldBytes, answerBytes, checkedBytes, Put, checksumOf};
 ghost use Rattle.report.specs.Report.{checksumText, checkedText};
-use meaning::Answer;
+use answers::Answer;
 
 // The digits of a number of 64 bits, at most.
 const MOST_DIGITS: usize = 20;

@@ -5,9 +5,9 @@ use Prim.Native.Nat.{ℕ, _-_, _≤_}
 use native.Mathlib.Nat.{sub-zero}
 use lib.ListN.{length, take, replicate}
 use lib.Seq.{length-take-le}
-use Rattle.meaning.specs.Refusals.{Meets}
+use Rattle.answers.specs.Refusals.{Meets}
 use Rattle.meaning.specs.Operations.{setUpOut}
-use Rattle.meaning.specs.declared.Answer.{Answer}
+use Rattle.answers.specs.declared.Answer.{Answer}
 use Rattle.report.specs.Report.{checkedText, Put}
 use Rattle.report.proofs.Puts.{put-start}
 use Rattle.samples.specs.Printed.{left, edgeText}

@@ -6,7 +6,7 @@ use Rattle.meaning.specs.Picture.{picture}
 use Rattle.meaning.specs.Reading.{isList}
 use Rattle.meaning.specs.Operations.{fresh}
 use Rattle.meaning.specs.Words.{wordIndex}
-use Rattle.meaning.proofs.Computing.{computing}
+use Rattle.calls.proofs.Computing.{computing}
 use Rattle.samples.specs.Samples.{joined, larger, smaller, figures, raised, lowered, refusedFrom}
 
 -- the order program's list, fresh: 7,181 words

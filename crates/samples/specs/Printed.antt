@@ -2,7 +2,7 @@
 use mathlib.Core.List.{List}
 use Prim.Native.Nat.{ℕ}
 use lib.ListN.{getD, replicate}
-use Rattle.meaning.specs.Refusals.{Outcome}
+use Rattle.answers.specs.Refusals.{Outcome}
 use Rattle.meaning.specs.Operations.{setUpOut}
 use Rattle.report.specs.Report.{checkedText}
 

@@ -8,28 +8,28 @@ use Rattle.settings.specs.Numbers.{lengthOf}
 use Rattle.lists.specs.Lists.{those}
 use Rattle.meaning.specs.Reading.{read, isList}
 use Rattle.meaning.specs.Operations.{setUpOut}
-use Rattle.meaning.specs.Calls.{alone, afterCalls}
-use Rattle.meaning.specs.declared.Call.the-variants.{Insert, Finish, Take, Sweep}
-use Rattle.meaning.specs.declared.Call.{Call}
+use Rattle.answers.specs.declared.Operation.the-variants.{Insert, Finish, Take, Sweep}
+use Rattle.answers.specs.declared.Operation.{Operation}
+use Rattle.calls.specs.Calls.{operated, afterCalls}
 
 -- a fresh list with D, K and C
 abbrev pub freshWith : ℕ → ℕ → ℕ → List ℕ
 freshWith D K C = setUpOut D K C (replicate (lengthOf D C) 0) .left
 
-abbrev pub inserts : List ℕ → List Call
+abbrev pub inserts : List ℕ → List Operation
 inserts [] = []
 inserts (key ∷ keys) = Insert key (key + 1000) ∷ inserts keys
 
-unfoldable pub joined : List (List Call) → List Call
+unfoldable pub joined : List (List Operation) → List Operation
 joined [] = []
 joined ([] ∷ parts) = joined parts
-joined ((call ∷ calls) ∷ parts) = call ∷ joined (calls ∷ parts)
+joined ((operation ∷ operations) ∷ parts) = operation ∷ joined (operations ∷ parts)
 
 -- D = 3, K = 63, C = 40, so b = 4
 unfoldable pub larger : List ℕ
 larger =
     afterCalls
-    (map alone (joined
+    (map operated (joined
     (inserts (1 ∷ 2 ∷ 3 ∷ 5 ∷ 9 ∷ 20 ∷ 21 ∷ 22 ∷ 26 ∷ 27 ∷ 30 ∷ 31 ∷ 37 ∷ 38 ∷ 41 ∷ 50 ∷ 51 ∷ 60 ∷ [])
     ∷ replicate 9 Take
     ∷ (Sweep ∷ [])
@@ -42,7 +42,7 @@ larger =
 unfoldable pub smaller : List ℕ
 smaller =
     afterCalls
-    (map alone (joined
+    (map operated (joined
     (inserts (1 ∷ 2 ∷ 5 ∷ 6 ∷ 9 ∷ [])
     ∷ replicate 4 Take
     ∷ (Sweep ∷ [])

@@ -16,19 +16,19 @@ use Rattle.meaning.specs.Reading.{read}
 use Rattle.meaning.specs.Words.{keyAt}
 use Rattle.meaning.specs.Walk.{linkRead}
 use Rattle.meaning.specs.Lower.{wayFrom, lastGone, lowerFrom}
-use Rattle.meaning.specs.Layer.Resting.{rest}
+use Rattle.meaning.specs.Resting.{rest}
 use Rattle.meaning.specs.Layer.Listed.{Listed}
-use Rattle.meaning.proofs.Keys.{shared-less, coordinate-less}
-use Rattle.meaning.proofs.State.{Sound, base-positive}
-use Rattle.meaning.proofs.Picture.{picture-dimensions}
-use Rattle.meaning.proofs.Placed.{Placed, Own, placed-below, placed-other, place-key}
-use Rattle.meaning.proofs.SentencesShape.{key-below, placed-ascends}
-use Rattle.meaning.proofs.Slot.{gap, dimensions-positive}
-use Rattle.meaning.proofs.KeepsInsert.{node-split}
-use Rattle.meaning.proofs.BookRow.{node-key}
-use Rattle.meaning.proofs.Walk.{Room, room-none, room-up}
-use Rattle.meaning.proofs.WalkStop.{Hangs, Wanting, Moved, rests}
-use Rattle.meaning.proofs.Lower.{Nears, hangs-nears, Leads, LeadsNowhere, nears-up, nears-along, link-leads, led, lower-is}
+use Rattle.meaning.proofs.Rows.Keys.{shared-less, coordinate-less}
+use Rattle.meaning.proofs.Pictures.State.{Sound, base-positive}
+use Rattle.meaning.proofs.Pictures.Picture.{picture-dimensions}
+use Rattle.meaning.proofs.Cells.Placed.{Placed, Own, placed-below, placed-other, place-key}
+use Rattle.meaning.proofs.BothWays.SentencesShape.{key-below, placed-ascends}
+use Rattle.meaning.proofs.Kept.Slot.{gap, dimensions-positive}
+use Rattle.meaning.proofs.Rows.Nodes.{node-split}
+use Rattle.meaning.proofs.Rows.Nodes.{node-key}
+use Rattle.meaning.proofs.Walks.Walk.{Room, room-none, room-up}
+use Rattle.meaning.proofs.Walks.WalkStop.{Hangs, Wanting, Moved, rests}
+use Rattle.meaning.proofs.Walks.Lower.{Nears, hangs-nears, Leads, LeadsNowhere, nears-up, nears-along, link-leads, led, lower-is}
 use Rattle.words.proofs.Listed.{on-listed}
 use Rattle.search.specs.Found.{slotNumber, slotParent, foundAt, foundOf, Sought}
 use Rattle.search.specs.declared.Found.{Found}

@@ -18,19 +18,20 @@ use Rattle.meaning.specs.Reading.{read}
 use Rattle.meaning.specs.Operations.{looked, settledLinkAt}
 use Rattle.meaning.specs.Words.{keyAt}
 use Rattle.meaning.specs.declared.Rest.{Rest}
-use Rattle.meaning.specs.Layer.Resting.{rest}
+use Rattle.meaning.specs.Resting.{rest}
 use Rattle.meaning.specs.Layer.Listed.{Listed}
-use Rattle.meaning.proofs.AscendingRow.{Asc}
-use Rattle.meaning.proofs.Keys.{shared-sym, shared-less}
-use Rattle.meaning.proofs.State.{Sound, base-positive}
-use Rattle.meaning.proofs.Places.{asc-left, lastFrom, dimensionFrom}
-use Rattle.meaning.proofs.Parent.{dimensionAfter, Apart, asc-last, apart-left, apart-before, place-at}
-use Rattle.meaning.proofs.Slot as slot
-use Rattle.meaning.proofs.KeepsInsert.{node-split, slot-first}
-use Rattle.meaning.proofs.WalkRead.{settled-above}
-use Rattle.meaning.proofs.Walk.{walk-looked}
-use Rattle.meaning.proofs.WalkStop.{rest-walk, Hangs, Wanting, Moved, rests}
-use Rattle.meaning.proofs.Placed.{Placed, placed-cell, placed-below, placed-other, place-key}
+use Rattle.meaning.proofs.Rows.AscendingRow.{Asc}
+use Rattle.meaning.proofs.Rows.Keys.{shared-sym, shared-less}
+use Rattle.meaning.proofs.Pictures.State.{Sound, base-positive}
+use Rattle.meaning.proofs.Rows.Places.{asc-left, lastFrom, dimensionFrom}
+use Rattle.meaning.proofs.Rows.Parent.{dimensionAfter, Apart, asc-last, apart-left, apart-before, place-at}
+use Rattle.meaning.proofs.Kept.Slot as slot
+use Rattle.meaning.proofs.Rows.Nodes.{node-split}
+use Rattle.meaning.proofs.Kept.KeepsInsert.{slot-first}
+use Rattle.meaning.proofs.Cells.WalkRead.{settled-above}
+use Rattle.meaning.proofs.Walks.Walk.{walk-looked}
+use Rattle.meaning.proofs.Walks.WalkStop.{rest-walk, Hangs, Wanting, Moved, rests}
+use Rattle.meaning.proofs.Cells.Placed.{Placed, placed-cell, placed-below, placed-other, place-key}
 use Rattle.search.specs.Found.{slotNumber, slotParent, slotShared, slotCell, foundAt, foundOf, Searched}
 use Rattle.search.specs.declared.Found.{Found}
 use Rattle.words.proofs.Listed.{on-listed}
@@ -187,6 +188,10 @@ answers h k least most {r} is e =
 
 -- what is answered of the place where the walk rests is answered of the walk: g is that, and f what the function gives
 pub searched :
-    {ws : List ℕ} {k : ℕ} {r : Rest} {f g : Found} → r ≡ rest ws k → f ≡ g → g .looked ≡ r .looked → g ≡ foundOf (read ws) k → Searched ws k f
-searched {ws} {k} is same counted found =
-    record { found = same ∙ found; walked = ap (λ t. t .looked) same ∙ counted ∙ ap (λ t. t .looked) is ∙ rest-walk ws k }
+    {ws : List ℕ} {s : Settings} → Listed ws s → (k : ℕ) → 1 ≤ k → k ≤ s .largest → {r : Rest} {f g : Found} → r ≡ rest ws k → f ≡ g →
+    g .looked ≡ r .looked → g ≡ foundOf (read ws) k → Searched ws s k f
+searched {ws} h k least most is same counted found =
+    record {
+      sought = record { list = h; least = least; most = most; is = same ∙ found };
+      walked = ap (λ t. t .looked) same ∙ counted ∙ ap (λ t. t .looked) is ∙ rest-walk ws k;
+    }

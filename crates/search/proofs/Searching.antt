@@ -14,14 +14,14 @@ use Rattle.meaning.specs.Walk.{stepAt, trail, ends, walk}
 use Rattle.meaning.specs.declared.Rest.{Rest}
 use Rattle.meaning.specs.declared.Step.{Step}
 use Rattle.meaning.specs.declared.Step.the-variants.{Go, Up, End}
-use Rattle.meaning.specs.Layer.Resting.{atHead, restOver, rest}
+use Rattle.meaning.specs.Resting.{atHead, restOver, rest}
 use Rattle.meaning.specs.Layer.Listed.{Listed}
-use Rattle.meaning.proofs.State.{base-of}
+use Rattle.meaning.proofs.Pictures.State.{base-of}
 use Rattle.meaning.specs.Layer.Near.{NearAlong}
-use Rattle.meaning.proofs.Walk.{trail-ends, trail-near, walk-bounded}
-use Rattle.meaning.proofs.WalkStop.{rest-looked, rest-walk}
+use Rattle.meaning.proofs.Walks.Walk.{trail-ends, trail-near, walk-bounded}
+use Rattle.meaning.proofs.Walks.WalkStop.{rest-looked, rest-walk}
 use Rattle.words.proofs.Listed.{on-listed, listed-shaped, listed-cells, listed-link}
-use Rattle.words.proofs.Walking.{trailAt, Walking, walking-start, walked, walking-go, walking-up}
+use Rattle.steps.proofs.Walking.{trailAt, Walking, walking-start, walked, walking-go, walking-up}
 
 -- The walk for k has come to r, and rests where the trail from there leads.
 pub record Searching (ws : List ℕ) (s : Settings) (k : ℕ) (r : Rest) : Type 0 where

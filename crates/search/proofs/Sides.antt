@@ -15,16 +15,16 @@ use Rattle.meaning.specs.Keys.{shared}
 use Rattle.meaning.specs.Row.{Node, headNode, firstOf, Place, placesAfter, places, smallerThan}
 use Rattle.meaning.specs.State.{State}
 use Rattle.meaning.specs.Picture.{firstWith}
-use Rattle.meaning.proofs.AscendingRow.{Asc, asc-above}
-use Rattle.meaning.proofs.Keys.{shared-same, shared-less, ultra}
-use Rattle.meaning.proofs.State.{Sound, base-positive}
-use Rattle.meaning.proofs.Places.{asc-left, asc-smaller, asc-larger, places-nodes, lastFrom}
-use Rattle.meaning.proofs.Parent.{dimension-least, dimensionAfter, parentAfter, placesFrom, all-last, last-least, last-greatest, first-skips}
-use Rattle.meaning.proofs.Parent.{first-hits, first-front}
-use Rattle.meaning.proofs.Smaller as smaller
-use Rattle.meaning.proofs.Slot as slot
-use Rattle.meaning.proofs.Placed.{Placed, placed-has}
-use Rattle.meaning.proofs.WalkStop.{Hangs}
+use Rattle.meaning.proofs.Rows.AscendingRow.{Asc, asc-above}
+use Rattle.meaning.proofs.Rows.Keys.{shared-same, shared-less, ultra}
+use Rattle.meaning.proofs.Pictures.State.{Sound, base-positive}
+use Rattle.meaning.proofs.Rows.Places.{asc-left, asc-smaller, asc-larger, places-nodes, lastFrom}
+use Rattle.meaning.proofs.Rows.Parent.{dimension-least, dimensionAfter, parentAfter, placesFrom, all-last, last-least, last-greatest, first-skips}
+use Rattle.meaning.proofs.Rows.Parent.{first-hits, first-front}
+use Rattle.meaning.proofs.Walks.Smaller as smaller
+use Rattle.meaning.proofs.Kept.Slot as slot
+use Rattle.meaning.proofs.Cells.Placed.{Placed, placed-has}
+use Rattle.meaning.proofs.Walks.WalkStop.{Hangs}
 use Rattle.search.specs.Found.{largerThan, slotNumber, slotParent, slotShared, slotCell}
 
 -- The nodes below k, at k and above it

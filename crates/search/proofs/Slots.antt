@@ -1,5 +1,5 @@
--- What the search answers of a key, for insert and finish. Of one that stands: its node's cell. Of one that does not: the slot in which an
--- insert puts it. Either way the cells named are standing ones.
+-- What the search answers of a key, for insert, find and finish. Of one that stands: its node's cell. Of one that does not: the slot in which
+-- an insert puts it. Either way the cells named are standing ones.
 use mathlib.Core.Path.{_≡_, refl, sym, ap, _∙_, subst}
 use mathlib.Core.Bool.{true, false, cond, false≢true}
 use mathlib.Core.List.{List, [], _∷_, _++_, map}
@@ -10,21 +10,28 @@ use native.Mathlib.Omega.{arith}
 use lib.Dec.{eqb}
 use lib.ListN.{length}
 use borrow.Author.Tests.{eq-eqb, ne-eqb}
+use Rattle.settings.specs.declared.Settings.{Settings}
 use Rattle.lists.specs.Lists.{occurrences}
 use Rattle.lists.proofs.Occurrences.{occurrences-between}
 use Rattle.lists.proofs.All.{All, all-left, all-right, all-of-map, all-splits}
 use Rattle.meaning.specs.Row.{Node, headNode, Place, places, placeOf, nodeAt}
 use Rattle.meaning.specs.State.{State}
-use Rattle.meaning.specs.Operations.{looked, Slot, slotFor}
-use Rattle.meaning.proofs.Keys.{shared-less}
-use Rattle.meaning.proofs.State.{Sound}
-use Rattle.meaning.proofs.Places.{lastFrom}
-use Rattle.meaning.proofs.Parent.{dimensionAfter, Apart, all-last, apart-before, place-at, first-among, parent-is}
-use Rattle.meaning.proofs.Slot as slot
-use Rattle.meaning.proofs.KeepsInsert.{node-split, slot-first}
-use Rattle.meaning.proofs.Placed.{Placed, occurs-placed, placed-below}
-use Rattle.meaning.proofs.BookRow.{node-key, node-has}
-use Rattle.search.specs.Found.{slotNumber, slotParent, slotShared, slotCell, foundAt, foundOf}
+use Rattle.meaning.specs.Picture.{mark, picture}
+use Rattle.meaning.specs.Reading.{read}
+use Rattle.meaning.specs.Words.{markAt}
+use Rattle.meaning.specs.Operations.{looked, slotFor}
+use Rattle.meaning.specs.declared.Slot.{Slot}
+use Rattle.meaning.proofs.Rows.Keys.{shared-less}
+use Rattle.meaning.proofs.Pictures.State.{Sound}
+use Rattle.meaning.proofs.Rows.Places.{lastFrom}
+use Rattle.meaning.proofs.Rows.Parent.{dimensionAfter, Apart, all-last, apart-before, place-at, first-among, parent-is}
+use Rattle.meaning.proofs.Kept.Slot as slot
+use Rattle.meaning.proofs.Rows.Nodes.{node-split}
+use Rattle.meaning.proofs.Kept.KeepsInsert.{slot-first}
+use Rattle.meaning.proofs.Cells.Placed.{Placed, occurs-placed, placed-below, mark-one, mark-other, place-mark}
+use Rattle.meaning.proofs.Rows.Nodes.{node-key, node-has}
+use Rattle.words.proofs.Listed.{on-listed}
+use Rattle.search.specs.Found.{slotNumber, slotParent, slotShared, slotCell, foundAt, foundOf, Sought}
 use Rattle.search.specs.declared.Found.{Found}
 use Rattle.search.proofs.Sides.{Sides, sides-absent, sides-present, last-below, SlotAt, slot-at}
 
@@ -209,3 +216,26 @@ module _ {s : State} (v : Sound s) {k : ℕ} (least : 1 ≤ k) {f : Found} (is :
   found-slot t room =
       let e = found-missing t .node in
       subst (λ g. SlotFound g (slotFor s k)) (sym (is ∙ ap (foundAt s k) e)) (slot-at-absent s v k least e room)
+
+-- the mark of a standing key's cell, as it is read, says whether the key is live
+module _ {s : State} (v : Sound s) {k : ℕ} {x : Node} {f : Found} (found : Present s k x f) {m : ℕ} (reads : m ≡ markAt (picture s) (f .c)) where
+  mark-is : m ≡ mark (x .live)
+  mark-is =
+      let (p, here) = node-placed v k x (found .node) in
+      reads ∙ ap (markAt (picture s)) (found .c) ∙ place-mark v (here .0) ∙ ap (λ y. mark (y .live)) (here .1)
+
+  pub marked-live : m ≡ 1 → x .live ≡ true
+  marked-live one = mark-one (x .live) (sym mark-is ∙ one)
+
+  pub marked-dead : (m ≡ 1 → ⊥) → x .live ≡ false
+  marked-dead other = mark-other (x .live) (λ z. other (mark-is ∙ z))
+
+-- On a list: what holds of each state in order, its picture and its settings, where the search has answered so, holds of the list.
+pub on-sought :
+    (P : State → List ℕ → Settings → Type 0) {ws : List ℕ} {s : Settings} {key : ℕ} {f : Found} → Sought ws s key f →
+    ((t : State) → Sound t → key ≤ t .settings .largest → f ≡ foundOf t key → P t (picture t) (t .settings)) → P (read ws) ws s
+on-sought P {key = key} {f = f} k g = on-listed (λ t ws s. key ≤ s .largest → f ≡ foundOf t key → P t ws s) g (k .list) (k .most) (k .is)
+
+-- the cell of a key that stands
+pub standing-cell : {ws : List ℕ} {s : Settings} {key : ℕ} {f : Found} → Sought ws s key f → f .standing ≡ true → f .c < s .cells
+standing-cell {f = f} k stands = on-sought (λ t ws s. f .c < s .cells) k (λ t v m q. found-standing v (k .least) q stands .1 .c-below)

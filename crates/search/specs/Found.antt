@@ -17,6 +17,7 @@ use Rattle.meaning.specs.Reading.{read}
 use Rattle.meaning.specs.Walk.{walk}
 use Rattle.meaning.specs.Operations.{looked}
 use Rattle.meaning.specs.Layer.Listed.{Listed}
+use Rattle.meaning.specs.declared.Slot.{Slot}
 use Rattle.search.specs.declared.Found.{Found}
 
 -- the standing cell of next larger key than k; the head if there is none
@@ -57,13 +58,7 @@ foundAt s k (some x) =
 unfoldable pub foundOf : State → ℕ → Found
 foundOf s k = foundAt s k (nodeAt k (s .row))
 
--- What the search for k on a list answers: what the standing keys say, and in looked the number of cells that the walk on the words goes to
--- (docs/REFERENCE.md, *Looked and the walk 3*), not only the number that the rule gives.
-pub record Searched (ws : List ℕ) (k : ℕ) (f : Found) : Type 0 where
-  pub found : f ≡ foundOf (read ws) k
-  pub walked : f .looked ≡ length (walk ws k)
-
--- The search on a list has answered f of a key that the list may hold.
+-- The search on a list has answered f of a key that the list may hold: what the standing keys say.
 pub record Sought (ws : List ℕ) (s : Settings) (key : ℕ) (f : Found) : Type 0 where
   pub list : Listed ws s
   pub least : 1 ≤ key
@@ -74,3 +69,13 @@ pub record Sought (ws : List ℕ) (s : Settings) (key : ℕ) (f : Found) : Type 
 pub record SoughtSome (ws : List ℕ) (s : Settings) (f : Found) : Type 0 where
   pub key : ℕ
   pub sought : Sought ws s key f
+
+-- What the search answers: that, and in looked the number of cells that the walk on the words goes to (docs/REFERENCE.md, *Looked and the
+-- walk 3*), not only the number that the rule gives.
+pub record Searched (ws : List ℕ) (s : Settings) (key : ℕ) (f : Found) : Type 0 where
+  pub sought : Sought ws s key f
+  pub walked : f .looked ≡ length (walk ws key)
+
+-- the slot that was found, of new cell n
+abbrev pub slotOf : ℕ → Found → Slot
+slotOf n f = record { n = n; parent = f .parent; p = f .p; c = f .c; q = f .q }

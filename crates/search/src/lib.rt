@@ -3,10 +3,11 @@
 // insert asks for the standing cell of next smaller key; that way is no part of the walk.
 ghost use mathlib.Core.Path.{_≡_};
 ghost use Prim.Native.Nat.{suc, _≤_, _<_};
+ghost use Rattle.settings.specs.Levels.{PowersOf};
 ghost use Rattle.meaning.specs.Lower.{lowerFrom};
-ghost use Rattle.meaning.specs.Layer.Resting.{rest};
+ghost use Rattle.meaning.specs.Resting.{rest};
 ghost use Rattle.meaning.specs.Layer.Listed.{Listed};
-ghost use Rattle.words.specs.Sought.{Sought};
+ghost use Rattle.steps.specs.Blocks.{BlocksOf};
 ghost use Rattle.search.specs.Found.{Searched, SoughtSome};
 use meaning::Rest;
 use meaning::Step;
@@ -28,7 +29,7 @@ pub struct Found {
 
 // Where the walk for k comes to rest; `starts` tells where k's blocks start.
 fn rest_of(list: &[u32], s: Settings, starts: &[u64], powers: &[u64], k: u32) -> Rest
-    requires { ⌜ Listed (now list) s × ((1 ≤ k) × ((k ≤ s .largest) × Sought s k (now starts) (now powers))) ⌝ }
+    requires { ⌜ Listed (now list) s × ((1 ≤ k) × ((k ≤ s .largest) × BlocksOf s k (now starts) (now powers))) ⌝ }
     ensures { λ r. ⌜ r ≡ rest (now (list .entry)) k ⌝ }
 {
     let mut from: u32 = 0;
@@ -37,7 +38,7 @@ fn rest_of(list: &[u32], s: Settings, starts: &[u64], powers: &[u64], k: u32) ->
     let mut d: u32 = 0;
     let mut looked: u32 = 0;
     loop {
-        let next = words::step(list, s, starts, powers, k, at, d);
+        let next = steps::step(list, s, starts, powers, k, at, d);
         match next {
             Step::Go(y) => {
                 from = at;
@@ -76,13 +77,12 @@ fn moved(r: Rest, standing: bool, q: u32) -> Found
 }
 
 // The search for k. Where the walk rests below k it wants a link of the cell at hand; else its last move went to k or above it.
-pub fn search(list: &[u32], s: Settings, k: u32) -> Found
-    requires { ⌜ Listed (now list) s × ((1 ≤ k) × (k ≤ s .largest)) ⌝ }
-    ensures { λ r. ⌜ Searched (now (list .entry)) k r ⌝ }
+pub fn search(list: &[u32], s: Settings, powers: &[u64], k: u32) -> Found
+    requires { ⌜ Listed (now list) s × (PowersOf s (now powers) × ((1 ≤ k) × (k ≤ s .largest))) ⌝ }
+    ensures { λ r. ⌜ Searched (now (list .entry)) s k r ⌝ }
 {
-    let powers = s.powers();
-    let starts = words::block_starts(k, s, &powers.of);
-    let r = rest_of(list, s, &starts, &powers.of, k);
+    let starts = steps::block_starts(k, s, powers);
+    let r = rest_of(list, s, &starts, powers, k);
     let key = words::word(list, s, r.at, words::KEY);
     if key < k {
         return Found {

@@ -12,8 +12,8 @@ use Rattle.settings.specs.declared.Checked.{Checked}
 use Rattle.settings.specs.declared.Checked.the-variants.{Accepted, OutOfRange}
 use Rattle.settings.proofs.Numbers.{ranges}
 use Rattle.settings.proofs.Ranges.{checked-in}
-use Rattle.meaning.specs.declared.Answer.{Answer}
-use Rattle.meaning.specs.Refusals.{answer, Meets}
+use Rattle.answers.specs.declared.Answer.{Answer}
+use Rattle.answers.specs.Refusals.{answer, Meets}
 use Rattle.meaning.specs.Operations.{setUpOut, setUpBy}
 use Rattle.meaning.proofs.Outcomes.{set-up-outcome}
 use Rattle.set_up.specs.Fresh.{freshList}

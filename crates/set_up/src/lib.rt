@@ -4,10 +4,10 @@ ghost use mathlib.Core.List.{_++_};
 ghost use Prim.Native.Nat.{_+_, _≤_, _<_};
 ghost use lib.ListN.{length, take, drop};
 ghost use Rattle.settings.specs.Numbers.{headerWords, lengthOf};
-ghost use Rattle.meaning.specs.Refusals.{Meets};
+ghost use Rattle.answers.specs.Refusals.{Meets};
 ghost use Rattle.meaning.specs.Operations.{setUpOut};
 ghost use Rattle.set_up.specs.Fresh.{freshFirst, freshMark, cellOf, freshCells, freshHeader, freshList};
-use meaning::Answer;
+use answers::Answer;
 use settings::Checked;
 use settings::Settings;
 
@@ -87,11 +87,11 @@ pub fn set_up(d: u32, k: u32, c: u32, list: &mut [u32]) -> Answer
 {
     let checked = Settings::new(d, k, c);
     let Checked::Accepted(s) = checked else {
-        return meaning::refused(meaning::OUT_OF_RANGE);
+        return answers::refused(answers::OUT_OF_RANGE);
     };
     if list.len() != s.length() {
-        return meaning::refused(meaning::WRONG_LENGTH);
+        return answers::refused(answers::WRONG_LENGTH);
     }
     draw(list, s);
-    meaning::accepted(0, 0, 0)
+    answers::accepted(0, 0, 0)
 }

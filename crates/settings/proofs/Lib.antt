@@ -1,4 +1,4 @@
--- What holds of the base and of the length, how a rule is shown of a table, and what the checked constructor says.
+-- What holds of the base, the ranges, the keys and the length, how a rule is shown of a table, and what the checked constructor says.
 pub mod Numbers
 pub mod Table
 pub mod Ranges

@@ -1,4 +1,4 @@
--- What holds of the base, the ranges and the length. The base rests on one fact: a number whose power is above K is above every
+-- What holds of the base, the ranges, the keys and the length. The base rests on one fact: a number whose power is above K is above every
 -- number whose power is not.
 use mathlib.Core.Path.{_≡_, refl, sym, _∙_}
 use mathlib.Core.Bool.{Bool, true, false, _&&_}
@@ -11,7 +11,7 @@ use native.Mathlib.Omega.{arith}
 use lib.Dec.{leb, ltb}
 use borrow.Author.Tests.{ltb-true, ltb-false, leb-true, le-leb}
 use Rattle.settings.specs.Numbers.{leastDimensions, mostDimensions, leastLargest, mostLargest, leastCells, mostCells, within, inRange}
-use Rattle.settings.specs.Numbers.{firstAbove, baseOf, cellWords}
+use Rattle.settings.specs.Numbers.{isKey, firstAbove, baseOf, cellWords}
 use Rattle.settings.specs.Base.{IsBase}
 
 -- Powers
@@ -139,6 +139,10 @@ in-range D K C r =
       le-leb C mostCells (r .cells-most),
     )
 
+bounds : (least most n : ℕ) → within least most n ≡ true → (least ≤ n) × (n ≤ most)
+bounds least most n h =
+    (leb-true least n (and-left (leb least n) (leb n most) h), leb-true n most (and-right (leb least n) (leb n most) h))
+
 pub ranges : (D K C : ℕ) → inRange D K C ≡ true → Ranges D K C
 unfolding inRange
 ranges D K C e =
@@ -164,16 +168,28 @@ ranges D K C e =
     cells : Bool
     cells = within leastCells mostCells C
 
-    bounds : (least most n : ℕ) → within least most n ≡ true → (least ≤ n) × (n ≤ most)
-    bounds least most n h =
-        (leb-true least n (and-left (leb least n) (leb n most) h), leb-true n most (and-right (leb least n) (leb n most) h))
-
 pub out-of-range : (D K C : ℕ) → (Ranges D K C → ⊥) → inRange D K C ≡ false
 out-of-range D K C never = at-test (inRange D K C) refl
   where
     at-test : (t : Bool) → inRange D K C ≡ t → t ≡ false
     at-test true e = absurd (never (ranges D K C e))
     at-test false e = refl
+
+-- Keys
+
+module _ {K key : ℕ} where
+  pub key-in : 1 ≤ key → key ≤ K → isKey K key ≡ true
+  key-in least most = rw (le-leb 1 key least, le-leb key K most) refl
+
+  pub key-within : isKey K key ≡ true → (1 ≤ key) × (key ≤ K)
+  key-within = bounds 1 K key
+
+  pub key-out : (1 ≤ key → K < key) → isKey K key ≡ false
+  key-out outside = at-test (isKey K key) refl
+    where
+      at-test : (t : Bool) → isKey K key ≡ t → t ≡ false
+      at-test true e = let (least, most) = key-within e in absurd (not-le-of-lt (outside least) most)
+      at-test false e = refl
 
 -- The length
 

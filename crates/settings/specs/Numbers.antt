@@ -1,4 +1,4 @@
--- The numbers that a list is set up with, its base and its length: Numbers 1 and 3, The words 1.
+-- The numbers that a list is set up with, its keys, its base and its length: Numbers 1 to 3, The words 1.
 use mathlib.Core.Bool.{Bool, true, false, _&&_}
 use Prim.Native.Nat.{ℕ, zero, suc, _+_, _*_, _^_}
 use lib.Dec.{leb, ltb}
@@ -30,6 +30,10 @@ within least most n = leb least n && leb n most
 -- D, K and C are each in range
 unfoldable pub inRange : ℕ → ℕ → ℕ → Bool
 inRange D K C = within leastDimensions mostDimensions D && within leastLargest mostLargest K && within leastCells mostCells C
+
+-- a key of a list whose largest key is K: Numbers 2
+abbrev pub isKey : ℕ → ℕ → Bool
+isKey K key = within 1 K key
 
 -- the first of b, b + 1, .. whose power D is above K; after `fuel` of them, whichever is then at hand
 unfoldable pub firstAbove : ℕ → ℕ → ℕ → ℕ → ℕ

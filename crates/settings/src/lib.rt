@@ -5,7 +5,7 @@ ghost use mathlib.Core.Bool.{true};
 ghost use Prim.Native.Nat.{_^_, _≤_, _<_};
 ghost use lib.Dec.{ltb};
 ghost use Rattle.settings.specs.Numbers.{leastDimensions, mostDimensions, leastLargest, mostLargest, mostCells};
-ghost use Rattle.settings.specs.Numbers.{inRange, baseOf, cellWords, lengthOf};
+ghost use Rattle.settings.specs.Numbers.{inRange, isKey, baseOf, cellWords, lengthOf};
 ghost use Rattle.settings.specs.Checked.{checkedOf};
 ghost use Rattle.settings.specs.Base.{IsBase, isBase};
 ghost use Rattle.settings.specs.Levels.{PowersOf};
@@ -146,6 +146,16 @@ impl Settings {
             cells: c,
             base: Self::base(d, k),
         })
+    }
+
+    // Whether a number is a key of such a list: from 1 to K (*Numbers 2*). Any other is refused by number 4.
+    pub fn has_key(self, key: u32) -> bool
+        ensures { λ r. ⌜ r ≡ isKey (self .largest) key ⌝ }
+    {
+        if key == 0 {
+            return false;
+        }
+        key <= self.largest
     }
 
     // How many words a cell has in D dimensions.

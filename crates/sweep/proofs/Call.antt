@@ -9,13 +9,13 @@ use Rattle.settings.specs.declared.Settings.{Settings}
 use Rattle.meaning.specs.State.{State}
 use Rattle.meaning.specs.Picture.{picture}
 use Rattle.meaning.specs.Reading.{read}
-use Rattle.meaning.specs.Refusals.{answer, accepted, Meets}
+use Rattle.answers.specs.Refusals.{answer, accepted, Meets}
 use Rattle.meaning.specs.Row.{lastOf}
 use Rattle.meaning.specs.Operations.{paid, withRow, deadFront, freedBy, swept, sweepOut}
 use Rattle.meaning.specs.Layer.SweepStores.{finishAll}
-use Rattle.meaning.specs.declared.Answer.{Answer}
+use Rattle.answers.specs.declared.Answer.{Answer}
 use Rattle.meaning.specs.Layer.Listed.{Listed}
-use Rattle.meaning.proofs.SweepWords.{swept-paid, swept-stays}
+use Rattle.meaning.proofs.Written.SweepWords.{swept-paid, swept-stays}
 use Rattle.meaning.proofs.Outcomes.{sweep-outcome}
 use Rattle.words.proofs.Listed.{on-listed}
 use Rattle.free_between.specs.declared.Target.{Target}

@@ -10,10 +10,10 @@ use Rattle.meaning.specs.Operations.{paid, finished, withRow}
 use Rattle.meaning.specs.Layer.Stores.{finishWords}
 use Rattle.meaning.specs.Layer.SweepStores.{finishAll}
 use Rattle.meaning.specs.Layer.Listed.{Listed}
-use Rattle.meaning.proofs.State.{Sound}
-use Rattle.meaning.proofs.KeepsFinish.{finished-sound}
-use Rattle.meaning.proofs.ReadBack.{read-of-picture, picture-is-list}
-use Rattle.meaning.proofs.SweepFinish.{finish-cell, paid-unowing, finish-all, paid-sound, paid-owes-nothing}
+use Rattle.meaning.proofs.Pictures.State.{Sound}
+use Rattle.meaning.proofs.Kept.KeepsFinish.{finished-sound}
+use Rattle.meaning.proofs.Pictures.ReadBack.{read-of-picture, picture-is-list}
+use Rattle.meaning.proofs.Written.SweepFinish.{finish-cell, paid-unowing, finish-all, paid-sound, paid-owes-nothing}
 use Rattle.words.proofs.Listed.{picture-shaped, on-listed}
 use Rattle.free_between.specs.Between.{Paid}
 

@@ -13,9 +13,9 @@ use Rattle.meaning.specs.Words.{keyAt, markAt}
 use Rattle.meaning.specs.Operations.{dimensionAt, keysAbove}
 use Rattle.meaning.specs.Layer.Listed.{Listed}
 use Rattle.meaning.specs.Layer.Paths.{PathOf, dimensionIn}
-use Rattle.meaning.proofs.Placed.{mark-one, mark-other, head-placed}
-use Rattle.meaning.proofs.PathNext.{last-of, way-key}
-use Rattle.meaning.proofs.PathTake.{Stops, Live, stops, above-later}
+use Rattle.meaning.proofs.Cells.Placed.{mark-one, mark-other, head-placed}
+use Rattle.meaning.proofs.Paths.PathNext.{last-of, way-key}
+use Rattle.meaning.proofs.Paths.PathTake.{Stops, Live, stops, above-later}
 use Rattle.words.proofs.Listed.{on-listed}
 use Rattle.paths.specs.declared.Path.{Path}
 use Rattle.paths.specs.declared.Reached.{Reached}

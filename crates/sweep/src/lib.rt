@@ -2,13 +2,14 @@
 // head and it freed.
 ghost use mathlib.Core.Path.{_≡_};
 ghost use Prim.Native.Nat.{_-_};
-ghost use Rattle.meaning.specs.Refusals.{Meets};
+ghost use Rattle.settings.specs.Levels.{PowersOf};
+ghost use Rattle.answers.specs.Refusals.{Meets};
 ghost use Rattle.meaning.specs.Operations.{sweepOut};
 ghost use Rattle.meaning.specs.Layer.SweepStores.{finishAll};
 ghost use Rattle.meaning.specs.Layer.Listed.{Listed};
 ghost use Rattle.free_between.specs.Between.{SweptTo, Paid};
+use answers::Answer;
 use free_between::Target;
-use meaning::Answer;
 use settings::Settings;
 
 // All that is owed is finished.
@@ -54,15 +55,15 @@ fn seek_target(list: &[u32], s: Settings) -> Target
 }
 
 // On a list with settings s: The operations 6.
-pub fn sweep(list: &mut [u32], s: Settings) -> Answer
-    requires { ⌜ Listed (now list) s ⌝ }
+pub fn sweep(list: &mut [u32], s: Settings, powers: &[u64]) -> Answer
+    requires { ⌜ Listed (now list) s × PowersOf s (now powers) ⌝ }
     ensures { λ r. ⌜ Meets (sweepOut (now (list .entry))) r (now (list .exit)) ⌝ }
 {
     finish_all(list, s);
     let t = seek_target(list, s);
     if t.cell == 0 {
-        return meaning::accepted(0, 0, 0);
+        return answers::accepted(0, 0, 0);
     }
-    let count = free_between::drop_front(list, s, t);
-    meaning::accepted(0, 0, count)
+    let count = free_between::drop_front(list, s, powers, t);
+    answers::accepted(0, 0, count)
 }

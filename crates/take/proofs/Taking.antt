@@ -16,20 +16,20 @@ use Rattle.meaning.specs.Reading.{read}
 use Rattle.meaning.specs.Words.{wordIndex, keyAt, valueAt, markAt}
 use Rattle.meaning.specs.Layer.Paths.{pathFor, PathOf}
 use Rattle.meaning.specs.Layer.Stores.{store, writePath, writeNode}
-use Rattle.meaning.specs.Refusals.{answer, Meets}
+use Rattle.answers.specs.Refusals.{answer, Meets}
 use Rattle.meaning.specs.Operations.{deadFront, fromLive, keysAbove, keysPassed, taken, takeOut}
-use Rattle.meaning.specs.declared.Answer.{Answer}
+use Rattle.answers.specs.declared.Answer.{Answer}
 use Rattle.meaning.specs.Layer.Listed.{Listed}
-use Rattle.meaning.proofs.AscendingRow.{Asc}
-use Rattle.meaning.proofs.State.{Sound}
-use Rattle.meaning.proofs.StateCells.{free-length}
-use Rattle.meaning.proofs.Picture.{path-length}
-use Rattle.meaning.proofs.KeepsState.{cell-alone, live-split}
-use Rattle.meaning.proofs.Placed.{mark-one, mark-other, place-key, place-value}
-use Rattle.meaning.proofs.SentencesShape.{HasPlace, row-placed}
-use Rattle.meaning.proofs.PathNext.{last-of, way-within}
-use Rattle.meaning.proofs.PathTake.{stops, position-on-way, above-more, passed-upto, taken-path}
-use Rattle.meaning.proofs.TakeWords.{taken-words}
+use Rattle.meaning.proofs.Rows.AscendingRow.{Asc}
+use Rattle.meaning.proofs.Pictures.State.{Sound}
+use Rattle.meaning.proofs.Pictures.StateCells.{free-length}
+use Rattle.meaning.proofs.Pictures.Picture.{path-length}
+use Rattle.meaning.proofs.Kept.KeepsState.{cell-alone, live-split}
+use Rattle.meaning.proofs.Cells.Placed.{mark-one, mark-other, place-key, place-value}
+use Rattle.meaning.proofs.BothWays.SentencesShape.{HasPlace, row-placed}
+use Rattle.meaning.proofs.Paths.PathNext.{last-of, way-within}
+use Rattle.meaning.proofs.Paths.PathTake.{stops, position-on-way, above-more, passed-upto, taken-path}
+use Rattle.meaning.proofs.Written.TakeWords.{taken-words}
 use Rattle.meaning.proofs.Outcomes.{take-outcome-none, take-outcome-first}
 use Rattle.paths.specs.declared.Path.{Path}
 use Rattle.paths.specs.declared.Reached.{Reached}

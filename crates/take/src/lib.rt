@@ -1,9 +1,9 @@
 // Take: from the position's path onward, past dead cells, to the least live key. No link changes.
-ghost use Rattle.meaning.specs.Refusals.{Meets};
+ghost use Rattle.answers.specs.Refusals.{Meets};
 ghost use Rattle.meaning.specs.Operations.{takeOut};
 ghost use Rattle.meaning.specs.Layer.Listed.{Listed};
 ghost use Rattle.take.specs.Ahead.{FirstLive};
-use meaning::Answer;
+use answers::Answer;
 use paths::Path;
 use settings::Settings;
 
@@ -49,7 +49,7 @@ pub fn take(list: &mut [u32], s: Settings) -> Answer
 {
     let ahead = first_live(list, s);
     if ahead.cell == 0 {
-        return meaning::refused_at(meaning::NOTHING_LIVE, 0, ahead.passed);
+        return answers::refused_at(answers::NOTHING_LIVE, 0, ahead.passed);
     }
     let key = words::word(list, s, ahead.cell, words::KEY);
     let value = words::word(list, s, ahead.cell, words::VALUE);
@@ -57,5 +57,5 @@ pub fn take(list: &mut [u32], s: Settings) -> Answer
     words::store(list, s, ahead.cell, words::MARK, words::DEAD);
     let path = ahead.path;
     paths::write_path(list, s, path);
-    meaning::accepted(key, value, ahead.passed)
+    answers::accepted(key, value, ahead.passed)
 }

@@ -1,3 +1,2 @@
--- What a line of a trace does to the buffer, and the call that it makes.
-pub mod Trace
-pub mod Calling
+-- What a line of a trace asks for.
+pub mod Lines

@@ -1,14 +1,10 @@
-// A trace of calls: the kinds of its lines, a line read as one of them, what a line does to what is held, and the call that it makes.
-// The format is at the head of the program replay.
+// The lines of a trace of calls: their kinds, and a line read as one of them. The format is at the head of the program replay.
 ghost use Prim.Native.Nat.{_≤_};
 ghost use lib.ListN.{length};
-ghost use Rattle.trace.specs.Trace.{Fits};
-use meaning::Call;
+ghost use Rattle.trace.specs.Lines.{Fits};
+use answers::Operation;
+use calls::Call;
 use text::fields::Numeral;
-
-pub mod buffer; // buffer.rt: what a line does to the words
-pub mod bytes; // bytes.rt: what a line does to the bytes and the last number
-pub mod call; // call.rt: the call that a line makes
 
 pub const MOST_WORDS: usize = 155670;
 
@@ -124,10 +120,10 @@ fn alone(letter: u8) -> Kind
     ensures { λ r. ⌜ Fits r ⌝ }
 {
     if letter == b'T' {
-        return Kind::Make(Call::Take);
+        return Kind::Make(Call::Operate(Operation::Take));
     }
     if letter == b'S' {
-        return Kind::Make(Call::Sweep);
+        return Kind::Make(Call::Operate(Operation::Sweep));
     }
     if letter == b'G' {
         return Kind::Make(Call::Record);
@@ -146,10 +142,10 @@ fn with_one(letter: u8, a: u32) -> Kind
     ensures { λ r. ⌜ Fits r ⌝ }
 {
     if letter == b'F' {
-        return Kind::Make(Call::Find(a));
+        return Kind::Make(Call::Operate(Operation::Find(a)));
     }
     if letter == b'A' {
-        return Kind::Make(Call::Finish(a));
+        return Kind::Make(Call::Operate(Operation::Finish(a)));
     }
     if letter == b'L' {
         return length_line(a);
@@ -167,7 +163,7 @@ fn with_two(letter: u8, a: u32, b: u32) -> Kind
     ensures { λ r. ⌜ Fits r ⌝ }
 {
     if letter == b'N' {
-        return Kind::Make(Call::Insert(a, b));
+        return Kind::Make(Call::Operate(Operation::Insert(a, b)));
     }
     if letter == b'P' {
         return Kind::Put(a, b);
@@ -269,7 +265,7 @@ fn field_line(letter: u8, field: &[u8], line: &[u8]) -> Kind
     }
     if letter == b'O' {
         if is_no_number(field) {
-            return Kind::Last(records::full_number::NO_NUMBER);
+            return Kind::Last(full_number::NO_NUMBER);
         }
     }
     kind_of(letter, numbers_after(line, 1))

@@ -1,5 +1,3 @@
--- What the shape of a list's words gives to whoever reads and writes them, what two keys share, what a list gives, and a walk under way.
+-- What the shape of a list's words gives to whoever reads and writes them, and what a list gives.
 pub mod Shaped
-pub mod Sharing
 pub mod Listed
-pub mod Walking

@@ -12,10 +12,10 @@ use Rattle.meaning.specs.Reading.{settingsAt, read}
 use Rattle.meaning.specs.Words.{owedAt}
 use Rattle.meaning.specs.Walk.{linkRead}
 use Rattle.meaning.specs.Layer.Listed.{Listed}
-use Rattle.meaning.proofs.State.{Sound, base-of, base-positive, base-above}
-use Rattle.meaning.proofs.Picture.{picture-length}
-use Rattle.meaning.proofs.ReadBack.{list-is-picture, list-sound}
-use Rattle.meaning.proofs.CellsWithin.{owed-within, linkRead-within}
+use Rattle.meaning.proofs.Pictures.State.{Sound, base-of, base-positive, base-above}
+use Rattle.meaning.proofs.Pictures.Picture.{picture-length}
+use Rattle.meaning.proofs.Pictures.ReadBack.{list-is-picture, list-sound}
+use Rattle.meaning.proofs.Cells.CellsWithin.{owed-within, linkRead-within}
 use Rattle.words.specs.Shaped.{Shaped}
 
 pub picture-shaped : (t : State) → Sound t → Shaped (picture t) (t .settings)

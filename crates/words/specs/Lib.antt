@@ -1,3 +1,2 @@
--- When words have the shape of a list: what the accessors ask; and what the walk's step asks.
+-- When words have the shape of a list: what the accessors ask.
 pub mod Shaped
-pub mod Sought

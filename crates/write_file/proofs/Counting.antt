@@ -16,7 +16,7 @@ use Rattle.lists.specs.Lists.{those, blocks}
 use Rattle.meaning.specs.Row.{Node, put}
 use Rattle.meaning.specs.Reading.{nodeOf, standing, read}
 use Rattle.meaning.specs.Words.{dimensionsAt, cellsAt, wordIndex, markAt, markField, freeMark, liveMark}
-use Rattle.meaning.specs.Pairs.{pair, livePairs}
+use Rattle.calls.specs.Pairs.{pair, livePairs}
 use Rattle.meaning.specs.Layer.Listed.{Listed}
 use Rattle.words.proofs.Listed.{listed-cells}
 

@@ -13,10 +13,10 @@ use Rattle.lists.proofs.Sets.{sets-append}
 use Rattle.files.specs.Files.{Pair, pairBytes, frontOf, fileOf, bytesBefore, fileLength}
 use Rattle.files.proofs.Written.{front-length, file-length}
 use Rattle.meaning.specs.Reading.{readingOf}
-use Rattle.meaning.specs.Refusals.{answer, Meets}
-use Rattle.meaning.specs.Pairs.{livePairs}
-use Rattle.meaning.specs.Saved.{fileLent, written, writeOut}
-use Rattle.meaning.specs.declared.Answer.{Answer}
+use Rattle.answers.specs.Refusals.{answer, Meets}
+use Rattle.calls.specs.Pairs.{livePairs}
+use Rattle.calls.specs.Saved.{fileLent, written, writeOut}
+use Rattle.answers.specs.declared.Answer.{Answer}
 use Rattle.meaning.specs.Layer.Listed.{Listed}
 
 file-written :

@@ -19,19 +19,20 @@ use Rattle.meaning.specs.Picture.{firstWith}
 use Rattle.meaning.specs.Reading.{read}
 use Rattle.meaning.specs.Words.{keyAt, valueAt, markAt}
 use Rattle.meaning.specs.Operations.{keysAbove}
-use Rattle.meaning.specs.Pairs.{pair, livePairs}
+use Rattle.calls.specs.Pairs.{pair, livePairs}
 use Rattle.meaning.specs.Layer.Paths.{pathFor, PathOf}
 use Rattle.meaning.specs.Layer.Listed.{Listed}
-use Rattle.meaning.proofs.State.{Sound}
-use Rattle.meaning.proofs.StateCells.{free-length}
-use Rattle.meaning.proofs.Parent.{all-last}
-use Rattle.meaning.proofs.Placed.{Placed, placed-keyOf, head-placed, place-key, place-value, mark-one, mark-other}
-use Rattle.meaning.proofs.SentencesShape.{HasPlace, row-placed}
-use Rattle.meaning.proofs.InsertSlot.{placed-occurs}
-use Rattle.meaning.proofs.ReadBack.{first-in}
-use Rattle.meaning.proofs.Path.{pathFor-at}
-use Rattle.meaning.proofs.PathNext.{last-from, way-key}
-use Rattle.meaning.proofs.PathTake.{above-later}
+use Rattle.meaning.proofs.Pictures.State.{Sound}
+use Rattle.meaning.proofs.Pictures.StateCells.{free-length}
+use Rattle.meaning.proofs.Rows.Parent.{all-last}
+use Rattle.meaning.proofs.Rows.Places.{last-from}
+use Rattle.meaning.proofs.Cells.Placed.{Placed, placed-keyOf, head-placed, place-key, place-value, mark-one, mark-other}
+use Rattle.meaning.proofs.BothWays.SentencesShape.{HasPlace, row-placed}
+use Rattle.meaning.proofs.Written.InsertSlot.{placed-occurs}
+use Rattle.meaning.proofs.Pictures.ReadBack.{first-in}
+use Rattle.meaning.proofs.Paths.Path.{pathFor-at}
+use Rattle.meaning.proofs.Paths.PathNext.{way-key}
+use Rattle.meaning.proofs.Paths.PathTake.{above-later}
 use Rattle.words.proofs.Listed.{listed-shaped, on-listed}
 use Rattle.paths.specs.declared.Path.{Path}
 use Rattle.paths.specs.declared.Reached.{Reached}

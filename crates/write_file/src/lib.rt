@@ -4,11 +4,11 @@ ghost use Prim.Native.Nat.{_≤_, _<_};
 ghost use lib.ListN.{length};
 ghost use lib.Seq.{sets};
 ghost use Rattle.files.specs.Files.{bytesBefore, fileLength, pairBytes};
-ghost use Rattle.meaning.specs.Refusals.{Meets};
-ghost use Rattle.meaning.specs.Pairs.{livePairs};
-ghost use Rattle.meaning.specs.Saved.{fileLent, writeOut};
+ghost use Rattle.answers.specs.Refusals.{Meets};
+ghost use Rattle.calls.specs.Pairs.{livePairs};
+ghost use Rattle.calls.specs.Saved.{fileLent, writeOut};
 ghost use Rattle.meaning.specs.Layer.Listed.{Listed};
-use meaning::Answer;
+use answers::Answer;
 use settings::Settings;
 
 // How many keys are live: the cells but the head with mark 1.
@@ -57,9 +57,9 @@ pub fn write_file(list: &[u32], s: Settings, file: &mut [u8]) -> Answer
     let n = count_live(list, s);
     let length = files::file_length(n);
     if file.len() < length {
-        return meaning::refused(meaning::NO_ROOM);
+        return answers::refused(answers::NO_ROOM);
     }
     files::write_front(file, s, n);
     write_pairs(list, s, file);
-    meaning::accepted(0, 0, length as u32)
+    answers::accepted(0, 0, length as u32)
 }

@@ -4,7 +4,7 @@ use mathlib.Core.Bool.{_&&_}
 use Prim.Native.Nat.{_*_, _+_, _-_, _/_, _≤_}
 use lib.ListN.{length, drop}
 use borrow.Author.Needs.{needs}
-use Rattle.meaning.specs.Batch.{areCalls}
+use Rattle.calls.specs.Batch.{areCalls}
 use Rattle.batch.proofs.Calls.{kinds-more, kinds-end, not-calls, are-calls}
 use Rattle.batch.proofs.are_calls.Statement.{statement}
 use Rattle.batch.proofs.are_calls.Tie as tie

@@ -2,7 +2,7 @@
 use mathlib.Core.Path.{refl}
 use borrow.Author.Tests.{le-leb, lt-leb}
 use borrow.Author.Needs.{needs}
-use Rattle.meaning.specs.Batch.{isKind}
+use Rattle.calls.specs.Batch.{isKind}
 use Rattle.batch.proofs.is_kind.Statement.{statement}
 use Rattle.batch.proofs.is_kind.Tie as tie
 

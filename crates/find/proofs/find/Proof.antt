@@ -1,68 +1,62 @@
--- `find::find` meets its contract: each way out answers what the definition does, by what the search found and the mark of the cell.
-use mathlib.Core.Path.{_∙_}
+-- `find::find` meets its contract: each way out has the outcome of the definition, by what the search found and the mark of the cell.
+use mathlib.Core.Path.{_∙_, sym}
 use native.Mathlib.Omega.{arith}
 use borrow.Author.Needs.{needs}
 use borrow.Author.Tests.{not-true, not-false}
+use Rattle.settings.proofs.Numbers.{key-within}
+use Rattle.meaning.specs.Operations.{findOut}
+use Rattle.meaning.proofs.Outcomes.{bad-key-meets}
 use Rattle.words.proofs.Shaped.{field-within}
 use Rattle.words.proofs.Listed.{listed-shaped}
-use Rattle.find.proofs.Finding.{find-bad-key, find-missing, find-dead, find-live, find-cell}
+use Rattle.search.proofs.Slots.{standing-cell}
+use Rattle.find.proofs.Finding.{missing-meets, dead-meets, live-meets}
 use Rattle.find.proofs.find.Statement.{statement}
 use Rattle.find.proofs.find.Tie as tie
 
 returns : tie.Need-returns
+unfolding findOut
 returns c =
-    let s = c .before .before .before in
-    c .refused .ensures ∙ find-bad-key (s .pre) (s .args .key) (λ h. omega arith)
+    let s = c .before .before .before .before .before in
+    let t = c .before .before .has-key in
+    bad-key-meets (s .pre .0) (s .args .key) _ (sym (t .ensures) ∙ not-true (t .result) (c .before .if1 .taken)) (c .refused .ensures)
+
+search-requires : tie.Need-search-requires
+search-requires c κs =
+    let t = c .before .has-key in
+    let pre = c .before .before .before .before .pre in
+    (pre .0, (pre .1, key-within (sym (t .ensures) ∙ not-false (t .result) (c .if1 .left))))
 
 returns-2 : tie.Need-returns-2
 returns-2 c =
-    let s = c .before .before .before .before .before in
-    c .refused2 .ensures ∙ find-bad-key (s .pre) (s .args .key) (λ h. omega arith)
-
-returns-3 : tie.Need-returns-3
-returns-3 c =
-    let s = c .before .before .before .before .before .before .before .before in
     let f = c .before .before .before .search in
-    c .not-live .ensures
-    ∙ find-missing (s .pre) (s .args .key) (omega arith) (omega arith) (f .ensures .found) (not-true (f .result .standing) (c .before .if3 .taken))
+    missing-meets (f .ensures .sought) (not-true (f .result .standing) (c .before .if2 .taken)) (c .not-live .ensures)
 
 word-requires : tie.Need-word-requires
 word-requires c κs =
-    let s = c .before .before .before .before .before .before .before in
-    let f = c .before .before .search in (
-      listed-shaped (s .pre),
-      field-within (find-cell (s .pre) (s .args .key) (omega arith) (omega arith) (f .ensures .found)
-          (not-false (f .result .standing) (c .if3 .left))) (omega arith),
-    )
+    let f = c .before .before .search in
+    let k = f .ensures .sought in
+    (listed-shaped (k .list), field-within (standing-cell k (not-false (f .result .standing) (c .if2 .left))) (omega arith))
 
-returns-4 : tie.Need-returns-4
-returns-4 c =
-    let s = c .before .before .before .before .before .before .before .before .before .before in
+returns-3 : tie.Need-returns-3
+returns-3 c =
     let f = c .before .before .before .before .before .search in
-    c .not-live2 .ensures
-    ∙ find-dead (s .pre) (s .args .key) (omega arith) (omega arith) (f .ensures .found)
-    (not-false (f .result .standing) (c .before .before .before .if3 .left)) (c .before .before .word .ensures) (c .before .if4 .taken)
+    dead-meets (f .ensures .sought) (not-false (f .result .standing) (c .before .before .before .if2 .left)) (c .before .before .word .ensures)
+    (c .before .if3 .taken) (c .not-live2 .ensures)
 
 word-requires-2 : tie.Need-word-requires-2
 word-requires-2 c κs =
-    let s = c .before .before .before .before .before .before .before .before .before in
-    let f = c .before .before .before .before .search in (
-      listed-shaped (s .pre),
-      field-within (find-cell (s .pre) (s .args .key) (omega arith) (omega arith) (f .ensures .found)
-          (not-false (f .result .standing) (c .before .before .if3 .left))) (omega arith),
-    )
+    let f = c .before .before .before .before .search in
+    let k = f .ensures .sought in
+    (listed-shaped (k .list), field-within (standing-cell k (not-false (f .result .standing) (c .before .before .if2 .left))) (omega arith))
 
-returns-5 : tie.Need-returns-5
-returns-5 c =
-    let s = c .before .before .before .before .before .before .before .before .before .before .before in
+returns-4 : tie.Need-returns-4
+returns-4 c =
     let f = c .before .before .before .before .before .before .search in
-    c .accepted .ensures
-    ∙ find-live (s .pre) (s .args .key) (omega (arith, c .before .before .before .before .before .before .before .before .before .if1 .left))
-    (omega arith) (f .ensures .found) (not-false (f .result .standing) (c .before .before .before .before .if3 .left))
-    (c .before .before .before .word .ensures) (c .before .before .if4 .left) (c .before .word2 .ensures)
+    live-meets (f .ensures .sought) (not-false (f .result .standing) (c .before .before .before .before .if2 .left)) (c .before .before .before .word .ensures)
+    (c .before .before .if3 .left) (c .before .word2 .ensures) (c .accepted .ensures)
 
 pub find-spec : {M : Type 1} → statement M
 find-spec =
     tie.close
-    (tie.spec (λ c κs. search needs) returns (λ c κs. search needs) returns-2 (λ c κs. search needs) (λ c κs. search needs) returns-3 word-requires
-    (λ c κs. search needs) returns-4 word-requires-2 (λ c κs. search needs) returns-5)
+    (tie.spec (λ c κs. search needs) (λ c κs. search needs) returns search-requires (λ c κs. search needs) returns-2 word-requires (λ c κs. search needs)
+    returns-3 word-requires-2 (λ c κs. search needs) returns-4)

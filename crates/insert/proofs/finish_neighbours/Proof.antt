@@ -9,7 +9,7 @@ returns : tie.Need-returns
 returns c =
     let a = c .before .before .before .before .before .before .before .args in
     let first = c .before .before .before .before .finish-cell .ensures in
-    (first .0 ∙ paid-one (a .s .dimensions) (a .list .now) (a .f .parent) (a .f .c) (c .if1 .taken), first .1)
+    (first .0 ∙ paid-one (a .s .dimensions) (a .list .now) (a .t .parent) (a .t .c) (c .if1 .taken), first .1)
 
 finish-cell-requires-2 : tie.Need-finish-cell-requires-2
 finish-cell-requires-2 c κs =
@@ -21,7 +21,7 @@ returns-2 c =
     let a = c .before .before .before .before .before .before .before .before .before .before .before .args in
     let first = c .before .before .before .before .before .before .before .before .finish-cell .ensures in
     let second = c .before .before .finish-cell2 .ensures in
-    (rw (second .0, first .0) (paid-two (a .s .dimensions) (a .list .now) (a .f .parent) (a .f .c) (c .before .before .before .before .if1 .left)), second .1)
+    (rw (second .0, first .0) (paid-two (a .s .dimensions) (a .list .now) (a .t .parent) (a .t .c) (c .before .before .before .before .if1 .left)), second .1)
 
 pub finish-neighbours-spec : {M : Type 1} → statement M
 finish-neighbours-spec =

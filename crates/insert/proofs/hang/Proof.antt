@@ -17,7 +17,7 @@ returns c =
     let next = filled .before .before in
     let s = next .before .before .before in
     let a = s .args in (
-      hung (s .pre .0) (a .key) (a .value) (a .n) (a .f) (next .word .ensures) (filled .write-cell .ensures .0) (linked .store-link .ensures .0),
+      hung (s .pre .0) (a .key) (a .value) (a .t) (next .word .ensures) (filled .write-cell .ensures .0) (linked .store-link .ensures .0),
       linked .store-link .ensures .1,
     )
 

@@ -8,7 +8,7 @@ returns : tie.Need-returns
 returns c = path-kept (c .if1 .taken)
 
 path-of-requires : tie.Need-path-of-requires
-path-of-requires c κs = due-standing (c .before .before .before .pre .1)
+path-of-requires c κs = let pre = c .before .before .before .before .pre in (due-standing (pre .0 .1), pre .1)
 
 returns-2 : tie.Need-returns-2
 returns-2 c = path-moved (c .before .before .before .before .path-of .ensures) (c .before .before .write-path .ensures .0)

@@ -1,8 +1,8 @@
--- `mdlist_finish` meets its contract: what is no list is refused, and a list is handed to `finish` with its settings.
-use mathlib.Core.Path.{_∙_, sym}
+-- `mdlist_finish` meets its contract: what is no list is refused, and a list is handed to `finish` with its settings and powers.
 use borrow.Author.Needs.{needs}
+use borrow.Author.Tests.{not-true, not-false}
 use Rattle.meaning.proofs.Outcomes.{finish-outcome-not-a-list}
-use Rattle.is_list.proofs.Answered.{reading-listed, reading-none}
+use Rattle.is_list.proofs.Answered.{not-listed}
 use Rattle.mdlist.proofs.Exported.{refused-meets}
 use Rattle.mdlist.proofs.mdlist_finish.Statement.{statement}
 use Rattle.mdlist.proofs.mdlist_finish.Tie as tie
@@ -10,14 +10,14 @@ use Rattle.mdlist.proofs.mdlist_finish.Tie as tie
 returns : tie.Need-returns
 returns c =
     let a = c .before .before .before .before .before .before .args in
-    let none = reading-none (a .list .now) (sym (c .before .before .before .is-list .ensures) ∙ c .before .enum-told .given .1) in
-    refused-meets (finish-outcome-not-a-list (a .list .now) (a .key) none) (c .refused .ensures)
+    let check = c .before .before .before .is-list in
+    refused-meets (finish-outcome-not-a-list (a .list .now) (a .key) (not-listed (check .ensures) (not-true (check .result .list) (c .before .if1 .taken)))) (c .refused .ensures)
 
 finish-requires : tie.Need-finish-requires
-finish-requires c κs = reading-listed (sym (c .before .before .before .before .is-list .ensures) ∙ c .before .before .s .given .1)
+finish-requires c κs =
+    let check = c .before .before .before .before .before .before .before .is-list in
+    let v = check .ensures .accepted (not-false (check .result .list) (c .before .before .before .before .before .if1 .left)) in
+    (v .listed, v .levels)
 
 pub mdlist-finish-spec : {M : Type 1} → statement M
-mdlist-finish-spec =
-    tie.close
-    (tie.spec (λ c κs. search needs) (λ c. search needs) (λ c. search needs) (λ c κs. search needs) (λ c. search needs) returns finish-requires
-    (λ c. search needs) (λ c. search needs))
+mdlist-finish-spec = tie.close (tie.spec (λ c κs. search needs) (λ c κs. search needs) (λ c. search needs) returns finish-requires (λ c. search needs) (λ c. search needs))

@@ -8,7 +8,8 @@ use lib.ListN.{getD, set, replicate}
 use lib.Seq.{sets}
 use Rattle.settings.specs.Numbers.{headerWords}
 use Rattle.meaning.specs.Words.{wordIndex, owedAt, lowAt, highAt, linkField}
-use Rattle.meaning.specs.Operations.{Slot, slotOwes}
+use Rattle.meaning.specs.Operations.{slotOwes}
+use Rattle.meaning.specs.declared.Slot.{Slot}
 
 -- word j of cell x becomes v
 abbrev pub store : ℕ → List ℕ → ℕ → ℕ → ℕ → List ℕ

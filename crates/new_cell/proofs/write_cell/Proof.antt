@@ -10,7 +10,7 @@ returns c =
     let a = s .args in
     let links = c .before .before .put-links .ensures in (
       rw (links .0, c .before .before .before .before .before .before .write-fields .ensures .0)
-          (cell-written (a .s .dimensions) (a .list .now) (a .n) (a .key) (a .value) (a .f) (s .pre .1 .none)),
+          (cell-written (a .s .dimensions) (a .list .now) (a .t) (a .key) (a .value) (s .pre .1 .none)),
       links .1,
     )
 

@@ -13,7 +13,7 @@ returns c =
     let second = c .before .before .before .before .before .before .before .before .before .before .before .before .store2 .ensures in
     let first =
     c .before .before .before .before .before .before .before .before .before .before .before .before .before .before .before .before .store .ensures in (
-      rw (debt .0, third .0, second .0, first .0) (owing-written (a .s .dimensions) (a .list .now) (a .n) (a .key) (a .value) (a .f)
+      rw (debt .0, third .0, second .0, first .0) (owing-written (a .s .dimensions) (a .list .now) (a .t) (a .key) (a .value)
           (c .before .before .before .before .if1 .taken)),
       debt .1,
     )
@@ -26,7 +26,7 @@ returns-2 c =
     let second = c .before .before .before .before .before .before .before .before .before .before .before .before .store2 .ensures in
     let first =
     c .before .before .before .before .before .before .before .before .before .before .before .before .before .before .before .before .store .ensures in
-    (rw (debt .0, third .0, second .0, first .0) (settled-written (a .s .dimensions) (a .list .now) (a .n) (a .key) (a .value) (a .f) (omega arith)), debt .1)
+    (rw (debt .0, third .0, second .0, first .0) (settled-written (a .s .dimensions) (a .list .now) (a .t) (a .key) (a .value) (omega arith)), debt .1)
 
 pub write-fields-spec : {M : Type 1} → statement M
 write-fields-spec =

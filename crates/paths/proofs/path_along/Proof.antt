@@ -3,7 +3,7 @@
 use native.Mathlib.Omega.{arith}
 use lib.ListN.{length}
 use borrow.Author.Needs.{needs}
-use Rattle.words.proofs.Walking.{trailAt, walking-met, left-go, left-up}
+use Rattle.steps.proofs.Walking.{trailAt, walking-met, left-go, left-up}
 use Rattle.paths.proofs.Paths.{formed-own}
 use Rattle.paths.proofs.Steps.{Building, building-start, building-go, building-up, building-end}
 use Rattle.paths.proofs.path_along.Statement.{statement}

@@ -9,7 +9,7 @@ use borrow.Author.Needs.{needs}
 use Rattle.meaning.specs.Keys.{coordinate}
 use Rattle.meaning.specs.Words.{keyAt}
 use Rattle.meaning.specs.Lower.{lowerFrom}
-use Rattle.meaning.proofs.Keys.{coordinate-below}
+use Rattle.meaning.proofs.Rows.Keys.{coordinate-below}
 use Rattle.words.proofs.Listed.{listed-shaped, listed-base, listed-owed}
 use Rattle.search.proofs.Lowering.{OnSomeWay, lower-starts, lower-number, lower-cell, lower-ends, lower-up, lower-along, lower-raised}
 use Rattle.search.proofs.lower.Statement.{statement}

@@ -4,7 +4,7 @@ use native.Mathlib.Omega.{arith}
 use lib.ListN.{length}
 use borrow.Author.Needs.{needs}
 use Rattle.words.proofs.Listed.{listed-shaped, listed-owed}
-use Rattle.words.proofs.Walking.{trailAt, walking-met, left-go, left-up}
+use Rattle.steps.proofs.Walking.{trailAt, walking-met, left-go, left-up}
 use Rattle.search.proofs.Searching.{Searching, searching-start, looked-fits, searching-go, searching-up, searching-end}
 use Rattle.search.proofs.rest_of.Statement.{statement}
 use Rattle.search.proofs.rest_of.Tie as tie

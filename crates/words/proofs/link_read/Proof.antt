@@ -4,7 +4,7 @@ use mathlib.Core.Path.{sym, ap, _∙_}
 use native.Mathlib.Omega.{arith}
 use borrow.Author.Needs.{needs}
 use Rattle.meaning.specs.Words.{linkAt}
-use Rattle.meaning.proofs.WalkRead.{read-unowing, read-below, read-above, read-through}
+use Rattle.meaning.proofs.Cells.WalkRead.{read-unowing, read-below, read-above, read-through}
 use Rattle.words.proofs.link_read.Statement.{statement}
 use Rattle.words.proofs.link_read.Tie as tie
 

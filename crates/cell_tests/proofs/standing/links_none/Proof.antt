@@ -6,8 +6,8 @@ use lib.Dec.{eqb}
 use borrow.Author.Needs.{needs}
 use borrow.Author.Tests.{eq-eqb, ne-eqb}
 use Rattle.meaning.specs.Words.{linkAt}
-use Rattle.tree.specs.Tree.{allFrom}
-use Rattle.tree.specs.Loop.{linksNone}
+use Rattle.account.specs.Tree.{allFrom}
+use Rattle.account.specs.Loop.{linksNone}
 use Rattle.cell_tests.proofs.Tests.{all-next, all-fails, all-done}
 use Rattle.cell_tests.proofs.OneCell.{links-start}
 use Rattle.cell_tests.proofs.standing.links_none.Statement.{statement}

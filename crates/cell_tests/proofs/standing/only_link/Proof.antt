@@ -10,7 +10,7 @@ use borrow.Author.Needs.{needs}
 use borrow.Author.Tests.{eq-eqb, ne-eqb}
 use Rattle.meaning.specs.Words.{linkAt}
 use Rattle.words.proofs.Shaped.{shaped-dimensions}
-use Rattle.tree.specs.Tree.{allFrom}
+use Rattle.account.specs.Tree.{allFrom}
 use Rattle.cell_tests.specs.Tests.{linkIs, onlyLink}
 use Rattle.cell_tests.proofs.Tests.{all-start, all-next, all-fails, all-done}
 use Rattle.cell_tests.proofs.standing.only_link.Statement.{statement}

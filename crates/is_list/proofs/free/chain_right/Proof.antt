@@ -4,8 +4,8 @@ use mathlib.Core.Bool.{true}
 use native.Mathlib.Omega.{arith}
 use borrow.Author.Needs.{needs}
 use Rattle.words.proofs.Shaped.{shaped-cells, field-within}
-use Rattle.tree.specs.Tree.{chainRight, freeRight}
-use Rattle.tree.proofs.AcceptedTests.{free-right}
+use Rattle.account.specs.Tree.{chainRight, freeRight}
+use Rattle.account.proofs.AcceptedTests.{free-right}
 use Rattle.cell_tests.proofs.Tests.{holds, lacks}
 use Rattle.is_list.proofs.Ends.{chain-more, chain-broken, chain-end}
 use Rattle.is_list.proofs.free.chain_right.Statement.{statement}

@@ -2,7 +2,7 @@
 use mathlib.Core.Path.{_≡_, refl, sym, _∙_}
 use Prim.Native.Nat.{_-_, _≤_}
 use borrow.Author.Needs.{needs}
-use Rattle.tree.specs.Tree.{pathRun}
+use Rattle.account.specs.Tree.{pathRun}
 use Rattle.is_list.proofs.InOrder.{run-next, run-ends, run-all}
 use Rattle.is_list.proofs.path.path_run.Statement.{statement}
 use Rattle.is_list.proofs.path.path_run.Tie as tie

@@ -5,7 +5,7 @@ use mathlib.Core.Path.{_≡_}
 use native.Mathlib.Omega.{arith}
 use borrow.Author.Needs.{needs}
 use Rattle.words.proofs.Shaped.{shaped-dimensions}
-use Rattle.tree.specs.Loop.{aloneRight}
+use Rattle.account.specs.Loop.{aloneRight}
 use Rattle.cell_tests.proofs.Tests.{holds, lacks}
 use Rattle.cell_tests.proofs.OneCell.{alone}
 use Rattle.is_list.proofs.InOrder.{enter-not, enter-past, enter-lost, enter-position, enter-other}

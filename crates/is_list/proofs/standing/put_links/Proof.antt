@@ -6,7 +6,7 @@ use native.Mathlib.Omega.{arith}
 use lib.ListN.{length-set}
 use borrow.Author.Needs.{needs}
 use Rattle.meaning.specs.Words.{linkAt}
-use Rattle.tree.specs.Pending.{putFrom}
+use Rattle.account.specs.Pending.{putFrom}
 use Rattle.is_list.specs.Standing.{pendingOf, Pending}
 use Rattle.is_list.proofs.InOrder.{put-ends, put-passes, put-goes, ranked-goes}
 use Rattle.is_list.proofs.standing.put_links.Statement.{statement}

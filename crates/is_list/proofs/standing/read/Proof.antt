@@ -3,7 +3,7 @@
 use mathlib.Core.Path.{refl}
 use borrow.Author.Needs.{needs}
 use borrow.Author.Tests.{not-true, not-false}
-use Rattle.tree.proofs.Loop.{hung-least}
+use Rattle.account.proofs.Loop.{hung-least}
 use Rattle.is_list.specs.declared.standing.Way.{Way}
 use Rattle.is_list.proofs.InOrder.{Reading, reading-starts, reading-wrong, reading-ends, reading-refused, reading-goes}
 use Rattle.is_list.proofs.standing.read.Statement.{statement}

@@ -1,0 +1,2 @@
+-- What every call answers: four numbers, and the table of refusals.
+pub mod Refusals

@@ -1,2 +1,0 @@
--- The calls of a batch on a list.
-pub mod Batching

@@ -1,0 +1,155 @@
+-- Calls on lists, and what they do to the live pairs and the standing keys: a list is the picture of the state that it holds, so what a
+-- call does to a state in order (BookCalls.antt) it does to a list. Takes hand out the first live pair each time, as long as there is
+-- one; and a key is live on the words exactly if the node with that key is.
+use mathlib.Core.Path.{_≡_, refl, sym, _∙_, ap, ap₂}
+use mathlib.Core.Bool.{Bool, true, false}
+use mathlib.Core.List.{List, [], _∷_, cons≢nil}
+use mathlib.Core.Logic.{_↔_}
+use Prim.Native.Nat.{ℕ, zero, suc}
+use native.Mathlib.Decide.{ℕ-discrete}
+use native.Mathlib.Omega.{arith}
+use lib.Dec.{eqb}
+use lib.ListN.{length, take}
+use Rattle.settings.specs.Numbers.{inRange, lengthOf}
+use Rattle.meaning.specs.Row.{Node}
+use Rattle.meaning.specs.State.{State, positionKey}
+use Rattle.meaning.specs.Picture.{picture}
+use Rattle.meaning.specs.Reading.{read, settingsAt, isList}
+use Rattle.answers.specs.Refusals.{Outcome, accepted, nothingLive, refused}
+use Rattle.meaning.specs.Operations.{fresh, setUpOut, fromLive, keysAbove, keysPassed, taken, takeOut}
+use Rattle.calls.specs.Calls.{Made, madeOn, afterCalls}
+use Rattle.files.specs.Files.{Pair}
+use Rattle.calls.specs.Pairs.{pair, livePairs}
+use Rattle.calls.specs.Effects.{effect, keepsSettings}
+use Rattle.calls.specs.Book.{bookOf, bookedAll}
+use Rattle.calls.specs.Promises.{ListsStayLists, CallsKeepLists, CallsKeepSettings, takes, TakesInTurn, TakesEnd, CallsAreBooked}
+use Rattle.meaning.proofs.Pictures.State.{Sound}
+use Rattle.meaning.proofs.Pictures.Picture.{picture-largest, picture-cells}
+use Rattle.meaning.proofs.Pictures.ReadBack.{read-of-picture, picture-is-list}
+use Rattle.meaning.proofs.Kept.KeepsSetUp.{fresh-sound}
+use Rattle.meaning.proofs.Kept.KeepsTake.{taken-sound}
+use Rattle.meaning.proofs.Outcomes.{on-lists, set-up-outcome-out-of-range, set-up-outcome-wrong-length, set-up-outcome, take-outcome-none, take-outcome-first}
+use Rattle.calls.proofs.Booked.BookRow.{pairsIn, keysIn, pairs-empty, pairs-first}
+use Rattle.calls.proofs.Booked.BookCalls.{bookIn, call-booked, taken-pairs}
+
+-- Lists stay lists
+
+picture-settings : (s : State) → Sound s → settingsAt (picture s) ≡ s .settings
+unfolding read
+picture-settings s v = ap (λ (t : State). t .settings) (read-of-picture s v)
+
+pub calls-keep-lists : CallsKeepLists
+calls-keep-lists made =
+    on-lists (λ ws. isList (madeOn made ws .left .words) ≡ true) (λ s v.
+    let r = call-booked made s v in
+    ap isList (r .left) ∙ picture-is-list (r .after) (r .sound))
+
+pub calls-keep-settings : CallsKeepSettings
+calls-keep-settings made ws list =
+    on-lists (λ us. keepsSettings (effect made (length us)) ≡ true → settingsAt (madeOn made us .left .words) ≡ settingsAt us) (λ s v keeps.
+    let r = call-booked made s v in
+    ap settingsAt (r .left) ∙ (picture-settings (r .after) (r .sound) ∙ (r .settings keeps ∙ sym (picture-settings s v))))
+    ws list
+
+calls-after-keep : (calls : List Made) (ws : List ℕ) → isList ws ≡ true → isList (afterCalls calls ws) ≡ true
+unfolding afterCalls
+calls-after-keep [] ws e = e
+calls-after-keep (made ∷ calls) ws e = calls-after-keep calls (madeOn made ws .left .words) (calls-keep-lists made ws e)
+
+-- The live pairs and the standing keys
+
+pub live-pairs : (s : State) → Sound s → livePairs (picture s) ≡ pairsIn (s .row)
+live-pairs s v = ap (λ t. pairsIn (t .row)) (read-of-picture s v)
+
+pub book-of-picture : (s : State) → Sound s → bookOf (picture s) ≡ bookIn s
+book-of-picture s v =
+    λ i. record {
+      largest = picture-largest s i;
+      cells = picture-cells s i;
+      pairs = pairsIn (read-of-picture s v i .row);
+      standing = keysIn (read-of-picture s v i .row);
+    }
+
+calls-booked : (calls : List Made) (s : State) → Sound s → bookOf (afterCalls calls (picture s)) ≡ bookedAll calls (length (picture s)) (bookIn s)
+unfolding afterCalls bookedAll
+calls-booked [] s v = book-of-picture s v
+calls-booked (made ∷ calls) s v =
+    let r = call-booked made s v in
+    ap (λ ws. bookOf (afterCalls calls ws)) (r .left)
+    ∙ calls-booked calls (r .after) (r .sound)
+    ∙ ap₂ (bookedAll calls) (r .long) (r .book)
+
+pub calls-are-booked : CallsAreBooked
+calls-are-booked calls =
+    on-lists (λ ws. bookOf (afterCalls calls ws) ≡ bookedAll calls (length ws) (bookOf ws)) (λ s v.
+    calls-booked calls s v ∙ ap (bookedAll calls (length (picture s))) (sym (book-of-picture s v)))
+
+-- Takes
+
+-- what a take's outcome makes of the takes from there on
+takes-by : (n : ℕ) (ws : List ℕ) (o : Outcome (List ℕ)) → takeOut ws ≡ o →
+    takes (suc n) ws ≡ elim (eqb (o .answered .refusal) 0) [
+      | true ↦ record { key = o .answered .key; value = o .answered .value } ∷ takes n (o .left)
+      | false ↦ []
+    ]
+unfolding takes
+takes-by n ws o e =
+    ap {B = List Pair} (λ p. elim (eqb (p .answered .refusal) 0) [
+      | true ↦ record { key = p .answered .key; value = p .answered .value } ∷ takes n
+          (p .left)
+      | false ↦ []
+    ]) e
+
+pub takes-none : (n : ℕ) (s : State) → Sound s → fromLive (s .row) ≡ [] → takes (suc n) (picture s) ≡ []
+takes-none n s v e = takes-by n (picture s) (refused (nothingLive (keysAbove (positionKey s) (s .row))) (picture s)) (take-outcome-none s v e)
+
+pub takes-first : (n : ℕ) (s : State) → Sound s → (x : Node) (later : List Node) → fromLive (s .row) ≡ x ∷ later →
+    takes (suc n) (picture s) ≡ pair x ∷ takes n (picture (taken s x))
+takes-first n s v x later e =
+    takes-by n (picture s) (accepted (x .key) (x .value) (keysPassed (positionKey s) (x .key) (s .row)) (picture (taken s x)))
+    (take-outcome-first s v x later e)
+
+takes-pairs : (n : ℕ) (s : State) → Sound s → takes n (picture s) ≡ take n (pairsIn (s .row))
+unfolding takes
+takes-pairs zero s v = refl
+takes-pairs (suc n) s v = at (fromLive (s .row)) refl (λ t w. takes-pairs n t w)
+  where
+    at : (rest : List Node) → fromLive (s .row) ≡ rest → ((t : State) → Sound t → takes n (picture t) ≡ take n (pairsIn (t .row))) →
+        takes (suc n) (picture s) ≡ take (suc n) (pairsIn (s .row))
+    at [] e more = takes-none n s v e ∙ sym (ap (take (suc n)) (pairs-empty (s .row) e))
+    at (x ∷ later) e more =
+        takes-first n s v x later e
+        ∙ ap {B = List Pair} (λ r. pair x ∷ r) (more (taken s x) (taken-sound s x later v e) ∙ ap (take n) (taken-pairs s v x later e))
+        ∙ sym (ap (take (suc n)) (pairs-first (s .row) x later e))
+
+pub takes-in-turn : TakesInTurn
+takes-in-turn =
+    on-lists (λ ws. (n : ℕ) → takes n ws ≡ take n (livePairs ws)) (λ s v n. takes-pairs n s v ∙ sym (ap (take n) (live-pairs s v)))
+
+pub takes-end : TakesEnd
+takes-end = on-lists (λ ws. (takeOut ws .answered .refusal ≡ 7) ↔ (livePairs ws ≡ [])) (λ s v. at s v (fromLive (s .row)) refl)
+  where
+    at : (s : State) → Sound s → (rest : List Node) → fromLive (s .row) ≡ rest → (takeOut (picture s) .answered .refusal ≡ 7) ↔ (livePairs (picture s) ≡ [])
+    at s v [] e = (
+      (λ q. live-pairs s v ∙ pairs-empty (s .row) e),
+      (λ q. ap (λ o. o .answered .refusal) (take-outcome-none s v e)),
+    )
+    at s v (x ∷ later) e = (
+      (λ q. absurd (let r = ap (λ o. o .answered .refusal) (take-outcome-first s v x later e) in omega arith)),
+      (λ q. absurd (cons≢nil (sym (pairs-first (s .row) x later e) ∙ sym (live-pairs s v) ∙ q))),
+    )
+
+-- From a fresh list on
+
+set-up-list : (D K C : ℕ) (ws : List ℕ) → setUpOut D K C ws .answered .refusal ≡ 0 → isList (setUpOut D K C ws .left) ≡ true
+set-up-list D K C ws accepted = at (inRange D K C) refl (ℕ-discrete (length ws) (lengthOf D C))
+  where
+    at : (t : Bool) → inRange D K C ≡ t → Dec (length ws ≡ lengthOf D C) → isList (setUpOut D K C ws .left) ≡ true
+    at false e l = absurd (let r = ap (λ o. o .answered .refusal) (set-up-outcome-out-of-range D K C ws e) in omega arith)
+    at true e (no l) = absurd (let r = ap (λ o. o .answered .refusal) (set-up-outcome-wrong-length D K C ws e l) in omega arith)
+    at true e (yes l) = ap (λ o. isList (o .left)) (set-up-outcome D K C ws e l) ∙ picture-is-list (fresh D K C) (fresh-sound D K C e)
+
+pub lists-stay-lists : ListsStayLists
+lists-stay-lists ws f =
+    ap isList (f .left) ∙ calls-after-keep (f .calls) (setUpOut (f .D) (f .K) (f .C) (f .lent) .left)
+    (set-up-list (f .D) (f .K) (f .C) (f .lent) (f .accepted))

@@ -1,0 +1,2 @@
+-- The layer between the meaning of calls and the code.
+pub mod ReadState

@@ -1,0 +1,2 @@
+-- That the full number is what is promised.
+pub mod Promises

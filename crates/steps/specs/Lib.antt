@@ -1,0 +1,2 @@
+-- What the walk's step asks.
+pub mod Blocks

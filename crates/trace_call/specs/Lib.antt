@@ -1,0 +1,2 @@
+-- The call that a line of a trace makes.
+pub mod Calling
