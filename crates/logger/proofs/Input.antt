@@ -1,19 +1,15 @@
--- What the functions of the program logger rest on: what is taken byte by byte, or in parts, is taken as a whole; and what a feed tells of is in
--- range.
-use mathlib.Core.Path.{_≡_, refl, sym, _∙_, ap, subst}
+-- What the functions of the program logger rest on: what a feed tells of is in range, the list stays one, and what a take leaves.
+use mathlib.Core.Path.{_≡_, sym, _∙_, ap, subst}
 use mathlib.Core.Bool.{Bool, true, false, cond, true≢false}
-use mathlib.Core.List.{List, [], _∷_, _++_, append-nil}
-use Prim.Native.Nat.{ℕ, _+_, _<_}
-use native.Mathlib.Numerals.{add-one}
-use lib.ListN.{length, getD, take}
-use lib.Seq.{take-suc}
+use mathlib.Core.List.{List, [], _∷_, _++_}
+use Prim.Native.Nat.{ℕ}
 use borrow.Author.Tests.{eq-eqb}
 use Rattle.lists.proofs.All.{All}
-use Rattle.text.specs.Parts.{begunOver, handedOver}
-use Rattle.text.proofs.Parts.{begun-append, handed-append}
+use Rattle.text.specs.Parts.{Known, BytesFed, EndFed}
+use Rattle.text.proofs.Parts.{kept-by-bytes, kept-by-end}
 use Rattle.notes.specs.Notes.{noteBy, Within}
 use Rattle.notes.specs.Export.{closes}
-use Rattle.notes.specs.Feeding.{begunAfter, handedBy, handedAtEnd, begunAfterPart, handedByPart, feedOf, toldIn, ToldWithin, Stepped, FeedEnded}
+use Rattle.notes.specs.Feeding.{handedBy, handedAtEnd, recordHanding, Holds, toldIn, ToldWithin, Stepped, FeedEnded}
 use Rattle.notes.specs.declared.Logged.{Logged}
 use Rattle.notes.specs.declared.feed.Feed.{Feed}
 use Rattle.notes.specs.declared.feed.Fed.{Fed}
@@ -29,8 +25,8 @@ use Rattle.settings.specs.declared.Settings.{Settings}
 use Rattle.meaning.specs.Layer.Listed.{Listed}
 use Rattle.calls.proofs.Listed.{operation-listed, note-listed}
 use Rattle.calls.proofs.Promises.{refused-alters-nothing}
-use Rattle.logger_step.specs.Printed.{afterNotes}
-use Rattle.logger.specs.Input.{kept, Known, BytesTaken, EndTaken, NothingToTake, Took}
+use Rattle.report.specs.Answered.{leaving}
+use Rattle.logger.specs.Input.{kept, NothingToTake, Took}
 use Rattle.logger.specs.declared.Turn.{Turn}
 use Rattle.logger.specs.declared.Turn.the-variants.{More, NoMore, NotWritten}
 
@@ -53,85 +49,27 @@ unfolding handedAtEnd
 end-within [] = tt
 end-within (b ∷ begun) = (notes-within (b ∷ begun), tt)
 
-pub byte-told-within : {feed : Feed} {byte : ℕ} {r : Fed} → Known feed → Stepped feed byte r → ToldWithin (r .told)
+pub byte-told-within : {feed : Feed} {byte : ℕ} {r : Fed} → Known (Holds feed) → Stepped feed byte r → ToldWithin (r .told)
 byte-told-within {byte = byte} {r = r} known step =
     all-told (r .told) (subst (All Within) (sym (step .told (known .begun) (known .is))) (handed-within (known .begun) byte))
 
-pub end-told-within : {feed : Feed} {r : Told} → Known feed → FeedEnded feed r → ToldWithin r
+pub end-told-within : {feed : Feed} {r : Told} → Known (Holds feed) → FeedEnded feed r → ToldWithin r
 end-told-within {r = r} known ended =
     all-told r (subst (All Within) (sym (ended .told (known .begun) (known .is))) (end-within (known .begun)))
 
--- The end of the export: what the feed tells of is what the end hands on.
-pub end-taken :
-    {feed : Feed} {ended : Told} {before after : Lent} → FeedEnded feed ended → after ≡ afterNotes (toldIn ended) before → EndTaken feed before after
-end-taken {before = before} finished e =
-    record { entered = λ begun is. e ∙ ap (λ (notes : List Logged). afterNotes notes before) (finished .told begun is) }
+-- The list stays one.
 
--- One byte: what the feed tells of is what the byte hands on.
-pub byte-taken :
-    {feed : Feed} {byte : ℕ} {r : Fed} {before after : Lent} → Stepped feed byte r → after ≡ afterNotes (toldIn (r .told)) before →
-    BytesTaken (byte ∷ []) feed before (r .feed) after
-unfolding begunOver handedOver
-byte-taken {byte = byte} {before = before} step e =
-    record {
-      begun = step .begun;
-      entered = λ begun is. e ∙ ap (λ (notes : List Logged). afterNotes notes before) (step .told begun is ∙ sym (append-nil (handedBy begun byte)));
-    }
+each-listed : {s : Settings} (lent : Lent) (logged : Logged) → Listed (lent .words) s → Listed (noteOut logged lent .left .words) s
+each-listed lent logged listed = note-listed logged (lent .bytes) (lent .last) listed
 
-notes-append : (notes more : List Logged) (lent : Lent) → afterNotes (notes ++ more) lent ≡ afterNotes more (afterNotes notes lent)
-unfolding afterNotes
-notes-append [] more lent = refl
-notes-append (logged ∷ notes) more lent = notes-append notes more (noteOut logged lent .left)
+module _ {P : List ℕ → Type 0} {words after : List ℕ} {last now-last : ℕ} {s : Settings} (had : Listed words s × Known P) where
+  pub still-listed :
+      {bytes : List ℕ} {Q : List ℕ → Type 0} → BytesFed recordHanding (leaving noteOut) bytes P (kept words last) Q (kept after now-last) →
+      Listed after s × Known Q
+  still-listed fed = kept-by-bytes recordHanding (leaving noteOut) {I = λ lent. Listed (lent .words) s} each-listed had fed
 
--- Some bytes, and then more.
-
-pub none-taken : {feed : Feed} {lent : Lent} → BytesTaken [] feed lent feed lent
-unfolding begunOver handedOver afterNotes
-none-taken = record { begun = λ begun is. is; entered = λ begun is. refl }
-
-module _ {feed middle next : Feed} {before between after : Lent} where
-  both-taken :
-      (bytes more : List ℕ) → BytesTaken bytes feed before middle between → BytesTaken more middle between next after →
-      BytesTaken (bytes ++ more) feed before next after
-  both-taken bytes more a b =
-      record {
-        begun = λ begun is.
-            b .begun (begunAfterPart begun bytes) (a .begun begun is) ∙ ap feedOf (sym (begun-append begunAfter handedBy begun bytes more));
-        entered = λ begun is.
-            b .entered (begunAfterPart begun bytes) (a .begun begun is) ∙
-            (ap (afterNotes (handedByPart (begunAfterPart begun bytes) more)) (a .entered begun is) ∙
-            (sym (notes-append (handedByPart begun bytes) (handedByPart (begunAfterPart begun bytes) more) before) ∙
-            ap (λ (notes : List Logged). afterNotes notes before) (sym (handed-append begunAfter handedBy begun bytes more))));
-      }
-
-  pub one-more-taken :
-      (part : List ℕ) (i : ℕ) → i < length part → BytesTaken (take i part) feed before middle between →
-      BytesTaken (getD part i 0 ∷ []) middle between next after → BytesTaken (take (i + 1) part) feed before next after
-  one-more-taken part i h a b = rw (add-one i, take-suc part i 0 h) (both-taken (take i part) (getD part i 0 ∷ []) a b)
-
--- a feed that goes on knows the record begun
-pub still-known : {bytes : List ℕ} {feed next : Feed} {before after : Lent} → Known feed → BytesTaken bytes feed before next after → Known next
-still-known {bytes} known taken = record { begun = begunAfterPart (known .begun) bytes; is = taken .begun (known .begun) (known .is) }
-
--- the list stays one
-notes-listed : (lent : Lent) {s : Settings} (notes : List Logged) → Listed (lent .words) s → Listed (afterNotes notes lent .words) s
-unfolding afterNotes
-notes-listed lent [] listed = listed
-notes-listed lent (logged ∷ notes) listed = notes-listed (noteOut logged lent .left) notes (note-listed logged (lent .bytes) (lent .last) listed)
-
-pub still-listed :
-    {bytes words after : List ℕ} {feed next : Feed} {last now-last : ℕ} {s : Settings} → Known feed → Listed words s →
-    BytesTaken bytes feed (kept words last) next (kept after now-last) → Listed after s
-still-listed {bytes} {words} {last = last} {s = s} known listed taken =
-    subst (λ (l : Lent). Listed (l .words) s) (sym (taken .entered (known .begun) (known .is)))
-    (notes-listed (kept words last) (handedByPart (known .begun) bytes) listed)
-
-pub end-listed :
-    {words after : List ℕ} {feed : Feed} {last now-last : ℕ} {s : Settings} → Known feed → Listed words s →
-    EndTaken feed (kept words last) (kept after now-last) → Listed after s
-end-listed {words} {last = last} {s = s} known listed taken =
-    subst (λ (l : Lent). Listed (l .words) s) (sym (taken .entered (known .begun) (known .is)))
-    (notes-listed (kept words last) (handedAtEnd (known .begun)) listed)
+  pub end-listed : EndFed recordHanding (leaving noteOut) P (kept words last) (kept after now-last) → Listed after s
+  end-listed fed = kept-by-end recordHanding (leaving noteOut) {I = λ lent. Listed (lent .words) s} each-listed had fed
 
 pub take-listed : {before after : List ℕ} {r : Turn} {s : Settings} → Listed before s → Took before after r → Listed after s
 unfolding outcome

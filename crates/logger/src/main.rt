@@ -12,11 +12,13 @@
 // The file stdout has the answers of the separate ordered set: compare/ordered_set/target/release/ordered_set logger < stdin > stdout
 ghost use mathlib.Core.Path.{_≡_};
 ghost use mathlib.Core.List.{[], _∷_};
-ghost use Rattle.notes.specs.Feeding.{toldIn, ToldWithin};
+ghost use Rattle.text.specs.Parts.{afterAll, Known, BytesFed, PartFed, EndFed};
+ghost use Rattle.notes.specs.Feeding.{recordHanding, Holds, toldIn, ToldWithin};
 ghost use Rattle.meaning.specs.Layer.Listed.{Listed};
 ghost use Rattle.entry_list.specs.EntryList.{freshWords};
-ghost use Rattle.logger_step.specs.Printed.{afterNotes};
-ghost use Rattle.logger.specs.Input.{kept, Known, TextOf, TextOfTake, BytesTaken, PartTaken, EndTaken, Took, Drained};
+ghost use Rattle.calls.specs.Records.{noteOut};
+ghost use Rattle.report.specs.Answered.{leaving, TextOf};
+ghost use Rattle.logger.specs.Input.{kept, TextOfTake, Took, Drained};
 use notes::feed::Feed;
 use notes::feed::Told;
 use settings::Settings;
@@ -44,7 +46,7 @@ pub enum Turn {
 // Writes what is printed for the record that ended, by one write, and nothing if none did; whether it was written whole. It takes the record
 // and what it left so that its contract can say whose text it is.
 fn write(text: &[u8], ended: Told, words: &[u32], last: u64) -> bool
-    requires { ⌜ TextOf (now text) (toldIn ended) (kept (now words) last) ⌝ }
+    requires { ⌜ TextOf noteOut (now text) (toldIn ended) (kept (now words) last) ⌝ }
 {
     io::write_all(1, text)
 }
@@ -57,9 +59,9 @@ fn write_take(text: &[u8], words: &[u32]) -> bool
 }
 
 // Enters the record that ended, if one did; whether the answer was written.
-fn take_record(words: &mut [u32], settings: Settings, last: &mut u64, ended: Told) -> bool
+fn enter_record(words: &mut [u32], settings: Settings, last: &mut u64, ended: Told) -> bool
     requires { ⌜ Listed (now words) settings × ToldWithin ended ⌝ }
-    ensures { λ r. ⌜ kept (now (words .exit)) (now (last .exit)) ≡ afterNotes (toldIn ended) (kept (now (words .entry)) (now (last .entry))) ⌝ }
+    ensures { λ r. ⌜ kept (now (words .exit)) (now (last .exit)) ≡ afterAll (leaving noteOut) (kept (now (words .entry)) (now (last .entry))) (toldIn ended) ⌝ }
 {
     let mut out = [0u8; report::ANSWER_BYTES];
     let n = logger_step::note_text(words, settings, last, ended, &mut out);
@@ -68,14 +70,14 @@ fn take_record(words: &mut [u32], settings: Settings, last: &mut u64, ended: Tol
 }
 
 // One byte of the export: the feed goes on, or the record that it ends is entered.
-fn take_byte(words: &mut [u32], settings: Settings, last: &mut u64, feed: Feed, byte: u8) -> State
-    requires { ⌜ Listed (now words) settings × Known feed ⌝ }
-    ensures { λ r. ⌜ BytesTaken (byte ∷ []) feed (kept (now (words .entry)) (now (last .entry))) (r .feed) (kept (now (words .exit)) (now (last .exit))) ⌝ }
+fn feed_byte(words: &mut [u32], settings: Settings, last: &mut u64, feed: Feed, byte: u8) -> State
+    requires { ⌜ Listed (now words) settings × Known (Holds feed) ⌝ }
+    ensures { λ r. ⌜ BytesFed recordHanding (leaving noteOut) (byte ∷ []) (Holds feed) (kept (now (words .entry)) (now (last .entry))) (Holds (r .feed)) (kept (now (words .exit)) (now (last .exit))) ⌝ }
 {
     let fed = notes::feed::feed_byte(feed, byte);
     let next = fed.feed;
     let ended = fed.told;
-    let written = take_record(words, settings, last, ended);
+    let written = enter_record(words, settings, last, ended);
     State {
         feed: next,
         written,
@@ -83,15 +85,15 @@ fn take_byte(words: &mut [u32], settings: Settings, last: &mut u64, feed: Feed, 
 }
 
 // A part of the export, to its end or to an answer that is not written.
-fn take_part(
+fn feed_part(
     words: &mut [u32],
     settings: Settings,
     last: &mut u64,
     feed: Feed,
     part: &[u8],
 ) -> State
-    requires { ⌜ Listed (now words) settings × Known feed ⌝ }
-    ensures { λ r. ⌜ PartTaken (now (part .entry)) feed (kept (now (words .entry)) (now (last .entry))) r (kept (now (words .exit)) (now (last .exit))) ⌝ }
+    requires { ⌜ Listed (now words) settings × Known (Holds feed) ⌝ }
+    ensures { λ r. ⌜ PartFed recordHanding (leaving noteOut) (now (part .entry)) (Holds feed) (kept (now (words .entry)) (now (last .entry))) (r .written) (Holds (r .feed)) (kept (now (words .exit)) (now (last .exit))) ⌝ }
 {
     let mut s = State {
         feed,
@@ -100,7 +102,7 @@ fn take_part(
     let mut i = 0;
     while i < part.len() {
         let feed = s.feed;
-        s = take_byte(words, settings, last, feed, part[i]);
+        s = feed_byte(words, settings, last, feed, part[i]);
         if !s.written {
             return s;
         }
@@ -110,12 +112,12 @@ fn take_part(
 }
 
 // The end of the export: a record begun counts.
-fn take_last(words: &mut [u32], settings: Settings, last: &mut u64, feed: Feed) -> End
-    requires { ⌜ Listed (now words) settings × Known feed ⌝ }
-    ensures { λ r. ⌜ EndTaken feed (kept (now (words .entry)) (now (last .entry))) (kept (now (words .exit)) (now (last .exit))) ⌝ }
+fn feed_end(words: &mut [u32], settings: Settings, last: &mut u64, feed: Feed) -> End
+    requires { ⌜ Listed (now words) settings × Known (Holds feed) ⌝ }
+    ensures { λ r. ⌜ EndFed recordHanding (leaving noteOut) (Holds feed) (kept (now (words .entry)) (now (last .entry))) (kept (now (words .exit)) (now (last .exit))) ⌝ }
 {
     let ended = notes::feed::finish(feed);
-    if take_record(words, settings, last, ended) {
+    if enter_record(words, settings, last, ended) {
         return End::AllAnswered;
     }
     End::NotWritten
@@ -123,7 +125,7 @@ fn take_last(words: &mut [u32], settings: Settings, last: &mut u64, feed: Feed) 
 
 // The export, in parts, to its end, on a fresh list. Nothing says that an input ends, so the turns are counted down from a number that no
 // run uses up.
-fn take_all(words: &mut [u32], settings: Settings, last: &mut u64) -> End
+fn read_all(words: &mut [u32], settings: Settings, last: &mut u64) -> End
     requires { ⌜ (now words ≡ freshWords) × Listed (now words) settings ⌝ }
     ensures { λ r. ⌜ Listed (now (words .exit)) settings ⌝ }
 {
@@ -136,10 +138,10 @@ fn take_all(words: &mut [u32], settings: Settings, last: &mut u64) -> End
             return End::NotRead;
         }
         if got == 0 {
-            return take_last(words, settings, last, feed);
+            return feed_end(words, settings, last, feed);
         }
         let n = io::count(got, &part);
-        let s = take_part(words, settings, last, feed, &part[..n]);
+        let s = feed_part(words, settings, last, feed, &part[..n]);
         if !s.written {
             return End::NotWritten;
         }
@@ -189,7 +191,7 @@ fn run(words: &mut [u32], settings: Settings, last: &mut u64) -> End
     requires { ⌜ (now words ≡ freshWords) × Listed (now words) settings ⌝ }
     ensures { λ r. ⌜ Drained (now (words .exit)) r ⌝ }
 {
-    let end = take_all(words, settings, last);
+    let end = read_all(words, settings, last);
     match end {
         End::AllAnswered => {
             if io::write_all(1, b"\n") {

@@ -1,8 +1,7 @@
 -- What is told of is entered: no record, or one; the answer put is the bytes that are printed. And so for a take.
-use mathlib.Core.Path.{_≡_, refl, sym, _∙_, ap}
-use mathlib.Core.List.{List, [], append-nil}
+use mathlib.Core.Path.{_≡_, _∙_, ap}
+use mathlib.Core.List.{List, []}
 use Prim.Native.Nat.{ℕ, _≤_}
-use native.Mathlib.Omega.{arith}
 use lib.Dec.{eqb}
 use lib.ListN.{length}
 use Rattle.text.specs.Lines.{lineFeed}
@@ -18,31 +17,21 @@ use Rattle.answers.specs.declared.Answer.{Answer}
 use Rattle.insert_record.specs.Noted.{Noted}
 use Rattle.report.specs.Report.{answerText, Put}
 use Rattle.report.proofs.Puts.{put-start}
-use Rattle.logger_step.specs.Printed.{afterNotes, notesText, NotesAnswered, TakeAnswered}
+use Rattle.report.specs.Answered.{Answered}
+use Rattle.report.proofs.Answered.{none-answered, one-answered}
+use Rattle.logger_step.specs.Printed.{TakeAnswered}
 
 pub told-within : {told : Told} {logged : Logged} → told ≡ Record logged → ToldWithin told → Within logged
 told-within is within = rw is at within
 
-pub no-record-answered : (lent : Lent) (out : List ℕ) {told : Told} → told ≡ NoRecord → NotesAnswered (toldIn told) lent lent out 0
-unfolding afterNotes notesText
-no-record-answered lent out e = rw e (record { left = refl; text = refl; within = omega arith })
+pub no-record-answered : (lent : Lent) (out : List ℕ) {told : Told} → told ≡ NoRecord → Answered noteOut (toldIn told) lent lent out 0
+no-record-answered lent out e = rw e (none-answered noteOut lent out)
 
 module _ {room out : List ℕ} {r : ℕ} {a : Answer} (put : Put room 0 (answerText a lineFeed) out r) (fits : r ≤ length room) where
   pub record-answered :
       {ws after : List ℕ} {last now-last : ℕ} {told : Told} {logged : Logged} → told ≡ Record logged → Noted logged ws last a after now-last →
-      NotesAnswered (toldIn told) (lentOf ws [] last) (lentOf after [] now-last) out r
-  unfolding afterNotes notesText
-  record-answered {ws} {last = last} {logged = logged} e noted =
-      let bytes = put-start put fits in
-      let met = noted .meets [] in
-      rw e
-      (record {
-        left = met .left;
-        text =
-            bytes .0 ∙ (ap (λ (b : Answer). answerText b lineFeed) (met .answered) ∙
-            sym (append-nil (answerText (noteOut logged (lentOf ws [] last) .answered) lineFeed)));
-        within = bytes .1;
-      })
+      Answered noteOut (toldIn told) (lentOf ws [] last) (lentOf after [] now-last) out r
+  record-answered {ws} {last = last} {logged = logged} e noted = rw e (one-answered noteOut logged (lentOf ws [] last) put fits (noted .meets []))
 
   pub take-answered :
       {ws after : List ℕ} → Meets (takeOut ws) a after → TakeAnswered ws after out (record { bytes = r; more = eqb (a .refusal) 0 })

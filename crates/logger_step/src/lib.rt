@@ -5,10 +5,11 @@ ghost use lib.ListN.{length};
 ghost use Rattle.notes.specs.Notes.{Within};
 ghost use Rattle.notes.specs.Feeding.{toldIn, ToldWithin};
 ghost use Rattle.insert_record.specs.Noted.{Noted};
-ghost use Rattle.calls.specs.Records.{lentOf};
+ghost use Rattle.calls.specs.Records.{lentOf, noteOut};
 ghost use Rattle.meaning.specs.Layer.Listed.{Listed};
 ghost use Rattle.report.specs.Report.{answerBytes};
-ghost use Rattle.logger_step.specs.Printed.{NotesAnswered, TakeAnswered};
+ghost use Rattle.report.specs.Answered.{Answered};
+ghost use Rattle.logger_step.specs.Printed.{TakeAnswered};
 use answers::Answer;
 use notes::Logged;
 use notes::feed::Told;
@@ -32,7 +33,7 @@ fn note(list: &mut [u32], s: Settings, last: &mut u64, logged: Logged) -> Answer
 // Enters the record that is told of, if one is: puts the bytes that are printed for it into `out`, from the first on; how many they are.
 pub fn note_text(list: &mut [u32], s: Settings, last: &mut u64, told: Told, out: &mut [u8]) -> usize
     requires { ⌜ Listed (now list) s × (ToldWithin told × (answerBytes ≤ length (now out))) ⌝ }
-    ensures { λ r. ⌜ NotesAnswered (toldIn told) (lentOf (now (list .entry)) [] (now (last .entry))) (lentOf (now (list .exit)) [] (now (last .exit))) (now (out .exit)) r ⌝ }
+    ensures { λ r. ⌜ Answered noteOut (toldIn told) (lentOf (now (list .entry)) [] (now (last .entry))) (lentOf (now (list .exit)) [] (now (last .exit))) (now (out .exit)) r ⌝ }
 {
     match told {
         Told::NoRecord => return 0,

@@ -6,13 +6,13 @@ use mathlib.Core.List.{List, [], _∷_, _++_, map, flatten, append-assoc}
 use Prim.Native.Nat.{ℕ}
 use lib.Dec.{eqb}
 use Rattle.text.specs.Lines.{lineFeed}
-use Rattle.text.specs.Parts.{begunOver, handedOver}
-use Rattle.text.proofs.Parts.{begun-append, parts-join}
+use Rattle.text.specs.Parts.{afterAll, givenByAll, begunAfterPart, handedByPart, handedByWhole}
+use Rattle.text.proofs.Parts.{after-append, parts-join}
 use Rattle.records.specs.Grammar.{quote, carriageReturn}
 use Rattle.notes.specs.Notes.{noteBy}
 use Rattle.notes.specs.Reader.{readerFrom, readerOn, readerAfter, noteAt}
 use Rattle.notes.specs.Export.{evenQuotes, endsInReturn, closes, recordsAfter, recordsOf, notesOf}
-use Rattle.notes.specs.Feeding.{begunAfter, handedBy, handedAtEnd, begunAfterPart, handedByPart, isBegun, feedOf, Stepped, FeedEnded, toldIn}
+use Rattle.notes.specs.Feeding.{begunAfter, handedBy, handedAtEnd, recordHanding, isBegun, feedOf, Holds, Stepped, FeedEnded, toldIn}
 use Rattle.notes.specs.Promises.{ExportInParts}
 use Rattle.notes.specs.declared.Logged.{Logged}
 use Rattle.notes.specs.declared.Reader.{Reader}
@@ -37,8 +37,8 @@ unfolding recordsAfter
 records-more [] byte export = refl
 records-more (b ∷ begun) byte export = refl
 
-hands-after : (begun export : List ℕ) → handedByPart begun export ++ handedAtEnd (begunAfterPart begun export) ≡ map noteBy (recordsAfter begun export)
-unfolding handedOver begunOver handedBy begunAfter
+hands-after : (begun export : List ℕ) → handedByWhole recordHanding begun export ≡ map noteBy (recordsAfter begun export)
+unfolding givenByAll afterAll handedBy begunAfter
 hands-after begun [] = end-hands begun
 hands-after begun (byte ∷ export) = rw (records-more begun byte export) (at (closes begun byte) (λ b. hands-after b export))
   where
@@ -47,20 +47,21 @@ hands-after begun (byte ∷ export) = rw (records-more begun byte export) (at (c
 
     at :
         (t : Bool) →
-        ((b : List ℕ) → handedByPart b export ++ handedAtEnd (begunAfterPart b export) ≡ map noteBy (recordsAfter b export)) →
-        (cond t (noteBy more ∷ []) [] ++ handedByPart (cond t [] more) export) ++ handedAtEnd (begunAfterPart (cond t [] more) export) ≡
+        ((b : List ℕ) → handedByWhole recordHanding b export ≡ map noteBy (recordsAfter b export)) →
+        (cond t (noteBy more ∷ []) [] ++ handedByPart recordHanding (cond t [] more) export) ++
+        handedAtEnd (begunAfterPart recordHanding (cond t [] more) export) ≡
         map noteBy (cond t (more ∷ recordsAfter [] export) (recordsAfter more export))
     at true again = ap (λ (notes : List Logged). noteBy more ∷ notes) (again [])
     at false again = again more
 
 -- The bytes of an export and then its end hand on what its records note.
-pub export-hands : (export : List ℕ) → handedByPart [] export ++ handedAtEnd (begunAfterPart [] export) ≡ notesOf export
+pub export-hands : (export : List ℕ) → handedByWhole recordHanding [] export ≡ notesOf export
 unfolding notesOf recordsOf
 export-hands export = hands-after [] export
 
 -- However an export is cut into parts, they hand on what its records note.
 pub export-in-parts : ExportInParts
-export-in-parts parts = parts-join begunAfter handedBy handedAtEnd [] parts ∙ export-hands (flatten parts)
+export-in-parts parts = parts-join recordHanding [] parts ∙ export-hands (flatten parts)
 
 -- A byte more of the record begun
 
@@ -86,8 +87,8 @@ begun-more [] byte = refl
 begun-more (b ∷ begun) byte = refl
 
 reader-more : (begun : List ℕ) (byte : ℕ) → readerAfter readerFrom (begun ++ (byte ∷ [])) ≡ readerOn (readerAfter readerFrom begun) byte
-unfolding begunOver
-reader-more begun byte = begun-append {H = Logged} readerOn (λ reader byte. []) readerFrom begun (byte ∷ [])
+unfolding afterAll
+reader-more begun byte = after-append readerOn readerFrom begun (byte ∷ [])
 
 nothing-begun : (begun : List ℕ) → feedOf begun .begun ≡ false → handedAtEnd begun ≡ []
 unfolding feedOf handedAtEnd
@@ -185,9 +186,9 @@ pub data Run : Feed → List ℕ → List Logged → Type 0 where
       Stepped feed byte r → Run (r .feed) export more → told ≡ toldIn (r .told) ++ more → Run feed (byte ∷ export) told
 
 run-on :
-    {feed : Feed} {export : List ℕ} {told : List Logged} → (begun : List ℕ) → feed ≡ feedOf begun → Run feed export told →
-    told ≡ handedByPart begun export ++ handedAtEnd (begunAfterPart begun export)
-unfolding handedOver begunOver
+    {feed : Feed} {export : List ℕ} {told : List Logged} → (begun : List ℕ) → Holds feed begun → Run feed export told →
+    told ≡ handedByWhole recordHanding begun export
+unfolding givenByAll afterAll
 run-on begun is (ends finished e) = e ∙ finished .told begun is
 run-on begun is (goes {byte = byte} step run e) =
     rw (e, run-on (begunAfter begun byte) (step .begun begun is) run, step .told begun is) (simp append-assoc)

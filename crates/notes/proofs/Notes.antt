@@ -4,7 +4,7 @@ use mathlib.Core.Path.{_≡_, refl, _∙_}
 use mathlib.Core.Bool.{Bool, true, false, cond, _&&_}
 use mathlib.Core.List.{List, [], _∷_}
 use Prim.Native.Nat.{ℕ}
-use Rattle.text.specs.Parts.{begunOver}
+use Rattle.text.specs.Parts.{afterAll}
 use Rattle.text.specs.Fields.{decimalFrom, isNumber}
 use Rattle.text.specs.Answers.{digitOn, digitsOn, endedAt, numberOf}
 use Rattle.text.specs.declared.fields.Begun.{Begun}
@@ -32,7 +32,7 @@ use Rattle.notes.specs.declared.Reader.{Reader}
 
 -- the place after the bytes of a field
 abbrev placeOver : Place → List ℕ → Place
-placeOver = begunOver placeOn
+placeOver = afterAll placeOn
 
 -- what fields note from a place on, the first of them being what is left of the field at hand
 unfoldable noteFrom : Place → List (List ℕ) → Logged
@@ -70,7 +70,7 @@ some-said stand (byte ∷ bytes) = some-field (stepOn stand byte .adds) byte _ (
 byte-on :
     (adds : Adds) (place : Place) (byte : ℕ) (said : Said) → SomeField said →
     saidFromPlace (placeBy adds place byte) said ≡ saidFromPlace place (added adds byte said)
-unfolding noteFrom begunOver
+unfolding noteFrom afterAll
 byte-on NoPart place byte said some = refl
 byte-on ItsByte place byte no-record some = refl
 byte-on ItsByte place byte (fields (field ∷ [])) some = refl
@@ -79,7 +79,7 @@ byte-on AField place byte no-record some = refl
 byte-on AField place byte (fields (field ∷ values)) some = refl
 
 reader-says : (bytes : List ℕ) (reader : Reader) → noteAt (readerAfter reader bytes) ≡ saidFromPlace (reader .place) (saidFrom (reader .stand) bytes)
-unfolding begunOver readerOn saidFrom noteAt noteFrom
+unfolding afterAll readerOn saidFrom noteAt noteFrom
 reader-says [] reader = at (mayEnd (reader .stand))
   where
     at : (t : Bool) → cond t (noteIn (reader .place)) NoNote ≡ saidFromPlace (reader .place) (cond t (fields ([] ∷ [])) no-record)
@@ -92,34 +92,34 @@ reader-says (byte ∷ bytes) reader =
 -- Through the five fields
 
 class-over : (begun : Begun) (field : List ℕ) → placeOver (AtClass begun) field ≡ AtClass (digitsOn mostClass begun field)
-unfolding begunOver placeOn
+unfolding afterAll placeOn
 class-over begun [] = refl
 class-over begun (byte ∷ field) = class-over (digitOn mostClass begun byte) field
 
 unit-over : (class : ℕ) (begun : Begun) (field : List ℕ) → placeOver (AtUnit class begun) field ≡ AtUnit class (digitsOn mostUnit begun field)
-unfolding begunOver placeOn
+unfolding afterAll placeOn
 unit-over class begun [] = refl
 unit-over class begun (byte ∷ field) = unit-over class (digitOn mostUnit begun byte) field
 
 serial-over :
     (class unit : ℕ) (begun : Begun) (field : List ℕ) →
     placeOver (AtSerial class unit begun) field ≡ AtSerial class unit (digitsOn mostSerial begun field)
-unfolding begunOver placeOn
+unfolding afterAll placeOn
 serial-over class unit begun [] = refl
 serial-over class unit begun (byte ∷ field) = serial-over class unit (digitOn mostSerial begun byte) field
 
 text-over : (e : Entry) (field : List ℕ) → placeOver (AtText e) field ≡ AtText e
-unfolding begunOver placeOn
+unfolding afterAll placeOn
 text-over e [] = refl
 text-over e (byte ∷ field) = text-over e field
 
 number-over : (e : Entry) (begun : Begun) (field : List ℕ) → placeOver (AtNumber e begun) field ≡ AtNumber e (digitsOn mostNumber begun field)
-unfolding begunOver placeOn
+unfolding afterAll placeOn
 number-over e begun [] = refl
 number-over e begun (byte ∷ field) = number-over e (digitOn mostNumber begun byte) field
 
 none-over : (field : List ℕ) → placeOver NoPlace field ≡ NoPlace
-unfolding begunOver placeOn
+unfolding afterAll placeOn
 none-over [] = refl
 none-over (byte ∷ field) = none-over field
 

@@ -3,7 +3,7 @@ use mathlib.Core.Path.{_≡_}
 use mathlib.Core.Bool.{Bool, true, false, cond}
 use mathlib.Core.List.{List, [], _∷_, _++_}
 use Prim.Native.Nat.{ℕ}
-use Rattle.text.specs.Parts.{begunOver, handedOver, handedOverAll}
+use Rattle.text.specs.Parts.{Handing}
 use Rattle.notes.specs.Notes.{noteBy, Within}
 use Rattle.notes.specs.Reader.{readerFrom, readerAfter}
 use Rattle.notes.specs.Export.{evenQuotes, endsInReturn, closes}
@@ -26,16 +26,9 @@ unfoldable pub handedAtEnd : List ℕ → List Logged
 handedAtEnd [] = []
 handedAtEnd (b ∷ begun) = noteBy (b ∷ begun) ∷ []
 
--- the record begun after a part of the export, and what the part hands on
-abbrev pub begunAfterPart : List ℕ → List ℕ → List ℕ
-begunAfterPart = begunOver begunAfter
-
-abbrev pub handedByPart : List ℕ → List ℕ → List Logged
-handedByPart = handedOver begunAfter handedBy
-
--- what parts of the export hand on, one part after the other, and then its end
-abbrev pub handedByParts : List ℕ → List (List ℕ) → List Logged
-handedByParts = handedOverAll begunAfter handedBy handedAtEnd
+-- how an export hands on what its records note
+abbrev pub recordHanding : Handing (List ℕ) Logged
+recordHanding = record { on = begunAfter; by = handedBy; atEnd = handedAtEnd }
 
 -- What the code's values mean.
 
@@ -46,6 +39,10 @@ isBegun (b ∷ begun) = true
 -- what a feed knows of the record begun
 unfoldable pub feedOf : List ℕ → Feed
 feedOf begun = record { reader = readerAfter readerFrom begun; even = evenQuotes begun; returned = endsInReturn begun; begun = isBegun begun }
+
+-- A feed holds this record begun.
+abbrev pub Holds : Feed → List ℕ → Type 0
+Holds feed begun = feed ≡ feedOf begun
 
 -- what is told of
 abbrev pub toldIn : Told → List Logged
@@ -59,9 +56,9 @@ ToldWithin (Record logged) = Within logged
 
 -- A byte takes a feed one step on, whatever record is begun.
 pub record Stepped (feed : Feed) (byte : ℕ) (r : Fed) : Type 0 where
-  pub begun : (begun : List ℕ) → feed ≡ feedOf begun → r .feed ≡ feedOf (begunAfter begun byte)
-  pub told : (begun : List ℕ) → feed ≡ feedOf begun → toldIn (r .told) ≡ handedBy begun byte
+  pub begun : (begun : List ℕ) → Holds feed begun → Holds (r .feed) (begunAfter begun byte)
+  pub told : (begun : List ℕ) → Holds feed begun → toldIn (r .told) ≡ handedBy begun byte
 
 -- The end of the export.
 pub record FeedEnded (feed : Feed) (r : Told) : Type 0 where
-  pub told : (begun : List ℕ) → feed ≡ feedOf begun → toldIn r ≡ handedAtEnd begun
+  pub told : (begun : List ℕ) → Holds feed begun → toldIn r ≡ handedAtEnd begun

@@ -2,7 +2,7 @@
 use mathlib.Core.Bool.{cond}
 use mathlib.Core.List.{List}
 use Prim.Native.Nat.{ℕ}
-use Rattle.text.specs.Parts.{begunOver}
+use Rattle.text.specs.Parts.{afterAll}
 use Rattle.text.specs.Answers.{digitOn, endedAt}
 use Rattle.text.specs.declared.fields.Begun.the-variants.{NoDigit}
 use Rattle.text.specs.declared.fields.Numeral.{Numeral}
@@ -59,7 +59,7 @@ readerOn reader byte =
 
 -- the bytes of a record
 abbrev pub readerAfter : Reader → List ℕ → Reader
-readerAfter = begunOver readerOn
+readerAfter = afterAll readerOn
 
 abbrev pub numbered : Entry → Numeral → Logged
 numbered e (Value number) = Note e number

@@ -15,12 +15,13 @@
 ghost use mathlib.Core.Path.{_≡_};
 ghost use mathlib.Core.List.{[], _∷_};
 ghost use lib.ListN.{length};
+ghost use Rattle.text.specs.Parts.{afterAll, Known, BytesFed, PartFed, EndFed};
 ghost use Rattle.text.specs.Lines.{mostBytes};
-ghost use Rattle.text.specs.Feeding.{handedAtEnd, begunIn, toldIn, Ready, LineIn};
+ghost use Rattle.text.specs.Feeding.{lineHanding, toldIn, Holds, LineIn};
 ghost use Rattle.meaning.specs.Layer.Listed.{Listed};
-ghost use Rattle.order_step.specs.Printed.{wordsAfter};
+ghost use Rattle.report.specs.Answered.{leaving, TextOf};
+ghost use Rattle.order_step.specs.Step.{lineOutcome};
 ghost use Rattle.entry_list.specs.EntryList.{freshWords};
-ghost use Rattle.order.specs.Input.{TextOf, BytesTaken, PartTaken};
 use settings::Settings;
 use text::feed::Feed;
 use text::feed::Told;
@@ -41,15 +42,15 @@ pub enum End {
 // Writes what is printed for the line that ended, by one write, and nothing if none did; whether it was written whole. It takes the line and
 // the words that it left so that its contract can say whose text it is.
 fn write(text: &[u8], line: &[u8], ended: Told, words: &[u32]) -> bool
-    requires { ⌜ TextOf (now text) (toldIn (now line) ended) (now words) ⌝ }
+    requires { ⌜ TextOf lineOutcome (now text) (toldIn (now line) ended) (now words) ⌝ }
 {
     io::write_all(1, text)
 }
 
 // Answers the line that ended, if one did; whether the answer was written.
-fn take_line(words: &mut [u32], settings: Settings, line: &[u8], ended: Told) -> bool
+fn answer_line(words: &mut [u32], settings: Settings, line: &[u8], ended: Told) -> bool
     requires { ⌜ Listed (now words) settings × LineIn (now line) ended ⌝ }
-    ensures { λ r. ⌜ now (words .exit) ≡ wordsAfter (toldIn (now (line .entry)) ended) (now (words .entry)) ⌝ }
+    ensures { λ r. ⌜ now (words .exit) ≡ afterAll (leaving lineOutcome) (now (words .entry)) (toldIn (now (line .entry)) ended) ⌝ }
 {
     let mut out = [0u8; report::ANSWER_BYTES];
     let n = order_step::line_text(words, settings, line, ended, &mut out);
@@ -57,14 +58,14 @@ fn take_line(words: &mut [u32], settings: Settings, line: &[u8], ended: Told) ->
 }
 
 // One byte of the input: the feed keeps it, or the line that it ends is answered.
-fn take_byte(words: &mut [u32], settings: Settings, line: &mut [u8], feed: Feed, byte: u8) -> State
-    requires { ⌜ Listed (now words) settings × Ready (now line) feed ⌝ }
-    ensures { λ r. ⌜ BytesTaken (byte ∷ []) (begunIn (now (line .entry)) feed) (now (words .entry)) (now (line .exit)) (r .feed) (now (words .exit)) ⌝ }
+fn feed_byte(words: &mut [u32], settings: Settings, line: &mut [u8], feed: Feed, byte: u8) -> State
+    requires { ⌜ Listed (now words) settings × Known (Holds (now line) feed) ⌝ }
+    ensures { λ r. ⌜ BytesFed lineHanding (leaving lineOutcome) (byte ∷ []) (Holds (now (line .entry)) feed) (now (words .entry)) (Holds (now (line .exit)) (r .feed)) (now (words .exit)) ⌝ }
 {
     let fed = text::feed::feed_byte(line, feed, byte);
     let next = fed.feed;
     let ended = fed.told;
-    let written = take_line(words, settings, line, ended);
+    let written = answer_line(words, settings, line, ended);
     State {
         feed: next,
         written,
@@ -72,15 +73,15 @@ fn take_byte(words: &mut [u32], settings: Settings, line: &mut [u8], feed: Feed,
 }
 
 // A part of the input, to its end or to an answer that is not written.
-fn take_part(
+fn feed_part(
     words: &mut [u32],
     settings: Settings,
     line: &mut [u8],
     feed: Feed,
     part: &[u8],
 ) -> State
-    requires { ⌜ Listed (now words) settings × Ready (now line) feed ⌝ }
-    ensures { λ r. ⌜ PartTaken (now (part .entry)) (begunIn (now (line .entry)) feed) (now (words .entry)) (now (line .exit)) r (now (words .exit)) ⌝ }
+    requires { ⌜ Listed (now words) settings × Known (Holds (now line) feed) ⌝ }
+    ensures { λ r. ⌜ PartFed lineHanding (leaving lineOutcome) (now (part .entry)) (Holds (now (line .entry)) feed) (now (words .entry)) (r .written) (Holds (now (line .exit)) (r .feed)) (now (words .exit)) ⌝ }
 {
     let mut s = State {
         feed,
@@ -88,7 +89,7 @@ fn take_part(
     };
     let mut i = 0;
     while i < part.len() {
-        s = take_byte(words, settings, line, s.feed, part[i]);
+        s = feed_byte(words, settings, line, s.feed, part[i]);
         if !s.written {
             return s;
         }
@@ -98,12 +99,12 @@ fn take_part(
 }
 
 // The end of the input: a line begun counts.
-fn take_last(words: &mut [u32], settings: Settings, line: &[u8], feed: Feed) -> End
-    requires { ⌜ Listed (now words) settings × Ready (now line) feed ⌝ }
-    ensures { λ r. ⌜ now (words .exit) ≡ wordsAfter (handedAtEnd (begunIn (now (line .entry)) feed)) (now (words .entry)) ⌝ }
+fn feed_end(words: &mut [u32], settings: Settings, line: &[u8], feed: Feed) -> End
+    requires { ⌜ Listed (now words) settings × Known (Holds (now line) feed) ⌝ }
+    ensures { λ r. ⌜ EndFed lineHanding (leaving lineOutcome) (Holds (now (line .entry)) feed) (now (words .entry)) (now (words .exit)) ⌝ }
 {
     let last = text::feed::finish(feed);
-    if take_line(words, settings, line, last) {
+    if answer_line(words, settings, line, last) {
         return End::AllAnswered;
     }
     End::NotWritten
@@ -111,7 +112,7 @@ fn take_last(words: &mut [u32], settings: Settings, line: &[u8], feed: Feed) -> 
 
 // The input, in parts, to its end, on a fresh list. Nothing says that an input ends, so the turns are counted down from a number that no
 // run uses up.
-fn take_all(words: &mut [u32], settings: Settings, line: &mut [u8]) -> End
+fn read_all(words: &mut [u32], settings: Settings, line: &mut [u8]) -> End
     requires { ⌜ (length (now line) ≡ mostBytes) × ((now words ≡ freshWords) × Listed (now words) settings) ⌝ }
 {
     let mut feed = text::feed::start();
@@ -123,10 +124,10 @@ fn take_all(words: &mut [u32], settings: Settings, line: &mut [u8]) -> End
             return End::NotRead;
         }
         if got == 0 {
-            return take_last(words, settings, line, feed);
+            return feed_end(words, settings, line, feed);
         }
         let n = io::count(got, &part);
-        let s = take_part(words, settings, line, feed, &part[..n]);
+        let s = feed_part(words, settings, line, feed, &part[..n]);
         if !s.written {
             return End::NotWritten;
         }
@@ -140,7 +141,7 @@ fn main() {
     let mut words = [0u32; entry_list::WORDS];
     let mut line = [0u8; text::feed::MOST_BYTES];
     let settings = entry_list::set_up(&mut words);
-    let end = take_all(&mut words, settings, &mut line);
+    let end = read_all(&mut words, settings, &mut line);
     match end {
         End::AllAnswered => return,
         End::NotRead => {

@@ -9,6 +9,7 @@ use lib.ListN.{length}
 use Rattle.settings.specs.Numbers.{mostLargest, isKey}
 use Rattle.settings.proofs.Numbers.{key-in}
 use Rattle.text.specs.Lines.{Handed, line, tooLong}
+use Rattle.text.specs.Parts.{afterAll}
 use Rattle.meaning.specs.Words.{largestAt}
 use Rattle.meaning.specs.Reading.{isList}
 use Rattle.calls.specs.Calls.{outcome, Made, operated, madeOn, afterCalls}
@@ -29,7 +30,6 @@ use Rattle.lines.specs.declared.Parsed.{Parsed}
 use Rattle.lines.specs.declared.Parsed.the-variants.{Readable, Unreadable}
 use Rattle.lines.proofs.Grammar.{read-in-range}
 use Rattle.order_step.specs.Step.{kindOperation, kindOutcome, parsedOutcome, lineOutcome}
-use Rattle.order_step.specs.Printed.{wordsAfter}
 use Rattle.order_step.specs.Promises.{NeverFour}
 
 -- a kind of line as a call, and that its outcome is the call's
@@ -133,14 +133,14 @@ line-keeps (line bytes) ws list = at (parsedOf bytes)
     at Unreadable = record { list = list; largest = refl }
 
 pub never-four : NeverFour
-unfolding wordsAfter
+unfolding afterAll
 never-four [] h ws list top = line-not-four h ws list top
 never-four (first ∷ before) h ws list top =
     let kept = line-keeps first ws list in never-four before h (lineOutcome first ws .left) (kept .list) (kept .largest ∙ top)
 
--- Lines take a list to a list with its settings.
+-- A line takes a list to a list with its settings.
 
-line-listed : {ws : List ℕ} {s : Settings} (h : Handed) → Listed ws s → Listed (lineOutcome h ws .left) s
+pub line-listed : {ws : List ℕ} {s : Settings} (h : Handed) → Listed ws s → Listed (lineOutcome h ws .left) s
 unfolding lineOutcome
 line-listed tooLong listed = listed
 line-listed {ws} {s} (line bytes) listed = at (parsedOf bytes)
@@ -148,8 +148,3 @@ line-listed {ws} {s} (line bytes) listed = at (parsedOf bytes)
     at : (p : Parsed) → Listed (parsedOutcome p ws .left) s
     at (Readable l) = operation-listed (kindOperation (l .kind)) listed
     at Unreadable = listed
-
-pub lines-listed : {ws : List ℕ} {s : Settings} (hs : List Handed) → Listed ws s → Listed (wordsAfter hs ws) s
-unfolding wordsAfter
-lines-listed [] listed = listed
-lines-listed (h ∷ hs) listed = lines-listed hs (line-listed h listed)

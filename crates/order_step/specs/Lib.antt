@@ -1,4 +1,3 @@
--- One line of the order program, and what is printed for it.
+-- One line of the order program, and what is promised of its lines.
 pub mod Step
-pub mod Printed
 pub mod Promises

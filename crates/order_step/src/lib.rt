@@ -10,8 +10,8 @@ ghost use Rattle.answers.specs.Refusals.{Meets};
 ghost use Rattle.meaning.specs.Layer.Listed.{Listed};
 ghost use Rattle.lines.specs.Grammar.{KindInRange};
 ghost use Rattle.report.specs.Report.{answerBytes};
+ghost use Rattle.report.specs.Answered.{Answered};
 ghost use Rattle.order_step.specs.Step.{kindOperation, lineOutcome};
-ghost use Rattle.order_step.specs.Printed.{LinesAnswered};
 use answers::Answer;
 use answers::Operation;
 use lines::Kind;
@@ -56,7 +56,7 @@ fn step(list: &mut [u32], s: Settings, bytes: &[u8]) -> Answer
 // Answers the line that is told of, if one is: puts the bytes that are printed for it into `out`, from the first on; how many they are.
 pub fn line_text(list: &mut [u32], s: Settings, line: &[u8], told: Told, out: &mut [u8]) -> usize
     requires { ⌜ Listed (now list) s × (LineIn (now line) told × (answerBytes ≤ length (now out))) ⌝ }
-    ensures { λ r. ⌜ LinesAnswered (toldIn (now (line .entry)) told) (now (list .entry)) (now (list .exit)) (now (out .exit)) r ⌝ }
+    ensures { λ r. ⌜ Answered lineOutcome (toldIn (now (line .entry)) told) (now (list .entry)) (now (list .exit)) (now (out .exit)) r ⌝ }
 {
     match told {
         Told::NoLine => return 0,

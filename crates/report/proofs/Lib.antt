@@ -3,3 +3,4 @@ pub mod Puts
 pub mod Digits
 pub mod Sums
 pub mod Report
+pub mod Answered

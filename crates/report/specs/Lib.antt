@@ -1,2 +1,3 @@
 -- What the programs print of an answer, byte for byte.
 pub mod Report
+pub mod Answered

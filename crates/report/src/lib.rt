@@ -2,7 +2,7 @@
 // that the caller lends and writes out.
 ghost use mathlib.Core.Path.{_≡_};
 ghost use mathlib.Core.List.{[], _∷_, _++_};
-ghost use Prim.Native.Nat.{_+_, _≤_};
+ghost use Prim.Native.Nat.{_+_, _*_, _%_, _≤_, _<_};
 ghost use lib.ListN.{length};
 ghost use Rattle.report.specs.Report.{decimal, answerText, fieldBytes, answerBytes, checkedBytes, Put, checksumOf};
 ghost use Rattle.report.specs.Report.{checksumText, checkedText};
@@ -60,15 +60,22 @@ pub fn put_answer(out: &mut [u8], at: usize, a: Answer, after: u8) -> usize
     put_number(out, count, a.count as u64, after)
 }
 
-// The checksum h starts at the number of words; for each word in order h becomes (h x 1,000,003 + word) mod 2,147,483,647.
+// The checksum h with one word more, or one byte: h becomes (h x 1,000,003 + it) mod 2,147,483,647.
+fn summed(h: u64, word: u32) -> u64
+    requires { ⌜ h < 2147483647 ⌝ }
+    ensures { λ r. ⌜ r ≡ (h * 1000003 + word) % 2147483647 ⌝ }
+{
+    (h * FACTOR + word as u64) % MODULUS
+}
+
+// The checksum of words: it starts at their number, and each is summed in order.
 pub fn checksum(part: &[u32]) -> u64
     ensures { λ r. ⌜ r ≡ checksumOf (now (part .entry)) ⌝ }
 {
     let mut h = part.len() as u64 % MODULUS;
     let mut i = 0;
     while i < part.len() {
-        let word = part[i] as u64;
-        h = (h * FACTOR + word) % MODULUS;
+        h = summed(h, part[i]);
         i += 1;
     }
     h
@@ -81,8 +88,7 @@ pub fn checksum_of_bytes(part: &[u8]) -> u64
     let mut h = part.len() as u64 % MODULUS;
     let mut i = 0;
     while i < part.len() {
-        let byte = part[i] as u64;
-        h = (h * FACTOR + byte) % MODULUS;
+        h = summed(h, part[i] as u32);
         i += 1;
     }
     h

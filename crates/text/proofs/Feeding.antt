@@ -8,10 +8,10 @@ use native.Mathlib.Omega.{arith}
 use lib.Dec.{eqb, leb}
 use lib.ListN.{length, length-append}
 use borrow.Author.Tests.{lt-leb, leb-false}
-use Rattle.text.specs.Parts.{begunOver, handedOver}
+use Rattle.text.specs.Parts.{afterAll, givenByAll, begunAfterPart, handedByPart, handedByWhole, handedByParts, Known}
 use Rattle.text.specs.Lines.{lineFeed, mostBytes, linesAfter, linesOf, Handed, line, tooLong, handed, handedOf}
-use Rattle.text.specs.Feeding.{longer, begunAfter, handedBy, handedAtEnd, begunAfterPart, handedByPart, handedByParts, started, begunIn, toldIn}
-use Rattle.text.specs.Feeding.{Ready, Stepped, FeedEnded}
+use Rattle.text.specs.Feeding.{longer, begunAfter, handedBy, handedAtEnd, lineHanding, started, begunIn, toldIn}
+use Rattle.text.specs.Feeding.{Ready, Holds, Stepped, FeedEnded}
 use Rattle.text.proofs.Parts.{parts-join}
 use Rattle.text.specs.declared.feed.Feed.{Feed}
 use Rattle.text.specs.declared.feed.Fed.{Fed}
@@ -52,8 +52,8 @@ lines-more (b ∷ begun) byte input = refl
 
 hands-after :
     (begun input : List ℕ) →
-    handedByPart (handed begun) input ++ handedAtEnd (begunAfterPart (handed begun) input) ≡ map handed (linesAfter begun input)
-unfolding handedOver begunOver handedBy begunAfter
+    handedByWhole lineHanding (handed begun) input ≡ map handed (linesAfter begun input)
+unfolding givenByAll afterAll handedBy begunAfter
 hands-after begun [] = end-handed begun
 hands-after begun (byte ∷ input) =
     rw (lines-more begun byte input, longer-handed begun byte) (at-test (eqb byte lineFeed) (λ b. hands-after b input))
@@ -64,27 +64,47 @@ hands-after begun (byte ∷ input) =
     at-test :
         (t : Bool) →
         ((b : List ℕ) →
-        handedByPart (handed b) input ++ handedAtEnd (begunAfterPart (handed b) input) ≡ map handed (linesAfter b input)) →
-        (cond t (handed begun ∷ []) [] ++ handedByPart (cond t (line []) (handed more)) input) ++
-        handedAtEnd (begunAfterPart (cond t (line []) (handed more)) input) ≡
+        handedByWhole lineHanding (handed b) input ≡ map handed (linesAfter b input)) →
+        (cond t (handed begun ∷ []) [] ++ handedByPart lineHanding (cond t (line []) (handed more)) input) ++
+        handedAtEnd (begunAfterPart lineHanding (cond t (line []) (handed more)) input) ≡
         map handed (cond t (begun ∷ linesAfter [] input) (linesAfter more input))
     at-test true again = ap (λ (hs : List Handed). handed begun ∷ hs) (again [])
     at-test false again = again more
 
 -- The bytes of an input and then its end hand on its lines.
-pub input-hands : (input : List ℕ) → handedByPart (line []) input ++ handedAtEnd (begunAfterPart (line []) input) ≡ handedOf input
+pub input-hands : (input : List ℕ) → handedByWhole lineHanding (line []) input ≡ handedOf input
 unfolding handedOf linesOf
 input-hands input = hands-after [] input
 
 -- However an input is cut into parts, they hand on its lines.
-pub parts-hand : (parts : List (List ℕ)) → handedByParts (line []) parts ≡ handedOf (flatten parts)
-parts-hand parts = parts-join begunAfter handedBy handedAtEnd (line []) parts ∙ input-hands (flatten parts)
+pub parts-hand : (parts : List (List ℕ)) → handedByParts lineHanding (line []) parts ≡ handedOf (flatten parts)
+parts-hand parts = parts-join lineHanding (line []) parts ∙ input-hands (flatten parts)
 
--- A run of the code
+-- What the feed's functions do to the line begun that it holds
 
-pub begun-started : (buffer : List ℕ) → begunIn buffer started ≡ line []
+module _
+    {before after : List ℕ} {feed : Feed} {byte : ℕ} {r : Fed} (step : Stepped before after feed byte r) (begun : Handed)
+    (holds : Holds before feed begun) where
+  pub step-holds : Holds after (r .feed) (begunAfter begun byte)
+  step-holds = record { ready = step .ready; is = step .begun ∙ ap (λ (h : Handed). begunAfter h byte) (holds .is) }
+
+  pub step-tells : toldIn after (r .told) ≡ handedBy begun byte
+  step-tells = step .told ∙ ap (λ (h : Handed). handedBy h byte) (holds .is)
+
+pub end-tells :
+    {buffer : List ℕ} {feed : Feed} {r : Told} → FeedEnded feed r → (begun : Handed) → Holds buffer feed begun →
+    toldIn buffer r ≡ handedAtEnd begun
+end-tells {buffer} ended begun holds = ended .told buffer (holds .ready .long) ∙ ap handedAtEnd (holds .is)
+
+begun-started : (buffer : List ℕ) → begunIn buffer started ≡ line []
 unfolding begunIn
 begun-started buffer = refl
+
+pub start-holds : {buffer : List ℕ} → length buffer ≡ mostBytes → Known (Holds buffer started)
+start-holds {buffer} long =
+    record { begun = line []; is = record { ready = record { long = long; fits = omega arith }; is = begun-started buffer } }
+
+-- A run of the code
 
 -- `feed_byte` was called with each byte of an input, one after the other, and then `finish`; `told` is what they told of, in order.
 pub data Run : List ℕ → Feed → List ℕ → List Handed → Type 0 where
@@ -96,8 +116,8 @@ pub data Run : List ℕ → Feed → List ℕ → List Handed → Type 0 where
 
 run-on :
     {buffer : List ℕ} {feed : Feed} {input : List ℕ} {told : List Handed} → Ready buffer feed → Run buffer feed input told →
-    told ≡ handedByPart (begunIn buffer feed) input ++ handedAtEnd (begunAfterPart (begunIn buffer feed) input)
-unfolding handedOver begunOver
+    told ≡ handedByWhole lineHanding (begunIn buffer feed) input
+unfolding givenByAll afterAll
 run-on {buffer} ready (ends finished e) = e ∙ finished .told buffer (ready .long)
 run-on ready (goes step run e) = rw (e, run-on (step .ready) run, step .begun, step .told) (simp append-assoc)
 

@@ -11,7 +11,7 @@ use lib.Dec.{eqb, leb, ltb}
 use lib.ListN.{length, getD, take, drop, length-drop}
 use lib.Seq.{take-all, drop-drop, getD-drop}
 use borrow.Author.Tests.{eq-eqb, ne-eqb, le-leb, lt-leb, lt-ltb, le-ltb, leb-true}
-use Rattle.text.specs.Parts.{begunOver}
+use Rattle.text.specs.Parts.{afterAll}
 use Rattle.text.specs.Fields.{space, inFirst, fieldsOf, isDigit, allDigits, decimalFrom, isDecimal, isNumber}
 use Rattle.text.specs.Answers.{FieldEnd, upTo, digitOn, digitsOn, endedAt, numberOf}
 use Rattle.text.specs.declared.fields.Begun.{Begun}
@@ -123,7 +123,7 @@ unfoldable digitsFrom : ℕ → ℕ → List ℕ → Begun
 digitsFrom most n bytes = cond (allDigits bytes && leb (decimalFrom n bytes) most) (Value (decimalFrom n bytes)) NoNumber
 
 digits-none : (most : ℕ) (bytes : List ℕ) → digitsOn most NoNumber bytes ≡ NoNumber
-unfolding begunOver digitOn
+unfolding afterAll digitOn
 digits-none most [] = refl
 digits-none most (byte ∷ bytes) = digits-none most bytes
 
@@ -145,7 +145,7 @@ digits-up most n bytes within = at (decLe n most)
     at (no h) = rw (lt-leb n most (omega arith), digits-over most n bytes (omega arith)) (digits-none most bytes)
 
 digits-end : (most n : ℕ) → n ≤ most → digitsOn most (Value n) [] ≡ digitsFrom most n []
-unfolding begunOver digitsFrom allDigits decimalFrom
+unfolding afterAll digitsFrom allDigits decimalFrom
 digits-end most n below = rw (le-leb n most below) refl
 
 module _ (most n byte : ℕ) (bytes : List ℕ) where
@@ -159,11 +159,11 @@ module _ (most n byte : ℕ) (bytes : List ℕ) where
 
   digit-further :
       0 < n → isDigit byte ≡ true → digitsOn most (Value n) (byte ∷ bytes) ≡ digitsOn most (upTo most (n * 10 + (byte - 48))) bytes
-  unfolding begunOver digitOn
+  unfolding afterAll digitOn
   digit-further some e = rw (lt-ltb 0 n some, e) refl
 
   no-further : isDigit byte ≡ false → digitsOn most (Value n) (byte ∷ bytes) ≡ NoNumber
-  unfolding begunOver digitOn
+  unfolding afterAll digitOn
   no-further e = rw (e, and-false (ltb 0 n)) (digits-none most bytes)
 
 -- digits after a number above 0
@@ -184,7 +184,7 @@ digits-on most n (byte ∷ bytes) some below = at (isDigit byte) refl (digits-on
 -- A field: an empty one, a leading zero, or digits without one.
 module _ (least most : ℕ) where
   number-empty : endedAt least (digitsOn most NoDigit []) ≡ numberOf least most []
-  unfolding begunOver numberOf isNumber isDecimal
+  unfolding afterAll numberOf isNumber isDecimal
   number-empty = refl
 
   number-plain :
@@ -206,11 +206,11 @@ module _ (least most : ℕ) where
 
   module _ (byte : ℕ) (bytes : List ℕ) where
     first-digit : isDigit byte ≡ true → digitsOn most NoDigit (byte ∷ bytes) ≡ digitsOn most (upTo most (byte - 48)) bytes
-    unfolding begunOver digitOn
+    unfolding afterAll digitOn
     first-digit e = rw e refl
 
     no-first : isDigit byte ≡ false → endedAt least (digitsOn most NoDigit (byte ∷ bytes)) ≡ numberOf least most (byte ∷ bytes)
-    unfolding begunOver digitOn numberOf isNumber isDecimal allDigits
+    unfolding afterAll digitOn numberOf isNumber isDecimal allDigits
     no-first e = rw (e, digits-none most bytes, and-false (ltb 0 (suc (length bytes)))) refl
 
     -- digits without a leading zero
@@ -232,7 +232,7 @@ module _ (least most : ℕ) where
 
   number-leading :
       (next : ℕ) (bytes : List ℕ) → endedAt least (digitsOn most NoDigit (48 ∷ next ∷ bytes)) ≡ numberOf least most (48 ∷ next ∷ bytes)
-  unfolding begunOver digitOn
+  unfolding afterAll digitOn
   number-leading next bytes =
       rw (le-leb 0 most (omega arith))
       (ap (endedAt least) (digits-none most bytes) ∙ sym (zero-leads (48 ∷ next ∷ bytes) (λ e. omega arith) (omega arith)))

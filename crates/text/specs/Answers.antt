@@ -5,7 +5,7 @@ use mathlib.Core.Path.{_≡_}
 use Prim.Native.Nat.{ℕ, _+_, _*_, _-_, _≤_, _<_}
 use lib.Dec.{leb, ltb}
 use lib.ListN.{length, getD}
-use Rattle.text.specs.Parts.{begunOver}
+use Rattle.text.specs.Parts.{afterAll}
 use Rattle.text.specs.Fields.{space, isDigit, decimalFrom, isNumber}
 use Rattle.text.specs.declared.fields.Begun.{Begun}
 use Rattle.text.specs.declared.fields.Begun.the-variants.{NoDigit, Value, NoNumber}
@@ -34,7 +34,7 @@ digitOn most NoNumber byte = NoNumber
 
 -- .. and several
 abbrev pub digitsOn : ℕ → Begun → List ℕ → Begun
-digitsOn most = begunOver (digitOn most)
+digitsOn most = afterAll (digitOn most)
 
 -- the numeral that ends here, where its value is not below `least`
 abbrev pub endedAt : ℕ → Begun → Numeral

@@ -5,7 +5,7 @@ use mathlib.Core.Path.{_≡_}
 use Prim.Native.Nat.{ℕ, _≤_}
 use lib.Dec.{eqb}
 use lib.ListN.{length, take}
-use Rattle.text.specs.Parts.{begunOver, handedOver, handedOverAll}
+use Rattle.text.specs.Parts.{Handing}
 use Rattle.text.specs.Lines.{lineFeed, mostBytes, Handed, line, tooLong, handed}
 use Rattle.text.specs.declared.feed.Feed.{Feed}
 use Rattle.text.specs.declared.feed.Fed.{Fed}
@@ -33,16 +33,9 @@ handedAtEnd (line []) = []
 handedAtEnd (line (b ∷ bytes)) = line (b ∷ bytes) ∷ []
 handedAtEnd tooLong = tooLong ∷ []
 
--- the line begun after a part of the input, and the lines that the part hands on
-abbrev pub begunAfterPart : Handed → List ℕ → Handed
-begunAfterPart = begunOver begunAfter
-
-abbrev pub handedByPart : Handed → List ℕ → List Handed
-handedByPart = handedOver begunAfter handedBy
-
--- the lines that parts of the input hand on, one part after the other, and then the end of the input
-abbrev pub handedByParts : Handed → List (List ℕ) → List Handed
-handedByParts = handedOverAll begunAfter handedBy handedAtEnd
+-- how an input hands on its lines
+abbrev pub lineHanding : Handing Handed Handed
+lineHanding = record { on = begunAfter; by = handedBy; atEnd = handedAtEnd }
 
 -- What the code's values mean.
 
@@ -67,6 +60,11 @@ endedOf feed = cond (feed .over) LongLine (Line (feed .fill))
 pub record Ready (buffer : List ℕ) (feed : Feed) : Type 0 where
   pub long : length buffer ≡ mostBytes
   pub fits : feed .fill ≤ mostBytes
+
+-- A feed and its buffer hold this line begun.
+pub record Holds (buffer : List ℕ) (feed : Feed) (begun : Handed) : Type 0 where
+  pub ready : Ready buffer feed
+  pub is : begunIn buffer feed ≡ begun
 
 -- A byte that is no line feed, after a line begun of `fill` bytes.
 pub record Kept (before after : List ℕ) (fill byte : ℕ) (r : Feed) : Type 0 where

@@ -3,7 +3,7 @@ use mathlib.Core.Path.{_≡_, sym, _∙_, ap}
 use Prim.Native.Nat.{_+_, _-_, _≤_}
 use lib.ListN.{length, drop}
 use borrow.Author.Needs.{needs}
-use Rattle.text.proofs.Parts.{over-more, over-none}
+use Rattle.text.proofs.Parts.{after-more, after-none}
 use Rattle.notes.specs.Reader.{readerFrom, readerOn, readerAfter, noteAt}
 use Rattle.notes.proofs.Notes.{reader-notes}
 use Rattle.notes.proofs.note_by.Statement.{statement}
@@ -22,14 +22,14 @@ loop-again : tie.Need-loop-again Inv-loop μ-loop
 loop-again c =
     let v = c .before .before .before .loop in
     let a = c .before .before .before .before .before .before .args in
-    let more = over-more readerOn (v .reader) (a .bytes .now) (v .i) (search needs) in
+    let more = after-more readerOn (v .reader) (a .bytes .now) (v .i) (search needs) in
     (search needs, v .inv .1 ∙ (more ∙ ap (λ reader. readerAfter reader (drop (v .i + 1) (a .bytes .now))) (sym (c .reader-on .ensures))))
 
 returns : tie.Need-returns Inv-loop μ-loop
 returns c =
     let v = c .before .before .loop in
     let a = c .before .before .before .before .before .args in
-    let all = over-none readerOn (v .reader) (a .bytes .now) (v .i) (search needs) in
+    let all = after-none readerOn (v .reader) (a .bytes .now) (v .i) (search needs) in
     c .note-at .ensures ∙ (ap noteAt (sym (v .inv .1 ∙ all)) ∙ reader-notes (a .bytes .now))
 
 pub note-by-spec : {M : Type 1} → statement M

@@ -1,46 +1,28 @@
--- `report::checksum` meets its contract: from the sum so far the words left lead to the checksum. The sum so far is below 2,147,483,647, so
--- that nothing wraps.
-use mathlib.Core.Path.{_≡_, sym, _∙_}
-use Prim.Native.Nat.{_-_, _≤_, _<_}
+-- `report::checksum` meets its contract: each word is summed once, in order.
+use Prim.Native.Nat.{_-_}
 use native.Mathlib.Omega.{arith}
-use lib.ListN.{length, drop}
+use lib.ListN.{length}
 use borrow.Author.Needs.{needs}
-use Rattle.report.specs.Report.{checksumFrom, checksumOf}
-use Rattle.report.proofs.Sums.{checksum-start, checksum-next, checksum-end}
+use Rattle.report.proofs.Sums.{Summed, summed-start, summed-next, summed-all}
 use Rattle.report.proofs.checksum.Statement.{statement}
 use Rattle.report.proofs.checksum.Tie as tie
 
 abbrev Inv-loop : tie.InvT-loop
-Inv-loop part h₀ i₀ h i =
-    (i ≤ length part) × ((h < 2147483647) × (checksumOf part ≡ checksumFrom h (drop i part)))
+Inv-loop part h₀ i₀ h i = Summed part h i
 
 abbrev μ-loop : tie.MeasureT-loop
 μ-loop part h₀ i₀ h i = length part - i
 
 loop-holds : tie.Need-loop-holds Inv-loop μ-loop
-loop-holds c = (search needs, (search needs, checksum-start (c .args .part .now)))
-
-cast-word : tie.Need-cast-word Inv-loop μ-loop
-cast-word c = omega (arith, c .shared-slice-known .given (c .before .before .loop .i))
-
-mul-h : tie.Need-mul-h Inv-loop μ-loop
-mul-h c = omega (arith, c .shared-slice-known .given (c .before .before .loop .i))
-
-add-h : tie.Need-add-h Inv-loop μ-loop
-add-h c = omega (arith, c .shared-slice-known .given (c .before .before .loop .i))
+loop-holds c = summed-start (c .before .args .part .now)
 
 loop-again : tie.Need-loop-again Inv-loop μ-loop
-loop-again c =
-    let v = c .before .before .loop in
-    (search needs, (search needs, v .inv .1 .1 ∙ checksum-next (v .h) _ (v .i) (omega arith)))
+loop-again c = summed-next _ (c .before .before .before .loop .inv) (c .summed .ensures) (omega arith)
 
 returns : tie.Need-returns Inv-loop μ-loop
-returns c =
-    let v = c .before .loop in
-    sym (v .inv .1 .1 ∙ checksum-end (v .h) _ (v .i) (omega arith))
+returns c = summed-all _ (c .before .loop .inv) (omega arith)
 
 pub checksum-spec : {M : Type 1} → statement M
 checksum-spec =
     tie.close
-    (tie.spec Inv-loop μ-loop loop-holds (λ c. search needs) (λ c. search needs) cast-word mul-h add-h (λ c. search needs) (λ c. search needs)
-    loop-again returns)
+    (tie.spec Inv-loop μ-loop loop-holds (λ c. search needs) (λ c. search needs) (λ c κs. search needs) (λ c. search needs) (λ c. search needs) loop-again returns)
