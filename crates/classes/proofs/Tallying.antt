@@ -106,14 +106,8 @@ tallied-more {ws} {classes} {s} {x} t h =
     told : List Node → List ℕ
     told row = classesIn (liveKeysIn row)
 
-    same : {A : Type 0} (b : Bool) (p q : A) → cond b (cond b p q) q ≡ cond b p q
-    same true p q = refl
-    same false p q = refl
-
     one-cell : (y n : ℕ) → told (rowFrom ws y (suc n)) ≡ withCell ws y (told (rowFrom ws (suc y) n))
-    one-cell y n =
-        live-folded told (λ z a. cond (z .live) (withKey (z .key) a) a) one-node ws y n (λ z a dead. rw dead refl)
-        ∙ same (eqb (markAt ws y) liveMark) (withKey (keyAt ws y) (told (rowFrom ws (suc y) n))) (told (rowFrom ws (suc y) n))
+    one-cell y n = live-folded told (λ z a. withKey (z .key) a) one-node ws y n
 
 pub tallied-all : {ws classes : List ℕ} {s : Settings} {x : ℕ} → Listed ws s → Tallied ws s classes x → x ≤ 1 → classes ≡ classesOf ws
 tallied-all {ws} {classes} {s} {x} listed t h =

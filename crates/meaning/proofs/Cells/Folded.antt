@@ -94,19 +94,19 @@ module _ {A : Type 0} (F : List Node → A) (step : Node → A → A) where
         at true = refl
         at false = on-put (nodeIn ws x) rest
 
-    -- .. and where only live cells count, by their mark alone
-    pub live-folded : ((y : Node) (a : A) → y .live ≡ false → step y a ≡ a) →
-        F (rowFrom ws x (suc n)) ≡ cond (eqb (markAt ws x) liveMark) (step (nodeIn ws x) (F (rowFrom ws (suc x) n))) (F (rowFrom ws (suc x) n))
-    live-folded dead = row-folded ∙ at (eqb (markAt ws x) freeMark) (eqb (markAt ws x) liveMark) refl refl
-      where
-        rest : A
-        rest = F (rowFrom ws (suc x) n)
+module _ {A : Type 0} (F : List Node → A) (more : Node → A → A) (on-put : (x : Node) (row : List Node) → F (put x row) ≡ cond (x .live) (more x (F row)) (F row)) where
+  -- .. and where only live nodes count, by the mark alone
+  pub live-folded :
+      (ws : List ℕ) (x n : ℕ) →
+      F (rowFrom ws x (suc n)) ≡ cond (eqb (markAt ws x) liveMark) (more (nodeIn ws x) (F (rowFrom ws (suc x) n))) (F (rowFrom ws (suc x) n))
+  live-folded ws x n =
+      row-folded F (λ y a. cond (y .live) (more y a) a) on-put ws x n ∙ at (eqb (markAt ws x) freeMark) (eqb (markAt ws x) liveMark) refl refl
+    where
+      rest : A
+      rest = F (rowFrom ws (suc x) n)
 
-        more : A
-        more = step (nodeIn ws x) rest
-
-        at : (t u : Bool) → eqb (markAt ws x) freeMark ≡ t → eqb (markAt ws x) liveMark ≡ u → cond t rest more ≡ cond u more rest
-        at true true e f = absurd (omega (arith, eqb-true (markAt ws x) freeMark e, eqb-true (markAt ws x) liveMark f))
-        at true false e f = refl
-        at false true e f = refl
-        at false false e f = dead (nodeIn ws x) rest f
+      at : (t u : Bool) → eqb (markAt ws x) freeMark ≡ t → eqb (markAt ws x) liveMark ≡ u →
+          cond t rest (cond u (more (nodeIn ws x) rest) rest) ≡ cond u (more (nodeIn ws x) rest) rest
+      at true true e f = absurd (omega (arith, eqb-true (markAt ws x) freeMark e, eqb-true (markAt ws x) liveMark f))
+      at true false e f = refl
+      at false u e f = refl

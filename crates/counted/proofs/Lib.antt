@@ -1,0 +1,6 @@
+-- What the counted calls rest on, case by case, and the proofs of the promises.
+pub mod Outcomes
+pub mod Kept
+pub mod Anew
+pub mod Totals
+pub mod Promises
