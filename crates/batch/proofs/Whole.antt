@@ -30,7 +30,7 @@ operations-listed [] listed = listed
 operations-listed (call ∷ calls) listed = operations-listed calls (operation-listed call listed)
 
 pub batch-listed :
-    (calls : List Operation) {lent after : BatchLent} {s : Settings} {r : Answer} → Listed (lent .words) s → Meets (batchDone calls lent) r after →
+    (calls : List Operation) (lent : BatchLent) {after : BatchLent} {s : Settings} {r : Answer} → Listed (lent .words) s → Meets (batchDone calls lent) r after →
     Listed (after .words) s
 unfolding batchDone
-batch-listed calls {s = s} listed met = subst (λ (l : BatchLent). Listed (l .words) s) (sym (met .left)) (operations-listed calls listed)
+batch-listed calls lent {s = s} listed met = subst (λ (l : BatchLent). Listed (l .words) s) (sym (met .left)) (operations-listed calls listed)

@@ -108,11 +108,11 @@ module _ (key : ℕ) (keys : List ℕ) where
   wordsFrom : List ℕ → ℕ → ℕ → List ℕ
   wordsFrom ks i n = flatMap (λ class. classWords (keysIn class ks)) (numbersFrom i n)
 
-  other-class : (class : ℕ) → (classOf key ≡ class → ⊥) → keysIn class (key ∷ keys) ≡ keysIn class keys
+  pub other-class : (class : ℕ) → (classOf key ≡ class → ⊥) → keysIn class (key ∷ keys) ≡ keysIn class keys
   unfolding those
   other-class class ne = rw (ne-eqb (classOf key) class ne) refl
 
-  own-class : (class : ℕ) → classOf key ≡ class → keysIn class (key ∷ keys) ≡ key ∷ keysIn class keys
+  pub own-class : (class : ℕ) → classOf key ≡ class → keysIn class (key ∷ keys) ≡ key ∷ keysIn class keys
   unfolding those
   own-class class e = rw (eq-eqb (classOf key) class e) refl
 

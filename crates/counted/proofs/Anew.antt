@@ -32,7 +32,7 @@ use Rattle.calls.proofs.Promises.{refused-alters-nothing, read-gives-list}
 use Rattle.classes.specs.Classes.{recordWords, liveKeysIn, classesIn, classesOf}
 use Rattle.classes.proofs.Classes.{no-keys}
 use Rattle.counted.specs.Counted.{Beside, beside, wordsBeside, lentWords, anewOn, countedOut}
-use Rattle.counted.specs.Checked.{readRefusal}
+use Rattle.counted.specs.Checked.{setUpRefusal, readRefusal}
 
 -- Either of them, where it was made
 
@@ -66,20 +66,18 @@ module _ (D K C : ℕ) (ws : List ℕ) where
   set-up-met met = record { answered = met .answered; left = ap (λ us. lentOf us [] 0) (met .left) }
 
   -- a record of another length: 1, then 2
-  pub no-set-up-out-of-range :
-      (classes : List ℕ) {r : Answer} → inRange D K C ≡ false → r ≡ answer 1 0 0 0 → Meets (countedOut (SetUp D K C) (wordsBeside ws classes)) r (wordsBeside ws classes)
-  unfolding countedOut anewOn outcome
-  no-set-up-out-of-range classes none is = rw (set-up-outcome-out-of-range D K C ws none) (record { answered = is; left = refl })
-
   pub no-set-up :
-      (classes : List ℕ) {r : Answer} → (length classes ≡ recordWords → ⊥) → inRange D K C ≡ true → r ≡ answer 2 0 0 0 →
+      (classes : List ℕ) {r : Answer} → (length classes ≡ recordWords → ⊥) → r ≡ setUpRefusal D K C →
       Meets (countedOut (SetUp D K C) (wordsBeside ws classes)) r (wordsBeside ws classes)
   unfolding countedOut anewOn outcome
-  no-set-up classes {r} other range is = at (ℕ-discrete (length ws) (lengthOf D C))
+  no-set-up classes {r} other is = at (inRange D K C) refl (ℕ-discrete (length ws) (lengthOf D C))
     where
-      at : Dec (length ws ≡ lengthOf D C) → Meets (countedOut (SetUp D K C) (wordsBeside ws classes)) r (wordsBeside ws classes)
-      at (yes long) = rw (set-up-outcome D K C ws range long, ne-eqb (length classes) recordWords other) (record { answered = is; left = refl })
-      at (no short) = rw (set-up-outcome-wrong-length D K C ws range short) (record { answered = is; left = refl })
+      at : (t : Bool) → inRange D K C ≡ t → Dec (length ws ≡ lengthOf D C) →
+          Meets (countedOut (SetUp D K C) (wordsBeside ws classes)) r (wordsBeside ws classes)
+      at false e l = rw (set-up-outcome-out-of-range D K C ws e) (record { answered = rw e at is; left = refl })
+      at true e (no l) = rw (set-up-outcome-wrong-length D K C ws e l) (record { answered = rw e at is; left = refl })
+      at true e (yes l) =
+          rw (set-up-outcome D K C ws e l, ne-eqb (length classes) recordWords other) (record { answered = rw e at is; left = refl })
 
   -- a fresh list has nothing live
   fresh-classes : inRange D K C ≡ true → classesOf (picture (fresh D K C)) ≡ replicate recordWords 0
@@ -94,7 +92,7 @@ module _ (D K C : ℕ) (ws : List ℕ) where
       at true e (no l) = absurd (let r = ap (λ o. o .answered .refusal) (set-up-outcome-wrong-length D K C ws e l) in omega arith)
       at true e (yes l) = ap (λ o. classesOf (o .left)) (set-up-outcome D K C ws e l) ∙ fresh-classes e
 
-  module _ {r : Answer} {us classes : List ℕ} (met : Meets (setUpOut D K C ws) r us) where
+  module _ (classes : List ℕ) {r : Answer} {us : List ℕ} (met : Meets (setUpOut D K C ws) r us) where
     pub set-up-refused : (r .refusal ≡ 0 → ⊥) → Meets (countedOut (SetUp D K C) (wordsBeside ws classes)) r (wordsBeside us classes)
     unfolding countedOut
     set-up-refused = anew-refused (SetUp D K C) wrongLength (lentOf ws [] 0) (set-up-met met) classes

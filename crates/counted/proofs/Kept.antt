@@ -45,7 +45,7 @@ same-classes us ws e = ap classesIn (sym (pair-keys us) ∙ ap (map (λ p. p .ke
 
 -- Any call
 
-module _ (call : Call) {ws bytes : List ℕ} {last : ℕ} {classes : List ℕ} {s : Settings} (agreeing : Agreeing ws classes s) {r : Answer} {after : Lent} where
+module _ (call : Call) (ws bytes : List ℕ) (last : ℕ) (classes : List ℕ) {s : Settings} (agreeing : Agreeing ws classes s) {r : Answer} {after : Lent} where
   -- one after which the record is written anew, unless it was refused
   pub call-renewed :
       {a : Answer} {left : List ℕ} → Meets (outcome call (lentOf ws bytes last)) a after → Renewed a (after .words) classes r left →
@@ -69,37 +69,37 @@ module _ (call : Call) {ws bytes : List ℕ} {last : ℕ} {classes : List ℕ} {
 
 -- The five operations
 
-operation-met : (operation : Operation) {ws us : List ℕ} {r : Answer} → Meets (operationOut operation ws) r us →
-    Meets (outcome (Operate operation) (lentOf ws [] 0)) r (lentOf us [] 0)
-unfolding outcome
-operation-met operation met = record { answered = met .answered; left = ap (λ us. lentOf us [] 0) (met .left) }
+module _ (operation : Operation) (ws : List ℕ) where
+  operation-met :
+      {us : List ℕ} {r : Answer} → Meets (operationOut operation ws) r us → Meets (outcome (Operate operation) (lentOf ws [] 0)) r (lentOf us [] 0)
+  unfolding outcome
+  operation-met met = record { answered = met .answered; left = ap (λ us. lentOf us [] 0) (met .left) }
 
-module _ (operation : Operation) {ws classes : List ℕ} where
-  pub operation-refused :
-      {p : Pass} {r : Answer} → CheckedBeside ws classes p → (p .refusal ≡ 0 → ⊥) → r ≡ answer (p .refusal) 0 0 0 →
-      Meets (countedOut (Operate operation) (wordsBeside ws classes)) r (wordsBeside ws classes)
-  unfolding countedOut
-  operation-refused = refused-so lentWords (outcome (Operate operation)) (wordsBeside ws classes)
+  pub operation-after : {s : Settings} {r : Answer} {us : List ℕ} → Listed ws s → Meets (operationOut operation ws) r us → Listed us s
+  operation-after listed met = rw (met .left) (operation-listed operation listed)
 
-  module _ {s : Settings} (agreeing : Agreeing ws classes s) {a r : Answer} {us : List ℕ} where
-    pub operation-after : Meets (operationOut operation ws) a us → Listed us s
-    operation-after met = rw (met .left) (operation-listed operation (agreeing .listed))
+  module _ (classes : List ℕ) where
+    pub operation-refused :
+        {p : Pass} {r : Answer} → CheckedBeside ws classes p → (p .refusal ≡ 0 → ⊥) → r ≡ answer (p .refusal) 0 0 0 →
+        Meets (countedOut (Operate operation) (wordsBeside ws classes)) r (wordsBeside ws classes)
+    unfolding countedOut
+    operation-refused = refused-so lentWords (outcome (Operate operation)) (wordsBeside ws classes)
 
     pub operation-renewed :
-        {left : List ℕ} → Meets (operationOut operation ws) a us → Renewed a us classes r left →
+        {s : Settings} {a r : Answer} {us left : List ℕ} → Agreeing ws classes s → Meets (operationOut operation ws) a us → Renewed a us classes r left →
         Meets (countedOut (Operate operation) (wordsBeside ws classes)) r (wordsBeside us left)
     unfolding countedOut
-    operation-renewed met = call-renewed (Operate operation) agreeing (operation-met operation met)
+    operation-renewed agreeing met = call-renewed (Operate operation) ws [] 0 classes agreeing (operation-met met)
 
     pub operation-kept :
-        keepsPairs (operationEffect operation) ≡ true → Meets (operationOut operation ws) r us →
+        {s : Settings} {r : Answer} {us : List ℕ} → Agreeing ws classes s → keepsPairs (operationEffect operation) ≡ true → Meets (operationOut operation ws) r us →
         Meets (countedOut (Operate operation) (wordsBeside ws classes)) r (wordsBeside us classes)
     unfolding countedOut
-    operation-kept keeps met = call-kept (Operate operation) agreeing keeps (operation-met operation met)
+    operation-kept agreeing keeps met = call-kept (Operate operation) ws [] 0 classes agreeing keeps (operation-met met)
 
 -- Record and write
 
-module _ {ws bytes classes : List ℕ} {last : ℕ} where
+module _ (ws bytes : List ℕ) (last : ℕ) (classes : List ℕ) where
   pub record-refused :
       {p : Pass} {r : Answer} → CheckedBeside ws classes p → (p .refusal ≡ 0 → ⊥) → r ≡ answer (p .refusal) 0 0 0 →
       Meets (countedOut Record (beside (lentOf ws bytes last) classes)) r (beside (lentOf ws bytes last) classes)
@@ -112,19 +112,20 @@ module _ {ws bytes classes : List ℕ} {last : ℕ} where
   unfolding countedOut
   write-refused = refused-so lentWords (outcome Write) (beside (lentOf ws bytes last) classes)
 
-  module _ {s : Settings} (agreeing : Agreeing ws classes s) {a r : Answer} {us : List ℕ} where
-    pub record-renewed :
-        {left : List ℕ} {after : ℕ} → Meets (recordOut (lentOf ws bytes last)) a (lentOf us bytes after) → Renewed a us classes r left →
-        Meets (countedOut Record (beside (lentOf ws bytes last) classes)) r (beside (lentOf us bytes after) left)
-    unfolding countedOut outcome
-    record-renewed met = call-renewed Record agreeing met
+  pub record-renewed :
+      {s : Settings} {a r : Answer} {us left : List ℕ} {after : ℕ} → Agreeing ws classes s →
+      Meets (recordOut (lentOf ws bytes last)) a (lentOf us bytes after) → Renewed a us classes r left →
+      Meets (countedOut Record (beside (lentOf ws bytes last) classes)) r (beside (lentOf us bytes after) left)
+  unfolding countedOut outcome
+  record-renewed agreeing met = call-renewed Record ws bytes last classes agreeing met
 
-    pub write-kept :
-        {file : List ℕ} → Meets (writeOut (fileLent ws bytes)) r (fileLent us file) →
-        Meets (countedOut Write (beside (lentOf ws bytes last) classes)) r (beside (lentOf us file last) classes)
-    unfolding countedOut outcome
-    write-kept met =
-        call-kept Write agreeing refl (record { answered = met .answered; left = λ i. lentOf (met .left i .words) (met .left i .file) last })
+  pub write-kept :
+      {s : Settings} {r : Answer} {us file : List ℕ} → Agreeing ws classes s → Meets (writeOut (fileLent ws bytes)) r (fileLent us file) →
+      Meets (countedOut Write (beside (lentOf ws bytes last) classes)) r (beside (lentOf us file last) classes)
+  unfolding countedOut outcome
+  write-kept agreeing met =
+      call-kept Write ws bytes last classes agreeing refl
+      (record { answered = met .answered; left = λ i. lentOf (met .left i .words) (met .left i .file) last })
 
 -- a note leaves a list
 pub note-after :

@@ -4,9 +4,10 @@ use mathlib.Core.Bool.{true, cond}
 use mathlib.Core.List.{List}
 use Prim.Native.Nat.{ℕ}
 use lib.Dec.{eqb}
+use Rattle.settings.specs.Numbers.{inRange}
 use Rattle.settings.specs.Levels.{PowersOf}
 use Rattle.settings.specs.declared.Settings.{Settings}
-use Rattle.answers.specs.Refusals.{badClasses, answerOf}
+use Rattle.answers.specs.Refusals.{outOfRange, wrongLength, badClasses, answerOf}
 use Rattle.answers.specs.declared.Answer.{Answer}
 use Rattle.meaning.specs.Reading.{isList}
 use Rattle.meaning.specs.Layer.Listed.{Listed}
@@ -33,6 +34,10 @@ pub record CheckedBeside (ws classes : List ℕ) (p : Pass) : Type 0 where
 pub record Renewed (a : Answer) (ws before : List ℕ) (r : Answer) (after : List ℕ) : Type 0 where
   pub answer : r ≡ a
   pub classes : after ≡ cond (eqb (a .refusal) 0) (classesOf ws) before
+
+-- what a set up answers to a record that has not 32 words: 1, then 2
+abbrev pub setUpRefusal : ℕ → ℕ → ℕ → Answer
+setUpRefusal D K C = cond (inRange D K C) (answerOf wrongLength) (answerOf outOfRange)
 
 -- what a read answers to a record that has not 32 words: what it refuses by itself, else 15
 abbrev pub readRefusal : FileLent → Answer

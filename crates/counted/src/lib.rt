@@ -16,7 +16,7 @@ ghost use Rattle.calls.specs.Batch.{batchLent};
 ghost use Rattle.calls.specs.declared.Call.the-variants as call;
 ghost use Rattle.classes.specs.Classes.{recordWords, classOut};
 ghost use Rattle.counted.specs.Counted.{beside, wordsBeside, countedOut, countedBatchOut};
-ghost use Rattle.counted.specs.Checked.{CheckedBeside, Renewed, readRefusal};
+ghost use Rattle.counted.specs.Checked.{CheckedBeside, Renewed, setUpRefusal, readRefusal};
 use answers::Answer;
 use files::Contents;
 use settings::Powers;
@@ -82,6 +82,16 @@ fn settings_at(list: &[u32]) -> Settings
     }
 }
 
+// What a set up answers where the record has another length: 1, then 2.
+fn no_set_up(d: u32, k: u32, c: u32) -> Answer
+    ensures { λ r. ⌜ r ≡ setUpRefusal d k c ⌝ }
+{
+    if !Settings::in_range(d, k, c) {
+        return answers::refused(answers::OUT_OF_RANGE);
+    }
+    answers::refused(answers::WRONG_LENGTH)
+}
+
 // What a read answers where the record has another length: 11, then 2, then 15.
 fn no_read(file: &[u8], list: &[u32]) -> Answer
     ensures { λ r. ⌜ r ≡ readRefusal (fileLent (now (list .entry)) (now (file .entry))) ⌝ }
@@ -98,27 +108,35 @@ fn no_read(file: &[u8], list: &[u32]) -> Answer
 
 // Makes the lent words a fresh list with D dimensions, largest key K and C cells, and its record 0.
 #[no_mangle]
-pub extern "C" fn counted_set_up(d: u32, k: u32, c: u32, list: &mut [u32], classes: &mut [u32]) -> Answer
+pub extern "C" fn counted_set_up(
+    d: u32,
+    k: u32,
+    c: u32,
+    list: &mut [u32],
+    classes: &mut [u32],
+) -> Answer
     ensures { λ r. ⌜ Meets (countedOut (call.SetUp d k c) (wordsBeside (now (list .entry)) (now (classes .entry)))) r (wordsBeside (now (list .exit)) (now (classes .exit))) ⌝ }
 {
     if classes.len() != classes::RECORD_WORDS {
-        if Settings::in_range(d, k, c) {
-            return answers::refused(answers::WRONG_LENGTH);
-        }
-        return answers::refused(answers::OUT_OF_RANGE);
+        return no_set_up(d, k, c);
     }
-    let answer = set_up::set_up(d, k, c, list);
-    if answer.refusal != 0 {
-        return answer;
+    let fresh = set_up::set_up(d, k, c, list);
+    if fresh.refusal != 0 {
+        return fresh;
     }
     // nothing is live
     lists::fill(classes, 0);
-    answer
+    fresh
 }
 
 // Puts a key with its value into the list.
 #[no_mangle]
-pub extern "C" fn counted_insert(list: &mut [u32], classes: &mut [u32], key: u32, value: u32) -> Answer
+pub extern "C" fn counted_insert(
+    list: &mut [u32],
+    classes: &mut [u32],
+    key: u32,
+    value: u32,
+) -> Answer
     ensures { λ r. ⌜ Meets (countedOut (call.Operate (operation.Insert key value)) (wordsBeside (now (list .entry)) (now (classes .entry)))) r (wordsBeside (now (list .exit)) (now (classes .exit))) ⌝ }
 {
     let pass = check(list, classes);
@@ -198,8 +216,7 @@ pub extern "C" fn counted_record(
     }
     let powers = pass.powers;
     let logged = notes::note_by(record);
-    let answer =
-        insert_record::insert_record(list, pass.settings, &powers.of, logged, last);
+    let answer = insert_record::insert_record(list, pass.settings, &powers.of, logged, last);
     renew(list, pass.settings, classes, answer)
 }
 
