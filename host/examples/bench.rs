@@ -5,10 +5,15 @@
 //! Then the time of each of many calls: made alone, made in one batch, which checks the list once, and made on the map. `drain` takes all.
 //!
 //! Then write and read of full lists, beside one check of the same list, for which a find stands.
+//!
+//! Then full lists by their cells, up to as many as there can be: what the calls cost for each word, and what a find in a batch costs.
+//!
+//! Names as arguments (`operations`, `keys`, `batches`, `files`, `cells`) ask for those tables alone.
 
 use mdlist_host::*;
 use std::cell::RefCell;
-use std::collections::BTreeMap;
+use std::collections::{BTreeMap, BTreeSet};
+use std::env;
 use std::hint::black_box;
 use std::time::Instant;
 
@@ -25,8 +30,8 @@ const CALLS: u32 = 1000;
 const LISTS: [(u32, u32, u32); 5] =
     [(8, 1_048_575, 512), (8, u32::MAX, 1024), (8, u32::MAX, 4096), (16, u32::MAX, 4096), (2, u32::MAX, 4096)];
 
-/// The median time of a call in nanoseconds; `before` is not timed.
-fn median(rounds: usize, mut before: impl FnMut(), mut call: impl FnMut()) -> f64 {
+/// The times of a call in nanoseconds, the least first; `before` is not timed.
+fn times(rounds: usize, mut before: impl FnMut(), mut call: impl FnMut()) -> Vec<f64> {
     let mut times = Vec::with_capacity(rounds);
     for _ in 0..rounds {
         before();
@@ -35,7 +40,11 @@ fn median(rounds: usize, mut before: impl FnMut(), mut call: impl FnMut()) -> f6
         times.push(start.elapsed().as_nanos() as f64);
     }
     times.sort_by(f64::total_cmp);
-    times[rounds / 2]
+    times
+}
+
+fn median(rounds: usize, before: impl FnMut(), call: impl FnMut()) -> f64 {
+    times(rounds, before, call)[rounds / 2]
 }
 
 /// Numbers from 1 to k, without end.
@@ -179,12 +188,96 @@ fn files() {
     }
 }
 
+/// The cells of the lists that are compared, and the rounds of each.
+const CELLS: [(u32, usize); 3] = [(4_096, 201), (32_768, 61), (MOST_CELLS, 21)];
+/// The finds of a batch.
+const FINDS: usize = 20_000;
+
+/// Calls that none is refused of, after one check.
+fn made(list: &mut [u32], calls: &[Call]) {
+    let mut answers = vec![Answered::NONE; calls.len()];
+    assert_eq!(batch(list, calls, &mut answers), Ok(calls.len()));
+    assert!(answers.iter().all(|answer| answer.taken().is_ok()));
+}
+
+/// What is timed of a list: the words, and by their lower quartiles the ns for each word of adding them up, a find (one check), set up,
+/// sweep, write and read, and the ns of a find in a batch, the check taken off.
+struct Figures {
+    words: usize,
+    of_a_word: [f64; 6],
+    find_in_a_batch: f64,
+}
+
+/// A full list whose keys came in this order.
+fn figures(d: u32, c: u32, keys: &[u32], rounds: usize) -> Figures {
+    let quartile = |mut before: &mut dyn FnMut(), mut call: &mut dyn FnMut()| times(rounds, &mut before, &mut call)[rounds / 4];
+    let mut list = vec![0; words_needed(d, c)];
+    set_up(d, u32::MAX, c, &mut list).expect("settings in range");
+    made(&mut list, &keys.iter().map(|key| Call::insert(*key, *key)).collect::<Vec<_>>());
+    let absent = (1..).find(|key| !keys.contains(key)).expect("not every key stands");
+    let mut file = vec![0; file_length(keys.len())];
+    let mut other = list.clone();
+    // half of the keys are dead, and are freed
+    let mut half = list.clone();
+    made(&mut half, &vec![Call::take(); keys.len() / 2]);
+
+    let sum = quartile(&mut || (), &mut || _ = black_box(black_box(&list).iter().fold(0u32, |sum, w| sum.wrapping_add(*w))));
+    let check = quartile(&mut || (), &mut || assert!(matches!(find(&list, absent), Err(Refusal::NotThere { .. }))));
+    let write = quartile(&mut || (), &mut || assert_eq!(write(&list, &mut file), Ok(file_length(keys.len()))));
+    let swept = RefCell::new(&mut other);
+    let sweep = quartile(&mut || swept.borrow_mut().copy_from_slice(&half), &mut || assert!(sweep(&mut swept.borrow_mut()).is_ok()));
+    let set_up = quartile(&mut || (), &mut || assert_eq!(set_up(d, u32::MAX, c, &mut other), Ok(())));
+    let read = quartile(&mut || (), &mut || assert_eq!(read(&file, &mut other), Ok(keys.len())));
+
+    let sought = numbers(9, keys.len() as u32).map(|i| Call::find(keys[i as usize - 1]));
+    let finds: Vec<Call> = sought.take(FINDS).collect();
+    let mut answers = vec![Answered::NONE; FINDS];
+    let none = quartile(&mut || (), &mut || assert_eq!(batch(&mut list, &[], &mut []), Ok(0)));
+    let all = quartile(&mut || (), &mut || assert_eq!(batch(&mut list, &finds, &mut answers), Ok(FINDS)));
+    assert!(answers.iter().all(|answer| answer.found().is_ok()));
+    let words = list.len();
+    let of_a_word = [sum, check, set_up, sweep, write, read].map(|ns| ns / words as f64);
+    Figures { words, of_a_word, find_in_a_batch: (all - none) / FINDS as f64 }
+}
+
+fn by_the_cells() {
+    println!("by the cells of a list, full, K 4294967295: ns for each word of its buffer; ns of a find in a batch, the check taken off;");
+    println!("and check and find beside those on 4096 cells");
+    print!("{:>3} {:>7} {:<10} {:>8} {:>6} {:>6} {:>6}", "D", "C", "keys came", "words", "sum", "check", "set up");
+    println!(" {:>6} {:>6} {:>6} {:>8} {:>8} {:>8}", "sweep", "write", "read", "find", "check x", "find x");
+    for d in [8, 16] {
+        for came in ["at random", "ascending"] {
+            let mut least = None;
+            for (c, rounds) in CELLS {
+                let mut seen = BTreeSet::new();
+                let mut keys: Vec<u32> = numbers(7, u32::MAX).filter(|key| seen.insert(*key)).take(c as usize - 1).collect();
+                if came == "ascending" {
+                    keys.sort_unstable();
+                }
+                let Figures { words, of_a_word, find_in_a_batch } = figures(d, c, &keys, rounds);
+                let [check, find] = [of_a_word[1], find_in_a_batch];
+                let [least_check, least_find] = *least.get_or_insert([check, find]);
+                print!("{d:>3} {c:>7} {came:<10} {words:>8}");
+                of_a_word.iter().for_each(|ns| print!(" {ns:>6.2}"));
+                println!(" {find:>8.0} {:>8.2} {:>8.2}", check / least_check, find / least_find);
+            }
+        }
+    }
+}
+
 fn main() {
-    each_operation();
-    println!();
-    find_by_standing_keys();
-    println!();
-    many_calls();
-    println!();
-    files();
+    let wanted: Vec<String> = env::args().skip(1).collect();
+    let tables: [(&str, fn()); 5] = [
+        ("operations", each_operation),
+        ("keys", find_by_standing_keys),
+        ("batches", many_calls),
+        ("files", files),
+        ("cells", by_the_cells),
+    ];
+    for (name, print_table) in tables {
+        if wanted.is_empty() || wanted.iter().any(|wanted| wanted == name) {
+            print_table();
+            println!();
+        }
+    }
 }
