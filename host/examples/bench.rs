@@ -188,78 +188,111 @@ fn files() {
     }
 }
 
-/// The cells of the lists that are compared, and the rounds of each.
-const CELLS: [(u32, usize); 3] = [(4_096, 201), (32_768, 61), (MOST_CELLS, 21)];
+/// The cells of the lists that are compared, and how often each call is timed in a row.
+const CELLS: [(u32, usize); 3] = [(4_096, 50), (32_768, 15), (MOST_CELLS, 11)];
+/// How often all the calls on a list are timed in their turn.
+const TURNS: usize = 4;
 /// The finds of a batch.
 const FINDS: usize = 20_000;
 
-/// Calls that none is refused of, after one check.
-fn made(list: &mut [u32], calls: &[Call]) {
-    let mut answers = vec![Answered::NONE; calls.len()];
-    assert_eq!(batch(list, calls, &mut answers), Ok(calls.len()));
-    assert!(answers.iter().all(|answer| answer.taken().is_ok()));
-}
-
-/// What is timed of a list: the words, and by their lower quartiles the ns for each word of adding them up, a find (one check), set up,
-/// sweep, write and read, and the ns of a find in a batch, the check taken off.
+/// What is timed on a list, by the least of its times, since a long call is the likelier to be disturbed: the words; the ns for each word of
+/// adding them up, a find (one check), set up, sweep, write and read; the ns of an insert, a find and a take in a batch, the check taken
+/// off; and the cells that a find looks at, the mean.
 struct Figures {
     words: usize,
     of_a_word: [f64; 6],
-    find_in_a_batch: f64,
+    in_a_batch: [f64; 3],
+    looked: f64,
 }
 
-/// A full list whose keys came in this order.
+/// The list after a batch that no call is refused of.
+fn after(list: &[u32], calls: &[Call]) -> Vec<u32> {
+    let (mut list, mut answers) = (list.to_vec(), vec![Answered::NONE; calls.len()]);
+    assert_eq!(batch(&mut list, calls, &mut answers), Ok(calls.len()));
+    assert!(answers.iter().all(|answer| answer.taken().is_ok()));
+    list
+}
+
+/// Of a full list whose keys came in this order. Inserts fill it, takes take half of its keys, and a sweep frees those.
 fn figures(d: u32, c: u32, keys: &[u32], rounds: usize) -> Figures {
-    let quartile = |mut before: &mut dyn FnMut(), mut call: &mut dyn FnMut()| times(rounds, &mut before, &mut call)[rounds / 4];
-    let mut list = vec![0; words_needed(d, c)];
-    set_up(d, u32::MAX, c, &mut list).expect("settings in range");
-    made(&mut list, &keys.iter().map(|key| Call::insert(*key, *key)).collect::<Vec<_>>());
+    let mut empty = vec![0; words_needed(d, c)];
+    set_up(d, u32::MAX, c, &mut empty).expect("settings in range");
+    let inserts: Vec<Call> = keys.iter().map(|key| Call::insert(*key, *key)).collect();
+    let finds: Vec<Call> = numbers(9, keys.len() as u32).map(|i| Call::find(keys[i as usize - 1])).take(FINDS).collect();
+    let takes = vec![Call::take(); keys.len() / 2];
+    let list = after(&empty, &inserts);
+    let half = after(&list, &takes);
     let absent = (1..).find(|key| !keys.contains(key)).expect("not every key stands");
     let mut file = vec![0; file_length(keys.len())];
-    let mut other = list.clone();
-    // half of the keys are dead, and are freed
-    let mut half = list.clone();
-    made(&mut half, &vec![Call::take(); keys.len() / 2]);
+    let mut answers = vec![Answered::NONE; FINDS.max(keys.len())];
+    let mut looked = 0;
 
-    let sum = quartile(&mut || (), &mut || _ = black_box(black_box(&list).iter().fold(0u32, |sum, w| sum.wrapping_add(*w))));
-    let check = quartile(&mut || (), &mut || assert!(matches!(find(&list, absent), Err(Refusal::NotThere { .. }))));
-    let write = quartile(&mut || (), &mut || assert_eq!(write(&list, &mut file), Ok(file_length(keys.len()))));
-    let swept = RefCell::new(&mut other);
-    let sweep = quartile(&mut || swept.borrow_mut().copy_from_slice(&half), &mut || assert!(sweep(&mut swept.borrow_mut()).is_ok()));
-    let set_up = quartile(&mut || (), &mut || assert_eq!(set_up(d, u32::MAX, c, &mut other), Ok(())));
-    let read = quartile(&mut || (), &mut || assert_eq!(read(&file, &mut other), Ok(keys.len())));
-
-    let sought = numbers(9, keys.len() as u32).map(|i| Call::find(keys[i as usize - 1]));
-    let finds: Vec<Call> = sought.take(FINDS).collect();
-    let mut answers = vec![Answered::NONE; FINDS];
-    let none = quartile(&mut || (), &mut || assert_eq!(batch(&mut list, &[], &mut []), Ok(0)));
-    let all = quartile(&mut || (), &mut || assert_eq!(batch(&mut list, &finds, &mut answers), Ok(FINDS)));
-    assert!(answers.iter().all(|answer| answer.found().is_ok()));
-    let words = list.len();
-    let of_a_word = [sum, check, set_up, sweep, write, read].map(|ns| ns / words as f64);
-    Figures { words, of_a_word, find_in_a_batch: (all - none) / FINDS as f64 }
+    // a call on words that are made those of a list before
+    let words = RefCell::new(list.clone());
+    let least = |rounds: usize, from: &[u32], call: &mut dyn FnMut(&mut [u32])| {
+        times(rounds, || words.borrow_mut().copy_from_slice(from), || call(&mut words.borrow_mut()))[0]
+    };
+    let least_of_many = |call: &mut dyn FnMut(&mut [u32])| times(rounds, || (), || call(&mut words.borrow_mut()))[0];
+    let few = rounds.div_ceil(20);
+    let mut leasts = [f64::INFINITY; 11];
+    for _ in 0..TURNS {
+        let mut batched = |rounds: usize, from: &[u32], calls: &[Call]| {
+            least(rounds, from, &mut |words| assert_eq!(batch(words, calls, &mut answers), Ok(calls.len())))
+        };
+        let batches = [
+            batched(rounds, &empty, &[]),
+            batched(few, &empty, &inserts),
+            batched(rounds, &list, &[]),
+            batched(few, &list, &takes),
+            batched(rounds, &list, &finds),
+        ];
+        looked = answers[..FINDS].iter().map(|answer| answer.found().expect("a live key").looked).sum();
+        let calls = [
+            // the words are the list's now
+            least_of_many(&mut |words| _ = black_box(black_box(words).iter().fold(0u32, |sum, w| sum.wrapping_add(*w)))),
+            least_of_many(&mut |words| assert!(matches!(find(words, absent), Err(Refusal::NotThere { .. })))),
+            least_of_many(&mut |words| assert_eq!(write(words, &mut file), Ok(file_length(keys.len())))),
+            least_of_many(&mut |words| assert_eq!(set_up(d, u32::MAX, c, words), Ok(()))),
+            least_of_many(&mut |words| assert_eq!(read(&file, words), Ok(keys.len()))),
+            least(rounds, &half, &mut |words| assert!(sweep(words).is_ok())),
+        ];
+        let turn = batches.into_iter().chain(calls);
+        leasts.iter_mut().zip(turn).for_each(|(least, ns)| *least = least.min(ns));
+    }
+    let [no_inserts, all_inserts, none, all_takes, all_finds, sum, check, write, set_up, read, sweep] = leasts;
+    Figures {
+        words: list.len(),
+        of_a_word: [sum, check, set_up, sweep, write, read].map(|ns| ns / list.len() as f64),
+        in_a_batch: [
+            (all_inserts - no_inserts) / inserts.len() as f64,
+            (all_finds - none) / finds.len() as f64,
+            (all_takes - none) / takes.len() as f64,
+        ],
+        looked: f64::from(looked) / FINDS as f64,
+    }
 }
 
 fn by_the_cells() {
-    println!("by the cells of a list, full, K 4294967295: ns for each word of its buffer; ns of a find in a batch, the check taken off;");
-    println!("and check and find beside those on 4096 cells");
-    print!("{:>3} {:>7} {:<10} {:>8} {:>6} {:>6} {:>6}", "D", "C", "keys came", "words", "sum", "check", "set up");
-    println!(" {:>6} {:>6} {:>6} {:>8} {:>8} {:>8}", "sweep", "write", "read", "find", "check x", "find x");
+    println!("by the cells of a list, full, K 4294967295: ns for each word of its buffer (check is a find; before a sweep half is taken);");
+    println!("ns of an insert, find and take in a batch, the check taken off; cells that a find looks at; check and find, times C 4096");
+    print!("{:>3} {:>7} {:<10} {:>8} {:>5} {:>6} {:>6} {:>6}", "D", "C", "keys came", "words", "sum", "check", "set up", "sweep");
+    println!(" {:>6} {:>6} {:>7} {:>6} {:>6} {:>6} {:>8} {:>8}", "write", "read", "insert", "find", "take", "looked", "check x", "find x");
     for d in [8, 16] {
         for came in ["at random", "ascending"] {
-            let mut least = None;
+            let mut on_fewest = None;
             for (c, rounds) in CELLS {
                 let mut seen = BTreeSet::new();
                 let mut keys: Vec<u32> = numbers(7, u32::MAX).filter(|key| seen.insert(*key)).take(c as usize - 1).collect();
                 if came == "ascending" {
                     keys.sort_unstable();
                 }
-                let Figures { words, of_a_word, find_in_a_batch } = figures(d, c, &keys, rounds);
-                let [check, find] = [of_a_word[1], find_in_a_batch];
-                let [least_check, least_find] = *least.get_or_insert([check, find]);
-                print!("{d:>3} {c:>7} {came:<10} {words:>8}");
-                of_a_word.iter().for_each(|ns| print!(" {ns:>6.2}"));
-                println!(" {find:>8.0} {:>8.2} {:>8.2}", check / least_check, find / least_find);
+                let Figures { words, of_a_word, in_a_batch, looked } = figures(d, c, &keys, rounds);
+                let [sum, check, set_up, sweep, write, read] = of_a_word;
+                let [insert, find, take] = in_a_batch;
+                let [check_on_fewest, find_on_fewest] = *on_fewest.get_or_insert([check, find]);
+                print!("{d:>3} {c:>7} {came:<10} {words:>8} {sum:>5.2} {check:>6.2} {set_up:>6.2} {sweep:>6.2} {write:>6.2} {read:>6.2}");
+                print!(" {insert:>7.0} {find:>6.0} {take:>6.0} {looked:>6.1}");
+                println!(" {:>8.2} {:>8.2}", check / check_on_fewest, find / find_on_fewest);
             }
         }
     }

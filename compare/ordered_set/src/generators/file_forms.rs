@@ -160,7 +160,7 @@ impl Form {
 /// A file with something altered; at times it is one still.
 pub fn altered(dice: &mut Dice, form: &Form) -> Vec<u8> {
     let mut form = form.clone();
-    match dice.below(17) {
+    match dice.below(20) {
         0..=2 => one_number(dice, &mut form),
         3 => exchange_numbers(dice, &mut form),
         4 => settings_at_an_end(dice, &mut form),
@@ -173,7 +173,7 @@ pub fn altered(dice: &mut Dice, form: &Form) -> Vec<u8> {
         }
         12 => return turned_number(dice, &form),
         13 => return cut(dice, &form),
-        14 | 15 => other_count(dice, &mut form),
+        14..=18 => other_count(dice, &mut form),
         _ => return extended(dice, &form),
     }
     form.bytes()

@@ -290,13 +290,25 @@ fn keys_in_a_file() {
     assert!(!reads(u32::MAX, 3, &[u32::MAX, 0]));
 }
 
-/// What a trace's lines W and R lead to: the refusals, and how many lists were read by settings
-/// other than those that the words had.
+/// What a trace's lines W and R lead to: the refusals, how many lists were read by settings other
+/// than those that the words had, and how many reads were of tag 3 and of a file but for that tag
+/// and its four bytes.
 #[derive(Default)]
 struct Seen {
     refusals: BTreeSet<(char, u32)>,
     other_settings: u32,
     over_no_list: u32,
+    of_tag_3: u32,
+    but_for_tag_3: u32,
+}
+
+/// The same file under tag 2, with a count of two bytes, if the bytes are long enough.
+fn under_tag_2(bytes: &[u8]) -> Option<Vec<u8>> {
+    let (before, after) = (bytes.get(..31)?, bytes.get(33..)?);
+    let mut file = [before, after].concat();
+    file[10] = 2;
+    file[15..19].copy_from_slice(&(after.len() as u32).to_be_bytes());
+    Some(file)
 }
 
 /// A refused call alters nothing. A write leaves the words; a read leaves the bytes, and the words
@@ -319,6 +331,12 @@ fn see(trace: &[u8], seen: &mut Seen) {
             _ => continue,
         };
         seen.refusals.insert((letter, answer.refusal));
+        if letter == 'R' && bytes.get(10) == Some(&3) {
+            assert_eq!(answer, Answer::refused(11), "a trace has no bytes for so many keys");
+            let few = under_tag_2(&bytes).and_then(|file| Kept::in_file(&file));
+            seen.of_tag_3 += 1;
+            seen.but_for_tag_3 += u32::from(few.is_some());
+        }
         assert!(words == state.words || letter == 'R' && answer.refusal == 0, "words altered");
         assert!(bytes == state.bytes || letter == 'W' && answer.refusal == 0, "bytes altered");
         if letter == 'R' && answer.refusal == 0 {
@@ -353,10 +371,12 @@ fn traces_of_files() {
     let mut edges = Seen::default();
     see(&generated("gen-edges", 0, usize::MAX), &mut edges);
     assert_eq!(edges.refusals, every);
+    assert!(edges.of_tag_3 > 100 && edges.but_for_tag_3 > 20);
     let mut seen = Seen::default();
     (1..=8).for_each(|seed| see(&generated("gen-files", seed, 1500), &mut seen));
     assert_eq!(seen.refusals, every);
     assert!(seen.other_settings > 20 && seen.over_no_list > 20);
+    assert!(seen.of_tag_3 > 60 && seen.but_for_tag_3 > 20);
 }
 
 /// A list and the one read from its file give the same takes but for passed.
