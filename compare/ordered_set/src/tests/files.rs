@@ -62,7 +62,8 @@ fn printed_file() {
     let printed = "02  01 00000013 0000000c  02 0000001f 0000000a  00000002 0000000f 00000008  \
                    0001 00000006 0000003c";
     assert_eq!(digits(&file(&after("U 2 15 8 71|N 6 60"))), printed.replace(' ', ""));
-    let begins = "02  01 00000013 0000000c  03 0000001f 00080004  00000002 ffffffff 00040000  00010000";
+    let begins =
+        "02  01 00000013 0000000c  03 0000001f 00080004  00000002 ffffffff 00040000  00010000";
     let words = read_in([2, u32::MAX, 262_144], &keys_in_a_row(65_536));
     let mut room = vec![0; 524_323];
     assert_eq!(write(&words, &mut room), Answer::done(0, 0, 524_323));
