@@ -61,9 +61,24 @@ fn bytes_of_a_file() {
 fn printed_file() {
     let printed = "02  01 00000013 0000000c  02 0000001f 0000000a  00000002 0000000f 00000008  \
                    0001 00000006 0000003c";
-    let bytes = file(&after("U 2 15 8 71|N 6 60"));
-    let digits: String = bytes.iter().map(|byte| format!("{byte:02x}")).collect();
-    assert_eq!(digits, printed.replace(' ', ""));
+    assert_eq!(digits(&file(&after("U 2 15 8 71|N 6 60"))), printed.replace(' ', ""));
+    let begins =
+        "02  01 00000013 0000000c  03 0000001f 00080004  00000002 ffffffff 00040000  00010000";
+    let words = read_in([2, u32::MAX, 262_144], &keys_in_a_row(65_536));
+    let mut room = vec![0; 524_323];
+    assert_eq!(write(&words, &mut room), Answer::done(0, 0, 524_323));
+    assert_eq!(digits(&room[..35]), begins.replace(' ', ""));
+}
+
+fn digits(bytes: &[u8]) -> String {
+    bytes.iter().map(|byte| format!("{byte:02x}")).collect()
+}
+
+/// The list that a file with these settings and pairs is read as.
+fn read_in([d, k, c]: [u32; 3], pairs: &[(u32, u32)]) -> Vec<u32> {
+    let mut words = vec![7; exact_length(d as usize, c as usize)];
+    assert_eq!(read(&Form::new([d, k, c], pairs).bytes(), &mut words).refusal, 0);
+    words
 }
 
 #[test]
