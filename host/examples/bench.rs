@@ -5,10 +5,15 @@
 //! Then the time of each of many calls: made alone, made in one batch, which checks the list once, and made on the map. `drain` takes all.
 //!
 //! Then write and read of full lists, beside one check of the same list, for which a find stands.
+//!
+//! Then full lists by their cells, up to as many as there can be: what the calls cost for each word, and what a find in a batch costs.
+//!
+//! Names as arguments (`operations`, `keys`, `batches`, `files`, `cells`) ask for those tables alone.
 
 use mdlist_host::*;
 use std::cell::RefCell;
-use std::collections::BTreeMap;
+use std::collections::{BTreeMap, BTreeSet};
+use std::env;
 use std::hint::black_box;
 use std::time::Instant;
 
@@ -25,8 +30,8 @@ const CALLS: u32 = 1000;
 const LISTS: [(u32, u32, u32); 5] =
     [(8, 1_048_575, 512), (8, u32::MAX, 1024), (8, u32::MAX, 4096), (16, u32::MAX, 4096), (2, u32::MAX, 4096)];
 
-/// The median time of a call in nanoseconds; `before` is not timed.
-fn median(rounds: usize, mut before: impl FnMut(), mut call: impl FnMut()) -> f64 {
+/// The times of a call in nanoseconds, the least first; `before` is not timed.
+fn times(rounds: usize, mut before: impl FnMut(), mut call: impl FnMut()) -> Vec<f64> {
     let mut times = Vec::with_capacity(rounds);
     for _ in 0..rounds {
         before();
@@ -35,7 +40,11 @@ fn median(rounds: usize, mut before: impl FnMut(), mut call: impl FnMut()) -> f6
         times.push(start.elapsed().as_nanos() as f64);
     }
     times.sort_by(f64::total_cmp);
-    times[rounds / 2]
+    times
+}
+
+fn median(rounds: usize, before: impl FnMut(), call: impl FnMut()) -> f64 {
+    times(rounds, before, call)[rounds / 2]
 }
 
 /// Numbers from 1 to k, without end.
@@ -179,12 +188,129 @@ fn files() {
     }
 }
 
+/// The cells of the lists that are compared, and how often each call is timed in a row.
+const CELLS: [(u32, usize); 3] = [(4_096, 50), (32_768, 15), (MOST_CELLS, 11)];
+/// How often all the calls on a list are timed in their turn.
+const TURNS: usize = 4;
+/// The finds of a batch.
+const FINDS: usize = 20_000;
+
+/// What is timed on a list, by the least of its times, since a long call is the likelier to be disturbed: the words; the ns for each word of
+/// adding them up, a find (one check), set up, sweep, write and read; the ns of an insert, a find and a take in a batch, the check taken
+/// off; and the cells that a find looks at, the mean.
+struct Figures {
+    words: usize,
+    of_a_word: [f64; 6],
+    in_a_batch: [f64; 3],
+    looked: f64,
+}
+
+/// The list after a batch that no call is refused of.
+fn after(list: &[u32], calls: &[Call]) -> Vec<u32> {
+    let (mut list, mut answers) = (list.to_vec(), vec![Answered::NONE; calls.len()]);
+    assert_eq!(batch(&mut list, calls, &mut answers), Ok(calls.len()));
+    assert!(answers.iter().all(|answer| answer.taken().is_ok()));
+    list
+}
+
+/// Of a full list whose keys came in this order. Inserts fill it, takes take half of its keys, and a sweep frees those.
+fn figures(d: u32, c: u32, keys: &[u32], rounds: usize) -> Figures {
+    let mut empty = vec![0; words_needed(d, c)];
+    set_up(d, u32::MAX, c, &mut empty).expect("settings in range");
+    let inserts: Vec<Call> = keys.iter().map(|key| Call::insert(*key, *key)).collect();
+    let finds: Vec<Call> = numbers(9, keys.len() as u32).map(|i| Call::find(keys[i as usize - 1])).take(FINDS).collect();
+    let takes = vec![Call::take(); keys.len() / 2];
+    let list = after(&empty, &inserts);
+    let half = after(&list, &takes);
+    let absent = (1..).find(|key| !keys.contains(key)).expect("not every key stands");
+    let mut file = vec![0; file_length(keys.len())];
+    let mut answers = vec![Answered::NONE; FINDS.max(keys.len())];
+    let mut looked = 0;
+
+    // a call on words that are made those of a list before
+    let words = RefCell::new(list.clone());
+    let least = |rounds: usize, from: &[u32], call: &mut dyn FnMut(&mut [u32])| {
+        times(rounds, || words.borrow_mut().copy_from_slice(from), || call(&mut words.borrow_mut()))[0]
+    };
+    let least_of_many = |call: &mut dyn FnMut(&mut [u32])| times(rounds, || (), || call(&mut words.borrow_mut()))[0];
+    let few = rounds.div_ceil(20);
+    let mut leasts = [f64::INFINITY; 11];
+    for _ in 0..TURNS {
+        let mut batched = |rounds: usize, from: &[u32], calls: &[Call]| {
+            least(rounds, from, &mut |words| assert_eq!(batch(words, calls, &mut answers), Ok(calls.len())))
+        };
+        let batches = [
+            batched(rounds, &empty, &[]),
+            batched(few, &empty, &inserts),
+            batched(rounds, &list, &[]),
+            batched(few, &list, &takes),
+            batched(rounds, &list, &finds),
+        ];
+        looked = answers[..FINDS].iter().map(|answer| answer.found().expect("a live key").looked).sum();
+        let calls = [
+            // the words are the list's now
+            least_of_many(&mut |words| _ = black_box(black_box(words).iter().fold(0u32, |sum, w| sum.wrapping_add(*w)))),
+            least_of_many(&mut |words| assert!(matches!(find(words, absent), Err(Refusal::NotThere { .. })))),
+            least_of_many(&mut |words| assert_eq!(write(words, &mut file), Ok(file_length(keys.len())))),
+            least_of_many(&mut |words| assert_eq!(set_up(d, u32::MAX, c, words), Ok(()))),
+            least_of_many(&mut |words| assert_eq!(read(&file, words), Ok(keys.len()))),
+            least(rounds, &half, &mut |words| assert!(sweep(words).is_ok())),
+        ];
+        let turn = batches.into_iter().chain(calls);
+        leasts.iter_mut().zip(turn).for_each(|(least, ns)| *least = least.min(ns));
+    }
+    let [no_inserts, all_inserts, none, all_takes, all_finds, sum, check, write, set_up, read, sweep] = leasts;
+    Figures {
+        words: list.len(),
+        of_a_word: [sum, check, set_up, sweep, write, read].map(|ns| ns / list.len() as f64),
+        in_a_batch: [
+            (all_inserts - no_inserts) / inserts.len() as f64,
+            (all_finds - none) / finds.len() as f64,
+            (all_takes - none) / takes.len() as f64,
+        ],
+        looked: f64::from(looked) / FINDS as f64,
+    }
+}
+
+fn by_the_cells() {
+    println!("by the cells of a list, full, K 4294967295: ns for each word of its buffer (check is a find; before a sweep half is taken);");
+    println!("ns of an insert, find and take in a batch, the check taken off; cells that a find looks at; check and find, times C 4096");
+    print!("{:>3} {:>7} {:<10} {:>8} {:>5} {:>6} {:>6} {:>6}", "D", "C", "keys came", "words", "sum", "check", "set up", "sweep");
+    println!(" {:>6} {:>6} {:>7} {:>6} {:>6} {:>6} {:>8} {:>8}", "write", "read", "insert", "find", "take", "looked", "check x", "find x");
+    for d in [8, 16] {
+        for came in ["at random", "ascending"] {
+            let mut on_fewest = None;
+            for (c, rounds) in CELLS {
+                let mut seen = BTreeSet::new();
+                let mut keys: Vec<u32> = numbers(7, u32::MAX).filter(|key| seen.insert(*key)).take(c as usize - 1).collect();
+                if came == "ascending" {
+                    keys.sort_unstable();
+                }
+                let Figures { words, of_a_word, in_a_batch, looked } = figures(d, c, &keys, rounds);
+                let [sum, check, set_up, sweep, write, read] = of_a_word;
+                let [insert, find, take] = in_a_batch;
+                let [check_on_fewest, find_on_fewest] = *on_fewest.get_or_insert([check, find]);
+                print!("{d:>3} {c:>7} {came:<10} {words:>8} {sum:>5.2} {check:>6.2} {set_up:>6.2} {sweep:>6.2} {write:>6.2} {read:>6.2}");
+                print!(" {insert:>7.0} {find:>6.0} {take:>6.0} {looked:>6.1}");
+                println!(" {:>8.2} {:>8.2}", check / check_on_fewest, find / find_on_fewest);
+            }
+        }
+    }
+}
+
 fn main() {
-    each_operation();
-    println!();
-    find_by_standing_keys();
-    println!();
-    many_calls();
-    println!();
-    files();
+    let wanted: Vec<String> = env::args().skip(1).collect();
+    let tables: [(&str, fn()); 5] = [
+        ("operations", each_operation),
+        ("keys", find_by_standing_keys),
+        ("batches", many_calls),
+        ("files", files),
+        ("cells", by_the_cells),
+    ];
+    for (name, print_table) in tables {
+        if wanted.is_empty() || wanted.iter().any(|wanted| wanted == name) {
+            print_table();
+            println!();
+        }
+    }
 }

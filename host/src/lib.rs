@@ -274,24 +274,44 @@ pub struct Recorded {
 /// ```
 pub const NONE_YET: u64 = 4_294_967_296;
 
+/// The most cells that a list can have.
+///
+/// ```
+/// # use mdlist_host::*;
+/// let mut words = vec![0; words_needed(2, MOST_CELLS)];
+/// assert_eq!(set_up(2, 15, MOST_CELLS, &mut words), Ok(()));
+/// assert_eq!(set_up(2, 15, MOST_CELLS + 1, &mut words), Err(Refusal::OutOfRange));
+/// ```
+pub const MOST_CELLS: u32 = 262_144;
+
 /// How many words a list with D dimensions and C cells has: 5 + D + C(6+D).
 ///
 /// ```
-/// assert_eq!(mdlist_host::words_needed(8, 512), 7_181);
+/// # use mdlist_host::{words_needed, MOST_CELLS};
+/// assert_eq!(words_needed(8, 512), 7_181);
+/// assert_eq!(words_needed(16, MOST_CELLS), 5_767_189);
 /// ```
 pub const fn words_needed(d: u32, c: u32) -> usize {
     5 + d as usize + c as usize * (6 + d as usize)
 }
 
-/// How many bytes the file of a list with so many live keys has: 33 and 8 for each. With C cells there are C - 1 at most.
+/// The most live keys whose number stands in a file in two bytes; that of more has four.
+const MOST_IN_TWO_BYTES: usize = 65_535;
+
+/// How many bytes the file of a list with so many live keys has: 33 and 8 for each, and 2 more if there are more than 65,535. With C cells
+/// there are C - 1 at most.
 ///
 /// ```
-/// # use mdlist_host::file_length;
+/// # use mdlist_host::{file_length, MOST_CELLS};
 /// assert_eq!(file_length(0), 33);
 /// assert_eq!(file_length(4_096 - 1), 32_793);
+/// assert_eq!(file_length(65_535), 524_313);
+/// assert_eq!(file_length(65_536), 524_323);
+/// assert_eq!(file_length(MOST_CELLS as usize - 1), 2_097_179);
 /// ```
 pub const fn file_length(live: usize) -> usize {
-    33 + 8 * live
+    let before_the_keys = if live <= MOST_IN_TWO_BYTES { 33 } else { 35 };
+    before_the_keys + 8 * live
 }
 
 fn checked(a: sys::Answer) -> Result<sys::Answer, Refusal> {
@@ -314,7 +334,7 @@ fn checked(a: sys::Answer) -> Result<sys::Answer, Refusal> {
     }
 }
 
-/// Makes the words a fresh list with D dimensions (2 to 16), keys 1 to K, and C cells (3 to 4,096) of which one is the head.
+/// Makes the words a fresh list with D dimensions (2 to 16), keys 1 to K, and C cells (3 to [`MOST_CELLS`]) of which one is the head.
 ///
 /// ```
 /// use mdlist_host::{set_up, Refusal};

@@ -223,12 +223,12 @@ fn list_on_other_words() {
 
 #[test]
 fn edges() {
-    for (d, k, c) in [(1, 15, 8), (17, 15, 8), (2, 0, 8), (2, 15, 2), (2, 15, 4097)] {
+    for (d, k, c) in [(1, 15, 8), (17, 15, 8), (2, 0, 8), (2, 15, 2), (2, 15, MOST_CELLS + 1), (2, 15, u32::MAX)] {
         let mut l = vec![7; 200_000];
         assert_eq!(set_up(d, k, c, &mut l), Err(Refusal::OutOfRange));
         assert!(l.iter().all(|w| *w == 7));
     }
-    for (d, k, c) in [(2, 15, 8), (16, u32::MAX, 4096), (2, 1, 3)] {
+    for (d, k, c) in [(2, 15, 8), (16, u32::MAX, 4096), (16, u32::MAX, 4097), (2, 1, 3)] {
         for n in [0, words_needed(d, c) - 1, words_needed(d, c) + 1] {
             let mut l = vec![7; n];
             assert_eq!(set_up(d, k, c, &mut l), Err(Refusal::WrongLength));

@@ -23,6 +23,8 @@ const GUARD: usize = 4_096;
 
 const DIMENSIONS: [u32; 3] = [2, 8, 16];
 const K: u32 = u32::MAX;
+
+/// The cells of most lists; there is one of each kind with `MOST_CELLS` too.
 const C: u32 = 4_096;
 
 /// The functions of the archive. Their addresses alone are used: `Stack::call` puts the arguments into the registers itself, so that no
@@ -110,7 +112,7 @@ impl Stack {
 
 /// A call that is measured, with what is lent to it besides the list.
 enum Asked<'a> {
-    SetUp(u32),
+    SetUp(u32, u32),
     Insert(u32),
     Find(u32),
     Finish(u32),
@@ -126,7 +128,7 @@ enum Asked<'a> {
 fn measured(stack: &mut Stack, list: &mut [u32], asked: Asked<'_>) -> (u32, usize) {
     let (words, len, value) = (list.as_mut_ptr() as usize, list.len(), 1);
     let (function, arguments): (unsafe extern "C" fn(), _) = match asked {
-        Asked::SetUp(d) => (sys::mdlist_set_up, [d as usize, K as usize, C as usize, words, len, 0]),
+        Asked::SetUp(d, c) => (sys::mdlist_set_up, [d as usize, K as usize, c as usize, words, len, 0]),
         Asked::Insert(key) => (sys::mdlist_insert, [words, len, key as usize, value, 0, 0]),
         Asked::Find(key) => (sys::mdlist_find, [words, len, key as usize, 0, 0, 0]),
         Asked::Finish(key) => (sys::mdlist_finish, [words, len, key as usize, 0, 0, 0]),
@@ -148,19 +150,19 @@ fn measured(stack: &mut Stack, list: &mut [u32], asked: Asked<'_>) -> (u32, usiz
     (result as u32, bytes)
 }
 
-/// The calls that were made, each with the D of its list and the bytes of stack that it needed.
+/// The calls that were made, each with the D and C of its list and the bytes of stack that it needed.
 struct Measure {
     stack: Stack,
-    made: Vec<(&'static str, u32, usize)>,
+    made: Vec<(&'static str, [u32; 2], usize)>,
 }
 
 impl Measure {
     /// Makes a call on a copy of the list, and looks that the refusal is the expected one, so that the call goes the way that is meant.
     fn make(&mut self, name: &'static str, list: &[u32], asked: Asked<'_>, expected: u32) {
-        let d = list[0];
+        let (d, c) = (list[0], list[2]);
         let (refusal, bytes) = measured(&mut self.stack, &mut list.to_vec(), asked);
-        assert_eq!(refusal, expected, "{name}, D = {d}");
-        self.made.push((name, d, bytes));
+        assert_eq!(refusal, expected, "{name}, D = {d}, C = {c}");
+        self.made.push((name, [d, c], bytes));
     }
 
     /// Makes a batch in the same way, with the expected refusal of each of its calls.
@@ -173,18 +175,20 @@ impl Measure {
         assert_eq!(refusals, expected, "{name}, D = {}", list[0]);
     }
 
-    /// The most bytes that a call of that name needed on a list of that D.
-    fn most(&self, name: &str, d: u32) -> usize {
-        self.made.iter().filter(|made| (made.0, made.1) == (name, d)).map(|made| made.2).max().unwrap_or(0)
+    /// The most bytes that a call of that name needed on a list of that D and C.
+    fn most(&self, name: &str, sizes: [u32; 2]) -> usize {
+        self.made.iter().filter(|made| (made.0, made.1) == (name, sizes)).map(|made| made.2).max().unwrap_or(0)
     }
 
-    /// The bytes by call and D, as the documents have tables.
+    /// The bytes by call, D and C, as the documents have tables.
     fn table(&self) -> String {
         let mut seen = BTreeSet::new();
         let names = self.made.iter().map(|made| made.0).filter(|name| seen.insert(*name));
-        let rows = names.map(|name| format!("| {name} |{}\n", DIMENSIONS.map(|d| format!(" {} |", self.most(name, d))).concat()));
-        let head = DIMENSIONS.map(|d| format!(" D = {d} |")).concat();
-        format!("| call |{head}\n|---|{}\n{}", "---|".repeat(DIMENSIONS.len()), rows.collect::<String>())
+        let sizes: Vec<[u32; 2]> = [C, MOST_CELLS].iter().flat_map(|c| DIMENSIONS.map(|d| [d, *c])).collect();
+        let cells = |cell: &dyn Fn([u32; 2]) -> String| sizes.iter().map(|sizes| format!(" {} |", cell(*sizes))).collect::<String>();
+        let rows = names.map(|name| format!("| {name} |{}\n", cells(&|sizes| self.most(name, sizes).to_string())));
+        let head = cells(&|[d, c]| format!("D = {d}, C = {c}"));
+        format!("| call |{head}\n|---|{}\n{}", "---|".repeat(sizes.len()), rows.collect::<String>())
     }
 }
 
@@ -238,7 +242,8 @@ fn after(list: &[u32], calls: &[Call]) -> Vec<u32> {
 
 /// The file of a list.
 fn written(list: &[u32]) -> Vec<u8> {
-    let mut file = vec![0; file_length(C as usize - 1)];
+    // word 2 is C
+    let mut file = vec![0; file_length(list[2] as usize - 1)];
     let length = write(list, &mut file).expect("a list and room for any file");
     file.truncate(length);
     file
@@ -254,7 +259,7 @@ fn cell(list: &[u32], x: u32) -> Range<usize> {
 
 /// The keys whose cells owe.
 fn owing(list: &[u32]) -> Vec<u32> {
-    (1..C).map(|x| &list[cell(list, x)]).filter(|words| words[3] != 0).map(|words| words[0]).collect()
+    (1..list[2]).map(|x| &list[cell(list, x)]).filter(|words| words[3] != 0).map(|words| words[0]).collect()
 }
 
 /// The list with all links of a cell, its last words, leading to that cell, which is no list.
@@ -266,11 +271,11 @@ fn damaged(list: &[u32], x: u32) -> Vec<u32> {
 }
 
 impl Lists {
-    fn of(d: u32, mut keys: Vec<u32>) -> Lists {
+    fn of([d, c]: [u32; 2], mut keys: Vec<u32>) -> Lists {
         let inserts: Vec<Call> = keys.iter().map(|key| Call::insert(*key, key / 2)).collect();
         let half = keys.len() / 2;
         let takes = vec![Call::take(); half];
-        let empty = fresh(d, K, C);
+        let empty = fresh(d, K, c);
         let (all, less) = (after(&empty, &inserts), after(&empty, &inserts[..inserts.len() - 1]));
         let (all_taken, less_taken) = (after(&all, &takes), after(&less, &takes));
         keys.sort_unstable();
@@ -301,7 +306,7 @@ impl Lists {
     /// Makes every call, some on several lists, for a call may need more on one than on another.
     fn make_all(&self, measure: &mut Measure) {
         let Lists { all, all_taken, live, .. } = self;
-        measure.make("set_up", all, Asked::SetUp(all[0]), 0);
+        measure.make("set_up", all, Asked::SetUp(all[0], all[2]), 0);
         // word 4 is the first free cell, if there is one
         let if_full = if all[4] == 0 { 6 } else { 0 };
         let for_new_key = [(&self.less, 0), (&self.less_taken, 0), (all, if_full)];
@@ -335,7 +340,8 @@ impl Lists {
                 measure.make("read, bytes that are no file", all, Asked::Read(&twice), 11);
             }
         }
-        for x in (1..C).step_by(256) {
+        // of large lists a few, since each is checked whole
+        for x in (1..all[2]).step_by(if all[2] == C { 256 } else { all[2] as usize / 3 }) {
             measure.make("write, words that are no list", &damaged(all, x), Asked::Write(&mut [0; 32]), 3);
             measure.make("find, words that are no list", &damaged(all, x), Asked::Find(*live), 3);
         }
@@ -347,13 +353,21 @@ fn every_call_needs_at_most_2_kib() {
     let mut measure = Measure { stack: Stack::new(), made: Vec::new() };
     for d in DIMENSIONS {
         for many in [C - 1, C / 2] {
-            let lists = Lists::of(d, random_keys(d, many));
+            let lists = Lists::of([d, C], random_keys(d, many));
             assert!(owing(&lists.all_taken).len() > 5, "too few cells owe");
             lists.make_all(&mut measure);
         }
     }
     // siblings, each hanging from the one before, for they differ in the last coordinate alone
-    Lists::of(2, (1..C).collect()).make_all(&mut measure);
+    Lists::of([2, C], (1..C).collect()).make_all(&mut measure);
+    // the largest lists: full, in random order, and at D = 2, where that would walk far, descending siblings in a few long rows
+    for d in [8, 16] {
+        let lists = Lists::of([d, MOST_CELLS], random_keys(d, MOST_CELLS - 1));
+        assert!(owing(&lists.all_taken).len() > 5, "too few cells owe");
+        lists.make_all(&mut measure);
+    }
+    let above_new = new_key() + 1;
+    Lists::of([2, MOST_CELLS], (above_new..above_new + MOST_CELLS - 1).rev().collect()).make_all(&mut measure);
     let table = measure.table();
     println!("{table}");
     assert!(measure.made.iter().all(|made| made.2 <= MOST), "a call needs more than {MOST} bytes:\n{table}");

@@ -10,11 +10,17 @@ use crate::reading::list;
 use crate::settings::Settings;
 use std::collections::BTreeMap;
 
-/// Files 2: the tags of the bodies, in their order.
-const TAGS: [u8; 2] = [1, 2];
+/// Files 2: the settings body and the entries body.
+const BODIES: usize = 2;
 
 /// Files 2: the number of bodies, and a tag, an offset and a length for each.
-const TABLE_LENGTH: usize = 1 + TAGS.len() * 9;
+const TABLE_LENGTH: usize = 1 + BODIES * 9;
+
+/// Files 2: the tags of the bodies. Which of the two an entries body has, and how its count is
+/// written, is decided by the number of keys.
+const SETTINGS_TAG: u8 = 1;
+const FEW_TAG: u8 = 2;
+const MANY_TAG: u8 = 3;
 
 /// What a file keeps: the settings, and each live key with its value.
 #[derive(Debug, PartialEq)]
@@ -75,56 +81,66 @@ impl Kept {
     }
 
     /// Files 2.
-    fn file(&self) -> Vec<u8> {
+    pub fn file(&self) -> Vec<u8> {
         let bodies = [self.settings_body(), self.entries_body()];
-        let mut file = vec![TAGS.len() as u8];
+        let mut file = vec![BODIES as u8];
         let mut offset = TABLE_LENGTH;
-        for (tag, body) in TAGS.iter().zip(&bodies) {
+        for (tag, body) in &bodies {
             file.push(*tag);
             file.extend((offset as u32).to_be_bytes());
             file.extend((body.len() as u32).to_be_bytes());
             offset += body.len();
         }
-        file.extend(bodies.concat());
+        bodies.iter().for_each(|(_, body)| file.extend(body));
         file
     }
 
     /// Files 3.
-    fn settings_body(&self) -> Vec<u8> {
+    fn settings_body(&self) -> (u8, Vec<u8>) {
         let Settings { dimensions, largest_key, cells, .. } = self.settings;
-        [dimensions as u32, largest_key, cells as u32].map(u32::to_be_bytes).concat()
+        let numbers = [dimensions as u32, largest_key, cells as u32];
+        (SETTINGS_TAG, numbers.map(u32::to_be_bytes).concat())
     }
 
     /// Files 4.
-    fn entries_body(&self) -> Vec<u8> {
-        let mut body = (self.waiting.len() as u16).to_be_bytes().to_vec();
+    fn entries_body(&self) -> (u8, Vec<u8>) {
+        let many = self.waiting.len();
+        let (tag, mut body) = match u16::try_from(many) {
+            Ok(few) => (FEW_TAG, few.to_be_bytes().to_vec()),
+            Err(_) => (MANY_TAG, (many as u32).to_be_bytes().to_vec()),
+        };
         for (key, value) in &self.waiting {
             body.extend(key.to_be_bytes());
             body.extend(value.to_be_bytes());
         }
-        body
+        (tag, body)
     }
 
     /// Files 5: None where the bytes are no file.
     pub fn in_file(bytes: &[u8]) -> Option<Kept> {
-        let [settings, entries] = bodies(bytes)?;
+        let [(first, settings), (second, entries)] = bodies(bytes)?;
+        if first != SETTINGS_TAG {
+            return None;
+        }
         let settings = read_settings(settings)?;
-        let waiting = read_entries(entries, &settings)?;
+        let waiting = read_entries(second, entries, &settings)?;
         Some(Kept { settings, waiting })
     }
 }
 
-/// Each body begins where what is before it ends, and the last one ends with the file.
-fn bodies(bytes: &[u8]) -> Option<[&[u8]; TAGS.len()]> {
+/// The bodies with their tags. Each begins where what is before it ends, and the last one ends
+/// with the file.
+fn bodies(bytes: &[u8]) -> Option<[(u8, &[u8]); BODIES]> {
     let (table, mut after) = bytes.split_at_checked(TABLE_LENGTH)?;
     let mut table = Rest(table);
-    let mut bodies = [after; TAGS.len()];
+    let mut bodies = [(0, after); BODIES];
     if table.byte()? as usize != bodies.len() {
         return None;
     }
-    for (tag, body) in TAGS.iter().zip(&mut bodies) {
-        let (is_next, begins) = (table.byte()? == *tag, bytes.len() - after.len());
-        if !is_next || table.word()? as usize != begins {
+    for (tag, body) in &mut bodies {
+        let begins = bytes.len() - after.len();
+        *tag = table.byte()?;
+        if table.word()? as usize != begins {
             return None;
         }
         (*body, after) = after.split_at_checked(table.word()? as usize)?;
@@ -139,9 +155,9 @@ fn read_settings(body: &[u8]) -> Option<Settings> {
 }
 
 /// A key has to be in range, and to stand above all before it.
-fn read_entries(body: &[u8], settings: &Settings) -> Option<BTreeMap<u32, u32>> {
+fn read_entries(tag: u8, body: &[u8], settings: &Settings) -> Option<BTreeMap<u32, u32>> {
     let mut rest = Rest(body);
-    let many = usize::from(rest.byte()?) * 256 + usize::from(rest.byte()?);
+    let many = read_count(tag, &mut rest)?;
     let mut waiting = BTreeMap::new();
     while !rest.0.is_empty() {
         let (key, value) = (rest.word()?, rest.word()?);
@@ -152,6 +168,15 @@ fn read_entries(body: &[u8], settings: &Settings) -> Option<BTreeMap<u32, u32>> 
         waiting.insert(key, value);
     }
     (waiting.len() == many && many < settings.cells).then_some(waiting)
+}
+
+/// Files 4: the tag says how many bytes the count has. A count that fits two has no other.
+fn read_count(tag: u8, rest: &mut Rest) -> Option<usize> {
+    match tag {
+        FEW_TAG => Some(usize::from(rest.byte()?) * 256 + usize::from(rest.byte()?)),
+        MANY_TAG => Some(rest.word()? as usize).filter(|many| *many > 65_535),
+        _ => None,
+    }
 }
 
 /// The bytes that are not read yet.

@@ -7,6 +7,7 @@ use crate::lines::{answer_each, number};
 use crate::operations::{perform, Answer, Call, LINE_NOT_READABLE};
 use crate::records::{record, NONE_YET};
 use crate::runs::Runs;
+use crate::settings::cells_within;
 use std::io::{BufRead, Write};
 
 pub const MOST_WORDS: u32 = 155_670;
@@ -171,6 +172,11 @@ fn hex_run(digits: &str) -> Option<Vec<u8>> {
     let pairs = digits.chunks_exact(2);
     let whole = pairs.remainder().is_empty() && (1..=MOST_BYTES_OF_A_LINE).contains(&pairs.len());
     whole.then(|| pairs.map(|pair| (16 * pair[0] + pair[1]) as u8).collect())
+}
+
+/// The most cells of a list of that many dimensions for which a trace can have the words.
+pub fn most_cells(dimensions: usize) -> usize {
+    cells_within(dimensions, MOST_WORDS as usize)
 }
 
 /// The checksum h starts at the number of words or bytes; for each in order h becomes

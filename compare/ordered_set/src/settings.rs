@@ -15,6 +15,9 @@ pub const BEFORE_LINKS: usize = 6;
 
 const MOST_DIMENSIONS: usize = 16;
 
+/// Numbers 1.
+pub const MOST_CELLS: usize = 262_144;
+
 #[derive(Clone, Debug, PartialEq)]
 pub struct Settings {
     pub dimensions: usize,
@@ -29,6 +32,11 @@ pub struct Settings {
 /// The words 1: the exact length; the numbers need not be in range.
 pub fn exact_length(dimensions: usize, cells: usize) -> usize {
     HEADER + dimensions + cells * (BEFORE_LINKS + dimensions)
+}
+
+/// The most cells of a list of that many dimensions which has no more than so many words.
+pub fn cells_within(dimensions: usize, words: usize) -> usize {
+    (words - HEADER - dimensions) / (BEFORE_LINKS + dimensions)
 }
 
 /// Numbers 3.
@@ -58,7 +66,8 @@ impl Settings {
     /// Numbers 1.
     pub fn new(dimensions: u32, largest_key: u32, cells: u32) -> Option<Settings> {
         let (dimensions, cells) = (dimensions as usize, cells as usize);
-        let in_range = (2..=MOST_DIMENSIONS).contains(&dimensions) && (3..=4096).contains(&cells);
+        let in_range =
+            (2..=MOST_DIMENSIONS).contains(&dimensions) && (3..=MOST_CELLS).contains(&cells);
         if !in_range || largest_key == 0 {
             return None;
         }

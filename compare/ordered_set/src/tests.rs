@@ -7,10 +7,10 @@ mod runs;
 use crate::generators::edges::{FOURTEEN_STEPS, LATE_BEFORE_ALL, LATE_NOTE};
 use crate::generators::{named, whole, write};
 use crate::model::Model;
-use crate::operations::Call;
+use crate::operations::{perform, Answer, Call};
 use crate::order::order;
 use crate::reading::list;
-use crate::replay::{parse, run, Line, State};
+use crate::replay::{most_cells, parse, run, Line, State};
 use crate::settings::*;
 use std::collections::BTreeMap;
 
@@ -30,7 +30,29 @@ fn bases_are_the_table() {
     let bases: Vec<u32> = (2..=16).map(|d| base(d, u32::MAX)).collect();
     assert_eq!(bases, table);
     assert_eq!([base(2, 15), base(8, 1_048_575), base(2, 16), base(16, 1)], [4, 6, 5, 2]);
-    assert_eq!((exact_length(8, 512), exact_length(16, 4096)), (7_181, 90_133));
+    let lengths = [(8, 512), (16, 4096), (16, MOST_CELLS)].map(|(d, c)| exact_length(d, c));
+    assert_eq!(lengths, [7_181, 90_133, 5_767_189]);
+    assert_eq!([2, 8, 16].map(most_cells), [19_457, 11_118, 7_074]);
+}
+
+/// Set up at each end of C's range: the words have the exact length, or are none.
+#[test]
+fn cells_at_the_ends() {
+    for (c, refusal, on_no_words) in [
+        (2, 1, 1),
+        (3, 0, 2),
+        (4096, 0, 2),
+        (4097, 0, 2),
+        (262_143, 0, 2),
+        (262_144, 0, 2),
+        (262_145, 1, 1),
+    ] {
+        let call = Call::SetUp { d: 2, k: 15, c };
+        let mut words = vec![7; exact_length(2, c as usize)];
+        assert_eq!(perform(&mut words, &call), Answer::refused(refusal), "{c}");
+        assert_eq!(list(&words).is_some(), refusal == 0);
+        assert_eq!(perform(&mut [], &call), Answer::refused(on_no_words), "{c}");
+    }
 }
 
 #[test]

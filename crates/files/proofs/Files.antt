@@ -1,11 +1,11 @@
 -- Files: the parts of one, that reading undoes writing, and what the tests of a file say together.
-use mathlib.Core.Path.{_≡_, refl, sym, ap, _∙_}
+use mathlib.Core.Path.{_≡_, refl, sym, ap, ap₂, _∙_}
 use mathlib.Core.Bool.{Bool, true, false, _&&_}
 use mathlib.Core.List.{List, [], _∷_, _++_, append-assoc}
 use Prim.Native.Nat.{ℕ, _+_, _*_, _≤_, _<_}
 use native.Mathlib.Omega.{arith}
 use lib.Dec.{leb, ltb}
-use lib.ListN.{length, take, drop, length-drop, take-append-drop}
+use lib.ListN.{length, getD, take, drop, length-drop, take-append-drop}
 use lib.Seq.{take-at, drop-at}
 use borrow.Author.Tests.{ltb-true, leb-true, lt-ltb}
 use Rattle.lists.specs.Lists.{same}
@@ -15,14 +15,15 @@ use Rattle.lists.proofs.All.{All, all-append, all-zip, every-all}
 use Rattle.settings.specs.Numbers.{inRange}
 use Rattle.settings.specs.declared.Settings.{Settings}
 use Rattle.settings.proofs.Numbers.{ranges}
-use Rattle.files.specs.Files.{Pair, bigEndian, bodyAt, settingsBody, pairBytes, fileOf, bytesBefore, fileLength}
-use Rattle.files.specs.Files.{numberAt, settingsIn, pairsFrom, pairsIn, rising, keeps, isFile, contentsOf}
+use Rattle.files.specs.Files.{Pair, bigEndian, bodyAt, settingsBody, pairBytes, tagFor, countWidth, entriesStart, before, fileLength, tableOf, frontOf, fileOf}
+use Rattle.files.specs.Files.{numberAt, settingsIn, widthIn, countIn, pairsFrom, pairsIn, rising, keeps, isFile, contentsOf}
 use Rattle.files.specs.Promises.{Kept}
 use Rattle.files.specs.declared.Contents.the-variants.{IsFile, NotAFile}
 use Rattle.files.proofs.Numbers.{Bytes, bytes-drop, bytes-all, big-endian-bytes}
 use Rattle.files.proofs.Parts.{number-there, next-there, number-first}
-use Rattle.files.proofs.Table.{tableOf, body-bytes, table-length}
-use Rattle.files.proofs.Written.{front-parts, file-length}
+use Rattle.files.proofs.Tags.{width-most, tag-byte, count-fits}
+use Rattle.files.proofs.Table.{body-bytes, table-length, table-tag}
+use Rattle.files.proofs.Written.{countOf, file-length}
 use Rattle.files.proofs.Pairs.{pairs-in-length, pairs-are}
 
 -- The parts of a file: the table of contents, the settings' three numbers, the number of the pairs, the pairs
@@ -31,17 +32,16 @@ pub file-parts :
     (s : Settings) (pairs : List Pair) →
     fileOf s pairs
     ≡ tableOf (length pairs)
-    ++ (bigEndian 4 (s .dimensions) ++ (bigEndian 4 (s .largest) ++ (bigEndian 4 (s .cells) ++ (bigEndian 2 (length pairs) ++ pairBytes pairs))))
-unfolding fileOf
+    ++ (bigEndian 4 (s .dimensions) ++ (bigEndian 4 (s .largest) ++ (bigEndian 4 (s .cells) ++ (countOf (length pairs) ++ pairBytes pairs))))
+unfolding fileOf frontOf
 file-parts s pairs =
     let table = tableOf (length pairs) in
     let d = bigEndian 4 (s .dimensions) in
     let k = bigEndian 4 (s .largest) in
     let c = bigEndian 4 (s .cells) in
-    let n = bigEndian 2 (length pairs) in
+    let n = countOf (length pairs) in
     let rest = n ++ pairBytes pairs in
-    ap (λ (l : List ℕ). l ++ pairBytes pairs) (front-parts s (length pairs))
-    ∙ append-assoc table (settingsBody s ++ n) (pairBytes pairs)
+    append-assoc table (settingsBody s ++ n) (pairBytes pairs)
     ∙ ap (λ (l : List ℕ). table ++ l) (
     append-assoc (settingsBody s) n (pairBytes pairs)
     ∙ append-assoc d (k ++ c) rest
@@ -64,21 +64,23 @@ file-bytes s pairs =
     let d = bigEndian 4 (s .dimensions) in
     let k = bigEndian 4 (s .largest) in
     let c = bigEndian 4 (s .cells) in
-    let n = bigEndian 2 (length pairs) in
+    let n = countOf (length pairs) in
     let r31 = n ++ pairBytes pairs in
     let r27 = c ++ r31 in
     let r23 = k ++ r27 in
+    let tag = tagFor (length pairs) in
     let all = all-append (λ byte. byte < 256) in
     let b = body-bytes in
     rw (file-parts s pairs) (bytes-all (table ++ (d ++ r23)) (
     all table (d ++ r23) (
       omega arith,
-      all (bodyAt 1 19 12) (bodyAt 2 31 (2 + 8 * length pairs)) (b 1 19 12 (omega arith)) (b 2 31 (2 + 8 * length pairs) (omega arith)),
+      all (bodyAt 1 19 12) (bodyAt tag entriesStart (countWidth tag + 8 * length pairs)) (b 1 19 12 (omega arith))
+          (b tag entriesStart (countWidth tag + 8 * length pairs) (tag-byte (length pairs))),
     ) (
     all d r23 (big-endian-bytes 4 (s .dimensions)) (
     all k r27 (big-endian-bytes 4 (s .largest)) (
     all c r31 (big-endian-bytes 4 (s .cells)) (
-    all n (pairBytes pairs) (big-endian-bytes 2 (length pairs)) (pair-bytes-bytes pairs)
+    all n (pairBytes pairs) (big-endian-bytes (countWidth tag) (length pairs)) (pair-bytes-bytes pairs)
     )
     )
     )
@@ -134,7 +136,7 @@ record Fits (s : Settings) (pairs : List Pair) : Type 0 where
   dimensions : s .dimensions < 4294967296
   largest : s .largest < 4294967296
   cells : s .cells < 4294967296
-  number : length pairs < 65536
+  number : length pairs < 4294967296
   each : All Fitting pairs
 
 fits : (s : Settings) (pairs : List Pair) → Kept s pairs → Fits s pairs
@@ -157,7 +159,7 @@ module _ (s : Settings) (pairs : List Pair) (kept : Kept s pairs) where
   file = fileOf s pairs
 
   from31 : List ℕ
-  from31 = bigEndian 2 (length pairs) ++ pairBytes pairs
+  from31 = countOf (length pairs) ++ pairBytes pairs
 
   from27 : List ℕ
   from27 = bigEndian 4 (s .cells) ++ from31
@@ -182,13 +184,24 @@ module _ (s : Settings) (pairs : List Pair) (kept : Kept s pairs) where
   unfolding from27
   at31 = next-there file from31 27 4 (s .cells) {j = 31} (omega arith) at27
 
-  at33 : drop 33 file ≡ pairBytes pairs
+  at-pairs : drop (before (length pairs)) file ≡ pairBytes pairs
   unfolding from31
-  at33 = next-there file (pairBytes pairs) 31 2 (length pairs) {j = 33} (omega arith) at31
+  at-pairs = next-there file (pairBytes pairs) 31 (countWidth (tagFor (length pairs))) (length pairs) {j = before (length pairs)} (omega arith) at31
 
-  number-read : numberAt 2 31 file ≡ length pairs
+  width-read : widthIn file ≡ countWidth (tagFor (length pairs))
+  unfolding file from23 from27 from31
+  width-read =
+      ap countWidth (table-tag file (length pairs) (
+      ap (take 19) (file-parts s pairs)
+      ∙ take-at (tableOf (length pairs)) (bigEndian 4 (s .dimensions) ++ from23) 19 (table-length (length pairs))
+      ))
+
+  number-read : countIn file ≡ length pairs
   unfolding from31
-  number-read = number-there file (pairBytes pairs) 31 2 (length pairs) (fits s pairs kept .number) at31
+  number-read =
+      let n = length pairs in
+      ap (λ w. numberAt w 31 file) width-read
+      ∙ number-there file (pairBytes pairs) 31 (countWidth (tagFor n)) n (count-fits n (fits s pairs kept .number)) at31
 
   pub settings-read : settingsIn (fileOf s pairs) ≡ s
   unfolding file from23 from27
@@ -204,7 +217,10 @@ module _ (s : Settings) (pairs : List Pair) (kept : Kept s pairs) where
 
   pub pairs-read : pairsIn (fileOf s pairs) ≡ pairs
   unfolding pairsIn file
-  pairs-read = rw (number-read, at33) (pairs-written pairs (fits s pairs kept .each))
+  pairs-read =
+      ap₂ (λ n w. pairsFrom n (drop (entriesStart + w) file)) number-read width-read
+      ∙ ap (pairsFrom (length pairs)) at-pairs
+      ∙ pairs-written pairs (fits s pairs kept .each)
 
   pub file-is-file : isFile (fileOf s pairs) ≡ true
   unfolding isFile
@@ -218,12 +234,12 @@ module _ (s : Settings) (pairs : List Pair) (kept : Kept s pairs) where
 
 pub record Tested (bytes : List ℕ) : Type 0 where
   pub range : inRange (numberAt 4 19 bytes) (numberAt 4 23 bytes) (numberAt 4 27 bytes) ≡ true
-  pub few : numberAt 2 31 bytes < numberAt 4 27 bytes
-  pub rise : rising 0 (numberAt 4 23 bytes) (pairsFrom (numberAt 2 31 bytes) (drop bytesBefore bytes)) ≡ true
+  pub few : countIn bytes < numberAt 4 27 bytes
+  pub rise : rising 0 (numberAt 4 23 bytes) (pairsIn bytes) ≡ true
   pub is : fileOf (settingsIn bytes) (pairsIn bytes) ≡ bytes
 
 pub tested : (bytes : List ℕ) → isFile bytes ≡ true → Tested bytes
-unfolding isFile pairsIn
+unfolding isFile
 tested bytes e =
     let t = both (keeps (settingsIn bytes) (pairsIn bytes)) (same (fileOf (settingsIn bytes) (pairsIn bytes)) bytes) e in
     let k = keepable (settingsIn bytes) (pairsIn bytes) (t .0) in
@@ -243,42 +259,50 @@ pub file-written : (bytes : List ℕ) → isFile bytes ≡ true → fileOf (sett
 file-written bytes e = tested bytes e .is
 
 pub tested-is-file : (bytes : List ℕ) → Tested bytes → isFile bytes ≡ true
-unfolding isFile keeps pairsIn
+unfolding isFile keeps
 tested-is-file bytes t =
     let few : length (pairsIn bytes) < numberAt 4 27 bytes = omega (arith, t .few, pairs-in-length bytes) in
     rw (t .range, lt-ltb (length (pairsIn bytes)) (numberAt 4 27 bytes) few, t .rise, t .is) (same-refl bytes)
 
 -- the bytes of a file are as many as those of its pairs ask, and begin with their table
-pub tested-length : (bytes : List ℕ) → Tested bytes → length bytes ≡ fileLength (numberAt 2 31 bytes)
+pub tested-length : (bytes : List ℕ) → Tested bytes → length bytes ≡ fileLength (countIn bytes)
 tested-length bytes t =
     ap length (sym (t .is)) ∙ file-length (settingsIn bytes) (pairsIn bytes) ∙ ap (λ n. fileLength n) (pairs-in-length bytes)
 
-pub tested-table : (bytes : List ℕ) → Tested bytes → take 19 bytes ≡ tableOf (numberAt 2 31 bytes)
+pub tested-table : (bytes : List ℕ) → Tested bytes → take 19 bytes ≡ tableOf (countIn bytes)
 tested-table bytes t =
     let s = settingsIn bytes in
     let n = length (pairsIn bytes) in
     ap (take 19) (sym (t .is) ∙ file-parts s (pairsIn bytes))
     ∙ take-at (tableOf n)
-    (bigEndian 4 (s .dimensions) ++ (bigEndian 4 (s .largest) ++ (bigEndian 4 (s .cells) ++ (bigEndian 2 n ++ pairBytes (pairsIn bytes))))) 19
+    (bigEndian 4 (s .dimensions) ++ (bigEndian 4 (s .largest) ++ (bigEndian 4 (s .cells) ++ (countOf n ++ pairBytes (pairsIn bytes))))) 19
     (table-length n)
     ∙ ap tableOf (pairs-in-length bytes)
 
+-- where the tag is that of the number, the pairs begin behind the bytes that the number has under it
+pub pairs-behind : (bytes : List ℕ) → take 19 bytes ≡ tableOf (countIn bytes) → pairsIn bytes ≡ pairsFrom (countIn bytes) (drop (before (countIn bytes)) bytes)
+unfolding pairsIn
+pairs-behind bytes table =
+    ap (λ tag. pairsFrom (countIn bytes) (drop (entriesStart + countWidth tag) bytes)) (table-tag bytes (countIn bytes) table)
+
 -- and bytes that are so many and begin so are what writing what is read gives
 pub written-again :
-    (bytes : List ℕ) → Bytes bytes → length bytes ≡ fileLength (numberAt 2 31 bytes) → take 19 bytes ≡ tableOf (numberAt 2 31 bytes) →
+    (bytes : List ℕ) → Bytes bytes → length bytes ≡ fileLength (countIn bytes) → take 19 bytes ≡ tableOf (countIn bytes) →
     fileOf (settingsIn bytes) (pairsIn bytes) ≡ bytes
-unfolding pairsIn
 written-again bytes b long table =
-    let n = numberAt 2 31 bytes in
-    let rest = drop bytesBefore bytes in
+    let n = countIn bytes in
+    let w = countWidth (tagFor n) in
+    let rest = drop (before n) bytes in
     let d = bigEndian 4 (numberAt 4 19 bytes) in
     let k = bigEndian 4 (numberAt 4 23 bytes) in
     let c = bigEndian 4 (numberAt 4 27 bytes) in
+    let count : numberAt w 31 bytes ≡ n = ap (λ tag. numberAt (countWidth tag) 31 bytes) (sym (table-tag bytes n table)) in
     file-parts (settingsIn bytes) (pairsIn bytes)
-    ∙ ap (λ m. tableOf m ++ (d ++ (k ++ (c ++ (bigEndian 2 m ++ pairBytes (pairsIn bytes)))))) (pairs-in-length bytes)
-    ∙ ap (λ (l : List ℕ). tableOf n ++ (d ++ (k ++ (c ++ (bigEndian 2 n ++ l)))))
-    (pairs-are n rest (bytes-drop bytesBefore bytes b) (omega (arith, length-drop bytesBefore bytes)))
-    ∙ ap (λ (l : List ℕ). tableOf n ++ (d ++ (k ++ (c ++ l)))) (sym (number-first bytes b 31 2 {j = 33} (omega arith) (omega arith)))
+    ∙ ap₂ (λ m (pairs : List Pair). tableOf m ++ (d ++ (k ++ (c ++ (countOf m ++ pairBytes pairs))))) (pairs-in-length bytes) (pairs-behind bytes table)
+    ∙ ap (λ (l : List ℕ). tableOf n ++ (d ++ (k ++ (c ++ (countOf n ++ l)))))
+    (pairs-are n rest (bytes-drop (before n) bytes b) (omega (arith, length-drop (before n) bytes)))
+    ∙ ap (λ m. tableOf n ++ (d ++ (k ++ (c ++ (bigEndian w m ++ rest))))) (sym count)
+    ∙ ap (λ (l : List ℕ). tableOf n ++ (d ++ (k ++ (c ++ l)))) (sym (number-first bytes b 31 w {j = before n} (omega arith) (omega arith)))
     ∙ ap (λ (l : List ℕ). tableOf n ++ (d ++ (k ++ l))) (sym (number-first bytes b 27 4 {j = 31} (omega arith) (omega arith)))
     ∙ ap (λ (l : List ℕ). tableOf n ++ (d ++ l)) (sym (number-first bytes b 23 4 {j = 27} (omega arith) (omega arith)))
     ∙ ap (λ (l : List ℕ). tableOf n ++ l) (sym (number-first bytes b 19 4 {j = 23} (omega arith) (omega arith)))
@@ -298,6 +322,6 @@ no-file bytes never = at (isFile bytes) refl
     at true e = absurd (never (tested bytes e))
     at false e = not-file bytes e
 
-pub a-file : (bytes : List ℕ) → Tested bytes → contentsOf bytes ≡ IsFile (settingsIn bytes) (numberAt 2 31 bytes)
+pub a-file : (bytes : List ℕ) → Tested bytes → contentsOf bytes ≡ IsFile (settingsIn bytes) (countIn bytes)
 unfolding contentsOf
 a-file bytes t = rw (tested-is-file bytes t, pairs-in-length bytes) refl

@@ -6,12 +6,12 @@ use Prim.Native.Nat.{ℕ, _+_, _*_, _-_, _^_, _≤_, _<_}
 use native.Mathlib.Nat.{suc-inj}
 use native.Mathlib.Omega.{arith}
 use lib.Dec.{eqb}
-use lib.ListN.{length, getD, take, drop, length-drop, take-append-drop}
-use lib.Seq.{sets, sets-eq, take-at, drop-at, drop-drop, getD-drop}
+use lib.ListN.{length, take, drop, length-drop, take-append-drop}
+use lib.Seq.{sets, sets-eq, take-at, drop-at, drop-drop}
 use borrow.Rule.Slice.PartMut.{midOf, putMid, mid-len}
 use Rattle.lists.specs.Lists.{same}
 use Rattle.files.specs.Files.{bigEndian, numberOn, numberAt}
-use Rattle.files.proofs.Numbers.{Bytes, bytes-drop, big-endian-length, number-written, written-front, number-more, number-below}
+use Rattle.files.proofs.Numbers.{Bytes, bytes-drop, big-endian-length, number-written, written-front, number-below}
 
 -- a part of n bytes from place i on, lent from `start` to `end`
 pub part-read : (bytes : List ℕ) (i n : ℕ) {start end : ℕ} → start ≡ i → end ≡ i + n → numberOn 0 (midOf start (end - start) bytes) ≡ numberAt n i bytes
@@ -31,21 +31,6 @@ part-written bytes i n v {start} {end} {ys} p q h e =
     let fits : i + length (bigEndian n v) ≤ length bytes = omega arith in
     rw (is, drop-drop (end - start) start bytes, k, p)
     (sym (sets-eq (bigEndian n v) bytes i fits ∙ append-assoc (take i bytes) (bigEndian n v) (drop (i + length (bigEndian n v)) bytes)))
-
--- the number in two bytes
-pub two-bytes : (bytes : List ℕ) (i : ℕ) → i + 2 ≤ length bytes → numberAt 2 i bytes ≡ getD bytes i 0 * 256 + getD bytes (i + 1) 0
-unfolding numberOn
-two-bytes bytes i h =
-    let rest = drop i bytes in
-    let here : i + 0 ≡ i = omega arith in
-    let first : getD rest 0 0 ≡ getD bytes i 0 = getD-drop i bytes 0 0 ∙ ap (λ j. getD bytes j 0) here in
-    omega (
-      arith,
-      number-more rest 1 (omega (arith, length-drop i bytes)),
-      number-more rest 0 (omega (arith, length-drop i bytes)),
-      first,
-      getD-drop i bytes 1 0,
-    )
 
 -- where the bytes from place i on begin with a number, it is read there, and the others begin after it
 pub number-there : (bytes rest : List ℕ) (i n v : ℕ) → v < 256 ^ n → drop i bytes ≡ bigEndian n v ++ rest → numberAt n i bytes ≡ v

@@ -9,11 +9,11 @@ use lib.Dec.{ltb}
 use lib.ListN.{length, drop, length-drop}
 use borrow.Author.Tests.{lt-ltb}
 use Rattle.lists.proofs.All.{All, all-every}
-use Rattle.files.specs.Files.{numberAt, settingsIn, pairsFrom, pairsIn, isFile, bytesBefore}
+use Rattle.files.specs.Files.{before, numberAt, settingsIn, countIn, pairsFrom, pairsIn, isFile}
 use Rattle.files.specs.Promises.{Kept, FilesExactly, WrittenIsRead}
 use Rattle.files.proofs.Numbers.{Bytes, bytes-drop}
 use Rattle.files.proofs.Parts.{number-at-below}
-use Rattle.files.proofs.Files.{tested, tested-length, file-keeps, file-bytes, settings-read, pairs-read, file-is-file, contents-read}
+use Rattle.files.proofs.Files.{tested, tested-length, tested-table, pairs-behind, file-keeps, file-bytes, settings-read, pairs-read, file-is-file, contents-read}
 
 -- values that are read out of bytes have 32 bits
 values-fit : (n : ℕ) (bytes : List ℕ) → Bytes bytes → 8 * n ≤ length bytes → All (λ p. ltb (p .value) 4294967296 ≡ true) (pairsFrom n bytes)
@@ -25,18 +25,18 @@ values-fit (suc n) bytes b h = (
 )
 
 read-kept : (bytes : List ℕ) → isFile bytes ≡ true → Kept (settingsIn bytes) (pairsIn bytes)
-unfolding pairsIn
 read-kept bytes e =
     let t = tested bytes e in
     let b : Bytes bytes = rw (← t .is) (file-bytes (settingsIn bytes) (pairsIn bytes)) in
-    let rest = drop bytesBefore bytes in
-    let n = numberAt 2 31 bytes in
+    let n = countIn bytes in
+    let rest = drop (before n) bytes in
     record {
       keeps-them = file-keeps bytes e;
       base = refl;
       values =
-          all-every (λ p. ltb (p .value) 4294967296) (pairsFrom n rest)
-          (values-fit n rest (bytes-drop bytesBefore bytes b) (omega (arith, length-drop bytesBefore bytes, tested-length bytes t)));
+          rw (pairs-behind bytes (tested-table bytes t))
+          (all-every (λ p. ltb (p .value) 4294967296) (pairsFrom n rest)
+          (values-fit n rest (bytes-drop (before n) bytes b) (omega (arith, length-drop (before n) bytes, tested-length bytes t))));
     }
 
 pub files-exactly : FilesExactly

@@ -6,25 +6,30 @@ use Prim.Native.Nat.{ℕ, suc, _+_, _*_, _≤_, _<_}
 use native.Mathlib.Numerals.{add-one}
 use native.Mathlib.Omega.{arith}
 use lib.Dec.{eqb}
-use lib.ListN.{length, getD, take, drop, length-append, length-drop}
+use lib.ListN.{length, getD, take, drop, length-append, length-drop, take-append-drop}
 use lib.Seq.{drop-cons, drop-drop, take-add, length-take-le}
 use Rattle.lists.specs.Lists.{same}
 use Rattle.lists.proofs.All.{All, all-append}
-use Rattle.files.specs.Files.{bigEndian, bodyAt, numberAt}
+use Rattle.files.specs.Files.{bigEndian, bodyAt, tagFor, countWidth, entriesStart, tableOf, numberAt}
 use Rattle.files.proofs.Numbers.{Bytes, bytes-drop, bytes-take, big-endian-length, big-endian-bytes, number-same}
 use Rattle.files.proofs.Parts.{same-append}
-
--- the table of a file with n pairs
-abbrev pub tableOf : ℕ → List ℕ
-tableOf n = 2 ∷ (bodyAt 1 19 12 ++ bodyAt 2 31 (2 + 8 * n))
 
 pub body-length : (tag offset long : ℕ) → length (bodyAt tag offset long) ≡ 9
 body-length tag offset long =
     omega (arith, length-append (bigEndian 4 offset) (bigEndian 4 long), big-endian-length 4 offset, big-endian-length 4 long)
 
+-- the second body of a file with n pairs
+abbrev entriesAt : ℕ → List ℕ
+entriesAt n = bodyAt (tagFor n) entriesStart (countWidth (tagFor n) + 8 * n)
+
 pub table-length : (n : ℕ) → length (tableOf n) ≡ 19
 table-length n =
-    omega (arith, length-append (bodyAt 1 19 12) (bodyAt 2 31 (2 + 8 * n)), body-length 1 19 12, body-length 2 31 (2 + 8 * n))
+    omega (arith, length-append (bodyAt 1 19 12) (entriesAt n), body-length 1 19 12, body-length (tagFor n) entriesStart (countWidth (tagFor n) + 8 * n))
+
+-- the tag of the second body stands at place 10
+pub table-tag : (bytes : List ℕ) (n : ℕ) → take 19 bytes ≡ tableOf n → getD bytes 10 0 ≡ tagFor n
+unfolding bigEndian
+table-tag bytes n e = ap (λ (l : List ℕ). getD l 10 0) (sym (take-append-drop 19 bytes) ∙ ap (λ (l : List ℕ). l ++ drop 19 bytes) e)
 
 pub body-bytes : (tag offset long : ℕ) → tag < 256 → All (λ byte. byte < 256) (bodyAt tag offset long)
 body-bytes tag offset long h =
@@ -75,10 +80,10 @@ same-cons x y xs ys = refl
 pub table-same :
     (bytes : List ℕ) (n : ℕ) → 19 ≤ length bytes →
     same (tableOf n) (take 19 bytes)
-    ≡ (eqb 2 (getD bytes 0 0) && (same (bodyAt 1 19 12) (take 9 (drop 1 bytes)) && same (bodyAt 2 31 (2 + 8 * n)) (take 9 (drop 10 bytes))))
+    ≡ (eqb 2 (getD bytes 0 0) && (same (bodyAt 1 19 12) (take 9 (drop 1 bytes)) && same (entriesAt n) (take 9 (drop 10 bytes))))
 table-same bytes n h =
     let body = bodyAt 1 19 12 in
-    let next = bodyAt 2 31 (2 + 8 * n) in
+    let next = entriesAt n in
     let first = length-take-le 9 (drop 1 bytes) (omega (arith, length-drop 1 bytes)) in
     ap (same (tableOf n)) (table-parts bytes h)
     ∙ same-cons 2 (getD bytes 0 0) (body ++ next) (take 9 (drop 1 bytes) ++ take 9 (drop 10 bytes))

@@ -3,8 +3,8 @@
 use mathlib.Core.Bool.{Bool, true, cond, _&&_}
 use mathlib.Core.List.{List, [], _∷_, _++_}
 use Prim.Native.Nat.{ℕ, zero, suc, _+_, _*_, _/_, _%_}
-use lib.Dec.{leb, ltb}
-use lib.ListN.{length, take, drop}
+use lib.Dec.{eqb, leb, ltb}
+use lib.ListN.{length, getD, take, drop}
 use Rattle.settings.specs.Numbers.{inRange}
 use Rattle.settings.specs.Checked.{settingsOf}
 use Rattle.settings.specs.declared.Settings.{Settings}
@@ -37,20 +37,45 @@ unfoldable pub pairBytes : List Pair → List ℕ
 pairBytes [] = []
 pairBytes (p ∷ pairs) = bigEndian 4 (p .key) ++ (bigEndian 4 (p .value) ++ pairBytes pairs)
 
--- Files 2 to 4: before them the table of contents of the two bodies, which has 19 bytes, the settings, and the number n of the pairs
+-- Files 4: .. and before them their number n, in two bytes under tag 2 or in four under tag 3
+abbrev pub mostUnderTag2 : ℕ
+mostUnderTag2 = 65535
+
+unfoldable pub tagFor : ℕ → ℕ
+tagFor n = cond (leb n mostUnderTag2) 2 3
+
+-- the bytes of the number follow the tag
+unfoldable pub countWidth : ℕ → ℕ
+countWidth tag = cond (eqb tag 3) 4 2
+
+-- Files 2: where the bodies begin: the settings behind the table of contents, the entries behind the settings' twelve bytes
+abbrev pub settingsStart : ℕ
+settingsStart = 19
+
+abbrev pub entriesStart : ℕ
+entriesStart = 31
+
+-- the bytes before n pairs, the place of pair i of n, and the bytes of the whole file
+abbrev pub before : ℕ → ℕ
+before n = entriesStart + countWidth (tagFor n)
+
+abbrev pub place : ℕ → ℕ → ℕ
+place n i = before n + 8 * i
+
+abbrev pub fileLength : ℕ → ℕ
+fileLength n = place n n
+
+-- Files 2: the table of contents of a file with n pairs: two bodies
+abbrev pub tableOf : ℕ → List ℕ
+tableOf n = 2 ∷ (bodyAt 1 settingsStart 12 ++ bodyAt (tagFor n) entriesStart (countWidth (tagFor n) + 8 * n))
+
+-- Files 2 to 4: what stands before the pairs: the table of contents, the settings, the number n of the pairs
 unfoldable pub frontOf : Settings → ℕ → List ℕ
-frontOf s n = 2 ∷ (bodyAt 1 19 12 ++ (bodyAt 2 31 (2 + 8 * n) ++ (settingsBody s ++ bigEndian 2 n)))
+frontOf s n = tableOf n ++ (settingsBody s ++ bigEndian (countWidth (tagFor n)) n)
 
 -- Files 2: no gaps, and nothing after the last pair
 unfoldable pub fileOf : Settings → List Pair → List ℕ
 fileOf s pairs = frontOf s (length pairs) ++ pairBytes pairs
-
--- the bytes before the pairs, and those of a file with n pairs
-abbrev pub bytesBefore : ℕ
-bytesBefore = 33
-
-abbrev pub fileLength : ℕ → ℕ
-fileLength n = bytesBefore + 8 * n
 
 -- Reading
 
@@ -66,13 +91,20 @@ numberAt n i bytes = numberOn 0 (take n (drop i bytes))
 abbrev pub settingsIn : List ℕ → Settings
 settingsIn bytes = settingsOf (numberAt 4 19 bytes) (numberAt 4 23 bytes) (numberAt 4 27 bytes)
 
+-- the bytes of the number of the pairs, by the tag of the second body, and the number in them
+abbrev pub widthIn : List ℕ → ℕ
+widthIn bytes = countWidth (getD bytes 10 0)
+
+abbrev pub countIn : List ℕ → ℕ
+countIn bytes = numberAt (widthIn bytes) entriesStart bytes
+
 -- n pairs from the start of some bytes on
 unfoldable pub pairsFrom : ℕ → List ℕ → List Pair
 pairsFrom zero bytes = []
 pairsFrom (suc n) bytes = record { key = numberAt 4 0 bytes; value = numberAt 4 4 bytes } ∷ pairsFrom n (drop 8 bytes)
 
 unfoldable pub pairsIn : List ℕ → List Pair
-pairsIn bytes = pairsFrom (numberAt 2 31 bytes) (drop bytesBefore bytes)
+pairsIn bytes = pairsFrom (countIn bytes) (drop (entriesStart + widthIn bytes) bytes)
 
 -- Files 5: keys above `below`, each above the one before, up to K
 unfoldable pub rising : ℕ → ℕ → List Pair → Bool

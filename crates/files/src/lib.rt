@@ -2,13 +2,14 @@
 // (docs/REFERENCE.md, *Files*).
 ghost use mathlib.Core.Path.{_≡_};
 ghost use mathlib.Core.List.{[], _∷_, _++_};
-ghost use Prim.Native.Nat.{_+_, _*_, _≤_, _<_};
+ghost use Prim.Native.Nat.{_+_, _*_, _^_, _≤_, _<_};
 ghost use lib.ListN.{length, take, drop};
 ghost use lib.Seq.{sets};
+ghost use Rattle.settings.specs.Numbers.{mostCells};
 ghost use Rattle.settings.specs.Checked.{checkedOf};
 ghost use Rattle.lists.specs.Lists.{same};
-ghost use Rattle.files.specs.Files.{bigEndian, bodyAt, settingsBody, pairBytes, frontOf, bytesBefore, fileLength};
-ghost use Rattle.files.specs.Files.{numberOn, numberAt, pairsFrom, rising, contentsOf};
+ghost use Rattle.files.specs.Files.{bigEndian, bodyAt, settingsBody, pairBytes, tagFor, countWidth, settingsStart, entriesStart, before, place, fileLength};
+ghost use Rattle.files.specs.Files.{tableOf, frontOf, numberOn, numberAt, pairsFrom, rising, contentsOf};
 use settings::Checked;
 use settings::Settings;
 
@@ -18,8 +19,45 @@ pub enum Contents {
     NotAFile,
 }
 
-// The bytes before the pairs: the table of contents, the settings, the number of the pairs.
-const BYTES_BEFORE: usize = 33;
+// The most pairs whose number stands in two bytes, under tag 2; that of more stands in four, under tag 3.
+const MOST_UNDER_TAG_2: u32 = 65535;
+
+// Where the entries begin: behind the table of contents and the settings.
+const ENTRIES_START: u32 = 31;
+
+// The tag of the entries of a file with n pairs.
+fn tag_for(n: u32) -> u8
+    ensures { λ r. ⌜ r ≡ tagFor n ⌝ }
+{
+    if n <= MOST_UNDER_TAG_2 {
+        return 2;
+    }
+    3
+}
+
+// How many bytes the number of the pairs has under a tag.
+fn count_width(tag: u8) -> usize
+    ensures { λ r. ⌜ (r ≡ countWidth tag) × (r ≤ 4) ⌝ }
+{
+    if tag == 3 {
+        return 4;
+    }
+    2
+}
+
+// How many bytes stand before n pairs.
+fn before(n: u32) -> usize
+    ensures { λ r. ⌜ (r ≡ before n) × (r ≤ entriesStart + 4) ⌝ }
+{
+    ENTRIES_START as usize + count_width(tag_for(n))
+}
+
+// Where pair i of n stands.
+fn place(n: u32, i: u32) -> usize
+    ensures { λ r. ⌜ (r ≡ place n i) × (r < 2 ^ 36) ⌝ }
+{
+    before(n) + i as usize * 8
+}
 
 // The number that the bytes of a part are, the most significant first.
 fn number(part: &[u8]) -> u32
@@ -45,26 +83,25 @@ fn number_at(file: &[u8], i: usize) -> u32
 
 // How many bytes a file with n pairs has.
 pub fn file_length(n: u32) -> usize
-    requires { ⌜ n < 65536 ⌝ }
     ensures { λ r. ⌜ r ≡ fileLength n ⌝ }
 {
-    BYTES_BEFORE + n as usize * 8
+    place(n, n)
 }
 
-// The key of pair i of a file.
-pub fn key_at(file: &[u8], i: u32) -> u32
-    requires { ⌜ (i < 65536) × (fileLength (i + 1) ≤ length (now file)) ⌝ }
-    ensures { λ r. ⌜ r ≡ numberAt 4 (fileLength i) (now (file .entry)) ⌝ }
+// The key of pair i of a file with n pairs.
+pub fn key_at(file: &[u8], n: u32, i: u32) -> u32
+    requires { ⌜ place n (i + 1) ≤ length (now file) ⌝ }
+    ensures { λ r. ⌜ r ≡ numberAt 4 (place n i) (now (file .entry)) ⌝ }
 {
-    number_at(file, file_length(i))
+    number_at(file, place(n, i))
 }
 
-// The value of pair i of a file.
-pub fn value_at(file: &[u8], i: u32) -> u32
-    requires { ⌜ (i < 65536) × (fileLength (i + 1) ≤ length (now file)) ⌝ }
-    ensures { λ r. ⌜ r ≡ numberAt 4 (fileLength i + 4) (now (file .entry)) ⌝ }
+// The value of pair i of a file with n pairs.
+pub fn value_at(file: &[u8], n: u32, i: u32) -> u32
+    requires { ⌜ place n (i + 1) ≤ length (now file) ⌝ }
+    ensures { λ r. ⌜ r ≡ numberAt 4 (place n i + 4) (now (file .entry)) ⌝ }
 {
-    number_at(file, file_length(i) + 4)
+    number_at(file, place(n, i) + 4)
 }
 
 // The bytes of a number, over the bytes of a part, the most significant first.
@@ -96,7 +133,7 @@ fn body_at(file: &[u8], i: usize, tag: u8, offset: u32, long: u32) -> bool
 
 // The settings that a file holds, if they are in range.
 fn settings_in(file: &[u8]) -> Checked
-    requires { ⌜ bytesBefore ≤ length (now file) ⌝ }
+    requires { ⌜ entriesStart ≤ length (now file) ⌝ }
     ensures { λ r. ⌜ r ≡ checkedOf (numberAt 4 19 (now (file .entry))) (numberAt 4 23 (now (file .entry))) (numberAt 4 27 (now (file .entry))) ⌝ }
 {
     Settings::new(
@@ -108,13 +145,13 @@ fn settings_in(file: &[u8]) -> Checked
 
 // Whether the keys of n pairs are from 1 to `largest`, each above the one before.
 fn keys_rise(file: &[u8], largest: u32, n: u32) -> bool
-    requires { ⌜ (n < 65536) × (fileLength n ≤ length (now file)) ⌝ }
-    ensures { λ r. ⌜ r ≡ rising 0 largest (pairsFrom n (drop bytesBefore (now (file .entry)))) ⌝ }
+    requires { ⌜ fileLength n ≤ length (now file) ⌝ }
+    ensures { λ r. ⌜ r ≡ rising 0 largest (pairsFrom n (drop (before n) (now (file .entry)))) ⌝ }
 {
     let mut below: u32 = 0;
     let mut i: u32 = 0;
     while i < n {
-        let key = key_at(file, i);
+        let key = key_at(file, n, i);
         if key <= below {
             return false;
         }
@@ -129,8 +166,8 @@ fn keys_rise(file: &[u8], largest: u32, n: u32) -> bool
 
 // Whether the table of contents is that of a file with n pairs.
 fn table_right(file: &[u8], n: u32) -> bool
-    requires { ⌜ (n < 65536) × (bytesBefore ≤ length (now file)) ⌝ }
-    ensures { λ r. ⌜ r ≡ same (2 ∷ (bodyAt 1 19 12 ++ bodyAt 2 31 (2 + 8 * n))) (take 19 (now (file .entry))) ⌝ }
+    requires { ⌜ (n < mostCells) × (entriesStart ≤ length (now file)) ⌝ }
+    ensures { λ r. ⌜ r ≡ same (tableOf n) (take settingsStart (now (file .entry))) ⌝ }
 {
     if file[0] != 2 {
         return false;
@@ -138,37 +175,33 @@ fn table_right(file: &[u8], n: u32) -> bool
     if !body_at(file, 1, 1, 19, 12) {
         return false;
     }
-    body_at(file, 10, 2, 31, 2 + 8 * n)
-}
-
-// The number of the pairs, in the two bytes before them.
-fn number_of_pairs(file: &[u8]) -> u32
-    requires { ⌜ bytesBefore ≤ length (now file) ⌝ }
-    ensures { λ r. ⌜ (r ≡ numberAt 2 31 (now (file .entry))) × (r < 65536) ⌝ }
-{
-    let high = file[31] as u32;
-    let low = file[32] as u32;
-    high * 256 + low
+    let tag = tag_for(n);
+    let long = count_width(tag) as u32 + 8 * n;
+    body_at(file, 10, tag, ENTRIES_START, long)
 }
 
 // What bytes are read as.
 pub fn read_contents(file: &[u8]) -> Contents
     ensures { λ r. ⌜ r ≡ contentsOf (now (file .entry)) ⌝ }
 {
-    if file.len() < BYTES_BEFORE {
-        return Contents::NotAFile;
-    }
-    let n = number_of_pairs(file);
-    if file.len() != file_length(n) {
-        return Contents::NotAFile;
-    }
-    if !table_right(file, n) {
+    if file.len() < ENTRIES_START as usize {
         return Contents::NotAFile;
     }
     let Checked::Accepted(s) = settings_in(file) else {
         return Contents::NotAFile;
     };
+    let start = ENTRIES_START as usize + count_width(file[10]);
+    if file.len() < start {
+        return Contents::NotAFile;
+    }
+    let n = number(&file[ENTRIES_START as usize..start]);
     if s.cells <= n {
+        return Contents::NotAFile;
+    }
+    if file.len() != file_length(n) {
+        return Contents::NotAFile;
+    }
+    if !table_right(file, n) {
         return Contents::NotAFile;
     }
     if !keys_rise(file, s.largest, n) {
@@ -197,18 +230,20 @@ fn put_body(file: &mut [u8], i: usize, tag: u8, offset: u32, long: u32)
 
 // The table of contents of a file with n pairs.
 fn put_table(file: &mut [u8], n: u32)
-    requires { ⌜ (n < 65536) × (bytesBefore ≤ length (now file)) ⌝ }
-    ensures { λ r. ⌜ now (file .exit) ≡ sets (now (file .entry)) 0 (2 ∷ (bodyAt 1 19 12 ++ bodyAt 2 31 (2 + 8 * n))) ⌝ }
+    requires { ⌜ (n < mostCells) × (entriesStart ≤ length (now file)) ⌝ }
+    ensures { λ r. ⌜ now (file .exit) ≡ sets (now (file .entry)) 0 (tableOf n) ⌝ }
 {
+    let tag = tag_for(n);
+    let long = count_width(tag) as u32 + 8 * n;
     file[0] = 2;
     put_body(file, 1, 1, 19, 12);
-    put_body(file, 10, 2, 31, 2 + 8 * n);
+    put_body(file, 10, tag, ENTRIES_START, long);
 }
 
 // The settings, behind the table.
 fn put_settings(file: &mut [u8], s: Settings)
-    requires { ⌜ bytesBefore ≤ length (now file) ⌝ }
-    ensures { λ r. ⌜ now (file .exit) ≡ sets (now (file .entry)) 19 (settingsBody s) ⌝ }
+    requires { ⌜ entriesStart ≤ length (now file) ⌝ }
+    ensures { λ r. ⌜ now (file .exit) ≡ sets (now (file .entry)) settingsStart (settingsBody s) ⌝ }
 {
     put_number_at(file, 19, s.dimensions);
     put_number_at(file, 23, s.largest);
@@ -217,20 +252,20 @@ fn put_settings(file: &mut [u8], s: Settings)
 
 // The bytes before the pairs, of which there are n.
 pub fn write_front(file: &mut [u8], s: Settings, n: u32)
-    requires { ⌜ (n < 65536) × (bytesBefore ≤ length (now file)) ⌝ }
+    requires { ⌜ (n < mostCells) × (before n ≤ length (now file)) ⌝ }
     ensures { λ r. ⌜ now (file .exit) ≡ sets (now (file .entry)) 0 (frontOf s n) ⌝ }
 {
     put_table(file, n);
     put_settings(file, s);
-    put_number(&mut file[31..33], n);
+    put_number(&mut file[ENTRIES_START as usize..before(n)], n);
 }
 
-// Pair i.
-pub fn write_pair(file: &mut [u8], i: u32, key: u32, value: u32)
-    requires { ⌜ (i < 65536) × (fileLength (i + 1) ≤ length (now file)) ⌝ }
-    ensures { λ r. ⌜ now (file .exit) ≡ sets (now (file .entry)) (fileLength i) (pairBytes (record { key = key; value = value } ∷ [])) ⌝ }
+// Pair i of n.
+pub fn write_pair(file: &mut [u8], n: u32, i: u32, key: u32, value: u32)
+    requires { ⌜ place n (i + 1) ≤ length (now file) ⌝ }
+    ensures { λ r. ⌜ now (file .exit) ≡ sets (now (file .entry)) (place n i) (pairBytes (record { key = key; value = value } ∷ [])) ⌝ }
 {
-    let at = file_length(i);
+    let at = place(n, i);
     put_number_at(file, at, key);
     put_number_at(file, at + 4, value);
 }

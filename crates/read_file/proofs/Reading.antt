@@ -14,11 +14,11 @@ use Rattle.settings.proofs.Numbers.{ranges}
 use Rattle.lists.specs.Lists.{same}
 use Rattle.lists.proofs.Same.{same-eq}
 use Rattle.lists.proofs.Tests.{both}
-use Rattle.files.specs.Files.{Pair, bytesBefore, fileLength, fileOf, settingsIn, pairsFrom, pairsIn, keeps, isFile, contentsOf}
+use Rattle.files.specs.Files.{Pair, before, fileLength, fileOf, settingsIn, pairsFrom, pairsIn, keeps, isFile, contentsOf}
 use Rattle.files.specs.declared.Contents.the-variants.{IsFile, NotAFile}
 use Rattle.files.proofs.Written.{file-length}
 use Rattle.files.proofs.Pairs.{pairAt, pairs-in-length, pairs-more}
-use Rattle.files.proofs.Files.{keepable}
+use Rattle.files.proofs.Files.{keepable, tested, tested-table, pairs-behind}
 use Rattle.meaning.specs.Picture.{picture}
 use Rattle.answers.specs.Refusals.{answer, Meets}
 use Rattle.meaning.specs.Operations.{setUpOut}
@@ -41,6 +41,7 @@ pub record Told (bytes : List ℕ) (s : Settings) (n : ℕ) : Type 0 where
   pub kept : keeps s (pairsIn bytes) ≡ true
   pub base : s .base ≡ baseOf (s .dimensions) (s .largest)
   pub long : length bytes ≡ fileLength n
+  pub pairs : pairsIn bytes ≡ pairsFrom n (drop (before n) bytes)
 
 pub told : {bytes : List ℕ} {s : Settings} {n : ℕ} → contentsOf bytes ≡ IsFile s n → Told bytes s n
 unfolding contentsOf isFile
@@ -57,6 +58,9 @@ told {bytes} {s} {n} e = at (isFile bytes) refl e
               ap length (sym (same-eq (fileOf (settingsIn bytes) (pairsIn bytes)) bytes (t .1)))
               ∙ file-length (settingsIn bytes) (pairsIn bytes)
               ∙ ap fileLength count;
+          pairs =
+              pairs-behind bytes (tested-table bytes (tested bytes is))
+              ∙ ap (λ m. pairsFrom m (drop (before m) bytes)) (sym (pairs-in-length bytes) ∙ count);
         }
 
     at : (t : Bool) → isFile bytes ≡ t → cond t (IsFile (settingsIn bytes) (length (pairsIn bytes))) NotAFile ≡ IsFile s n → Told bytes s n
@@ -81,15 +85,12 @@ module _ {bytes : List ℕ} {s : Settings} {n : ℕ} (t : Told bytes s n) where
   -- The first pairs
 
   abbrev pub first : ℕ → List Pair
-  first i = pairsFrom i (drop bytesBefore bytes)
-
-  all-pairs : pairsIn bytes ≡ first n
-  all-pairs = unfold pairsIn in ap first (sym (pairs-in-length bytes) ∙ t .count)
+  first i = pairsFrom i (drop (before n) bytes)
 
   first-kept : (m i : ℕ) → i + m ≡ n → keeps s (first i) ≡ true
-  first-kept zero i e = let here : i ≡ n = omega arith in ap (λ j. keeps s (first j)) here ∙ ap (keeps s) (sym all-pairs) ∙ t .kept
+  first-kept zero i e = let here : i ≡ n = omega arith in ap (λ j. keeps s (first j)) here ∙ ap (keeps s) (sym (t .pairs)) ∙ t .kept
   first-kept (suc m) i e =
-      keeps-left s (first i) (pairAt bytes i ∷ []) (ap (keeps s) (sym (pairs-more bytes i)) ∙ first-kept m (suc i) (omega arith))
+      keeps-left s (first i) (pairAt bytes (before n) i ∷ []) (ap (keeps s) (sym (pairs-more bytes (before n) i)) ∙ first-kept m (suc i) (omega arith))
 
   pub put-start : {ws : List ℕ} → ws ≡ picture (readState s []) → Putting ws s (first 0) 0 (replicate mostDimensions 0)
   unfolding pairsFrom lastKey nodesFrom
@@ -104,14 +105,14 @@ module _ {bytes : List ℕ} {s : Settings} {n : ℕ} (t : Told bytes s n) where
       }
 
   module _ {ws : List ℕ} {last : ℕ} {path : List ℕ} {i : ℕ} (h : Putting ws s (first i) last path) where
-    module _ (less : i < n) {key value : ℕ} (key-is : key ≡ pairAt bytes i .key) (value-is : value ≡ pairAt bytes i .value) where
+    module _ (less : i < n) {key value : ℕ} (key-is : key ≡ pairAt bytes (before n) i .key) (value-is : value ≡ pairAt bytes (before n) i .value) where
       abbrev next : Pair
       next = record { key = key; value = value }
 
       one-more : first i ++ (next ∷ []) ≡ first (i + 1)
       one-more =
           ap (λ (p : Pair). first i ++ (p ∷ [])) (λ j. record { key = key-is j; value = value-is j })
-          ∙ sym (pairs-more bytes i)
+          ∙ sym (pairs-more bytes (before n) i)
           ∙ ap first (sym (add-one i))
 
       more-kept : keeps s (first i ++ (next ∷ [])) ≡ true
@@ -128,7 +129,7 @@ module _ {bytes : List ℕ} {s : Settings} {n : ℕ} (t : Told bytes s n) where
     pub put-all : i ≤ n → n ≤ i → ws ≡ picture (readState s (pairsIn bytes))
     put-all low high =
         let here : i ≡ n = omega arith in
-        h .words ∙ ap (λ j. picture (readState s (first j))) here ∙ ap (λ pairs. picture (readState s pairs)) (sym all-pairs)
+        h .words ∙ ap (λ j. picture (readState s (first j))) here ∙ ap (λ pairs. picture (readState s pairs)) (sym (t .pairs))
 
   -- Set up: the list that holds none
   pub set-up-left : (ws : List ℕ) {us : List ℕ} {r : Answer} → length ws ≡ lengthOf (s .dimensions) (s .cells) →

@@ -44,8 +44,8 @@ fn put_pairs(list: &mut [u32], s: Settings, file: &[u8], n: u32)
     let mut last: u32 = 0;
     let mut i: u32 = 0;
     while i < n {
-        let key = files::key_at(file, i);
-        let value = files::value_at(file, i);
+        let key = files::key_at(file, n, i);
+        let value = files::value_at(file, n, i);
         put_pair(list, s, &powers.of, last, &mut path, key, value);
         last = key;
         i += 1;

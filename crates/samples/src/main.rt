@@ -9,10 +9,11 @@ ghost use lib.ListN.{length, take};
 ghost use Rattle.report.specs.Report.{checkedBytes};
 ghost use Rattle.samples.specs.Printed.{edgeText, rowText};
 
+// The most words that a row lends. (The longest lists have more: host/tests sets them up.)
 const MOST_WORDS: usize = 90134;
 
 // D, K, C and the number of words lent.
-const EDGES: [[u32; 4]; 28] = [
+const EDGES: [[u32; 4]; 30] = [
     // D, from 2 to 16
     [1, 15, 8, 62],
     [2, 15, 8, 71],
@@ -23,12 +24,14 @@ const EDGES: [[u32; 4]; 28] = [
     [2, 1, 8, 71],
     [2, 4294967295, 8, 71],
     [16, 4294967295, 8, 197],
-    // C, from 3 to 4096
+    // C, from 3 to 262144: with no word lent, one in range is refused by its length
     [2, 15, 2, 23],
     [2, 15, 3, 31],
     [2, 15, 4096, 32775],
     [2, 15, 4097, 32783],
-    // lengths: one short, exact, one long and 0; the smallest and the largest list; the order program's
+    [2, 15, 262144, 0],
+    [2, 15, 262145, 0],
+    // lengths: one short, exact, one long and 0; the smallest list, a large one, the order program's
     [2, 15, 8, 70],
     [2, 15, 8, 72],
     [2, 15, 8, 0],

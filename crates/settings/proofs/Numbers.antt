@@ -193,9 +193,8 @@ module _ {K key : ℕ} where
 
 -- The length
 
--- The cells of a list are at most 4,096 of at most 38 words.
-pub cells-fit : {D C : ℕ} → D ≤ mostDimensions → C ≤ mostCells → C * cellWords D ≤ 155648
+-- No list has more words than the one with the most dimensions and the most cells; a later site changes those two names alone.
+pub cells-fit : {D C : ℕ} → D ≤ mostDimensions → C ≤ mostCells → C * cellWords D ≤ mostCells * cellWords mostDimensions
 cells-fit {D} {C} hd hc =
-    let w : cellWords D ≤ 38 = omega arith in
-    let m : C * cellWords D ≤ 4096 * 38 = mul-le-mul hc w in
-    omega arith
+    let w : cellWords D ≤ cellWords mostDimensions = omega arith in
+    mul-le-mul hc w

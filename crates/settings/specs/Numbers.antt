@@ -22,7 +22,7 @@ abbrev pub leastCells : ℕ
 leastCells = 3
 
 abbrev pub mostCells : ℕ
-mostCells = 4096
+mostCells = 262144
 
 abbrev pub within : ℕ → ℕ → ℕ → Bool
 within least most n = leb least n && leb n most

@@ -40,7 +40,7 @@ impl Settings {
 
     pub const LEAST_CELLS: u32 = 3;
 
-    pub const MOST_CELLS: u32 = 4096;
+    pub const MOST_CELLS: u32 = 262144;
 
     // The words before the path, and those of a cell before its links (*The words 1*); `length` and `cell_words` tie them.
     pub const HEADER_WORDS: usize = 5;

@@ -35,9 +35,10 @@ shaped-base h = ap (λ (t : Settings). t .base) (h .header)
 cell-inside : (D C x : ℕ) → x < C → wordIndex D x (cellWords D) ≤ lengthOf D C
 cell-inside D C x h = omega (arith, mul-le-mul-right (cellWords D) h, suc-mul x (cellWords D))
 
--- a list has at most 155,669 words
+-- no list has more words than the one with the most dimensions and the most cells
 pub index-small :
-    {s : Settings} {x j : ℕ} → s .dimensions ≤ mostDimensions → s .cells ≤ mostCells → Within s x j → wordIndex (s .dimensions) x j < 155669
+    {s : Settings} {x j : ℕ} → s .dimensions ≤ mostDimensions → s .cells ≤ mostCells → Within s x j →
+    wordIndex (s .dimensions) x j < lengthOf mostDimensions mostCells
 index-small {s} {x} hd hc w = omega (arith, cells-fit hd hc, cell-inside (s .dimensions) (s .cells) x (w .cell), w .field)
 
 pub index-inside : {ws : List ℕ} {s : Settings} {x j : ℕ} → Shaped ws s → Within s x j → wordIndex (s .dimensions) x j < length ws

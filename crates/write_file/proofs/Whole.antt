@@ -10,7 +10,7 @@ use lib.Seq.{sets, sets-eq}
 use borrow.Author.Tests.{le-leb, lt-leb}
 use Rattle.settings.specs.declared.Settings.{Settings}
 use Rattle.lists.proofs.Sets.{sets-append}
-use Rattle.files.specs.Files.{Pair, pairBytes, frontOf, fileOf, bytesBefore, fileLength}
+use Rattle.files.specs.Files.{Pair, pairBytes, before, fileLength, frontOf, fileOf}
 use Rattle.files.proofs.Written.{front-length, file-length}
 use Rattle.meaning.specs.Reading.{readingOf}
 use Rattle.answers.specs.Refusals.{answer, Meets}
@@ -21,12 +21,12 @@ use Rattle.meaning.specs.Layer.Listed.{Listed}
 
 file-written :
     (l : List ℕ) (s : Settings) (pairs : List Pair) → fileLength (length pairs) ≤ length l →
-    sets (sets l 0 (frontOf s (length pairs))) bytesBefore (pairBytes pairs) ≡ fileOf s pairs ++ drop (length (fileOf s pairs)) l
+    sets (sets l 0 (frontOf s (length pairs))) (before (length pairs)) (pairBytes pairs) ≡ fileOf s pairs ++ drop (length (fileOf s pairs)) l
 unfolding fileOf
 file-written l s pairs room =
     let front = frontOf s (length pairs) in
     let file = fileOf s pairs in
-    let there : bytesBefore ≡ 0 + length front = omega (arith, front-length s (length pairs)) in
+    let there : before (length pairs) ≡ 0 + length front = omega (arith, front-length s (length pairs)) in
     let fits : 0 + length file ≤ length l = omega (arith, file-length s pairs) in
     ap (λ i. sets (sets l 0 front) i (pairBytes pairs)) there
     ∙ sym (sets-append l front (pairBytes pairs) 0)
@@ -48,12 +48,13 @@ module _ {ws : List ℕ} {s : Settings} (h : Listed ws s) (file : List ℕ) {n :
 
   pub write-accepted :
       {begun after : List ℕ} {bytes : ℕ} {r : Answer} → fileLength n ≤ length file → begun ≡ sets file 0 (frontOf s n) →
-      after ≡ sets begun bytesBefore (pairBytes (livePairs ws)) → bytes ≡ fileLength n → r ≡ answer 0 0 0 bytes →
+      after ≡ sets begun (before n) (pairBytes (livePairs ws)) → bytes ≡ fileLength n → r ≡ answer 0 0 0 bytes →
       Meets (writeOut (fileLent ws file)) r (fileLent ws after)
   write-accepted room front pairs is e =
       let whole =
       pairs
-      ∙ ap (λ l. sets l bytesBefore (pairBytes (livePairs ws))) (front ∙ ap (λ m. sets file 0 (frontOf s m)) count)
+      ∙ ap (λ l. sets l (before n) (pairBytes (livePairs ws))) front
+      ∙ ap (λ m. sets (sets file 0 (frontOf s m)) (before m) (pairBytes (livePairs ws))) count
       ∙ file-written file s (livePairs ws) (subst (λ m. fileLength m ≤ length file) count room) in
       rw (outcome-is h file, le-leb (length (fileOf s (livePairs ws))) (length file) (omega (arith, long)))
       (record { answered = e ∙ ap (answer 0 0 0) (is ∙ sym long); left = ap (fileLent ws) whole })

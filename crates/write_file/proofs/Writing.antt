@@ -3,7 +3,7 @@
 use mathlib.Core.Path.{_≡_, refl, sym, ap, ap₂, _∙_, subst}
 use mathlib.Core.Bool.{Bool, true, false, cond}
 use mathlib.Core.List.{List, [], _∷_, _++_, map, append-nil}
-use Prim.Native.Nat.{ℕ, suc, _+_, _-_, _≤_, _<_}
+use Prim.Native.Nat.{ℕ, suc, _+_, _*_, _-_, _≤_, _<_}
 use native.Mathlib.Omega.{arith}
 use lib.ListN.{length, getD, replicate, length-append}
 use lib.Seq.{sets, length-sets}
@@ -11,7 +11,7 @@ use Rattle.settings.specs.declared.Settings.{Settings}
 use Rattle.lists.specs.Lists.{those}
 use Rattle.lists.proofs.All.{All, all-map, all-left, all-at}
 use Rattle.lists.proofs.Sets.{sets-append}
-use Rattle.files.specs.Files.{Pair, pairBytes, bytesBefore, fileLength}
+use Rattle.files.specs.Files.{Pair, pairBytes}
 use Rattle.files.proofs.Written.{pair-bytes-length, pair-bytes-append}
 use Rattle.meaning.specs.Row.{Node, headNode, Place, lastOf}
 use Rattle.meaning.specs.State.{State}
@@ -74,11 +74,11 @@ pairs-same front y e = pairs-append front (y ∷ []) ∙ rw e (append-nil (pairs
 
 -- one pair more, behind those that are written
 pair-more :
-    (l : List ℕ) (pairs : List Pair) (p : Pair) {i : ℕ} → i ≡ length pairs →
-    sets (sets l bytesBefore (pairBytes pairs)) (fileLength i) (pairBytes (p ∷ [])) ≡ sets l bytesBefore (pairBytes (pairs ++ (p ∷ [])))
-pair-more l pairs p {i} e =
-    let there : fileLength i ≡ bytesBefore + length (pairBytes pairs) = omega (arith, pair-bytes-length pairs) in
-    rw (there, pair-bytes-append pairs (p ∷ [])) (sym (sets-append l (pairBytes pairs) (pairBytes (p ∷ [])) bytesBefore))
+    (l : List ℕ) (f : ℕ) (pairs : List Pair) (p : Pair) {i : ℕ} → i ≡ length pairs →
+    sets (sets l f (pairBytes pairs)) (f + 8 * i) (pairBytes (p ∷ [])) ≡ sets l f (pairBytes (pairs ++ (p ∷ [])))
+pair-more l f pairs p {i} e =
+    let there : f + 8 * i ≡ f + length (pairBytes pairs) = omega (arith, pair-bytes-length pairs) in
+    rw (there, pair-bytes-append pairs (p ∷ [])) (sym (sets-append l (pairBytes pairs) (pairBytes (p ∷ [])) f))
 
 -- How far the way has come
 
@@ -139,43 +139,44 @@ pair-there h front y later =
 
 -- The turns
 
--- the path has come past the nodes in front, whose i live ones' pairs are written; they and those still to come are fewer than C
-pub record Writing (ws : List ℕ) (s : Settings) (entry file : List ℕ) (p : Path) (i : ℕ) : Type 0 where
+-- the path has come past the nodes in front, whose i live ones' pairs are written from place f on; they and those still to come are fewer
+-- than C
+pub record Writing (ws : List ℕ) (s : Settings) (f : ℕ) (entry file : List ℕ) (p : Path) (i : ℕ) : Type 0 where
   pub front : List Node
   pub later : List Node
   pub on-way : PathOf (read ws) (pathOf p) front later
   pub path-in : PathIn s p
-  pub bytes : file ≡ sets entry bytesBefore (pairBytes (pairsOf front))
+  pub bytes : file ≡ sets entry f (pairBytes (pairsOf front))
   pub count : i ≡ length (pairsOf front)
   pub room : i + length later < s .cells
 
 pub writing-start :
-    {ws : List ℕ} {s : Settings} {p : Path} → Listed ws s → pathOf p ≡ replicate (s .dimensions) 0 → Formed (s .dimensions) p → (file : List ℕ) →
-    Writing ws s file file p 0
+    {ws : List ℕ} {s : Settings} {p : Path} → Listed ws s → pathOf p ≡ replicate (s .dimensions) 0 → Formed (s .dimensions) p →
+    (f : ℕ) (file : List ℕ) → Writing ws s f file file p 0
 unfolding those pairBytes
-writing-start {ws} h is f file =
+writing-start {ws} h is formed f file =
     let w = head-starts h is in
     record {
       front = [];
       later = read ws .row;
       on-way = w;
-      path-in = way-in h f w;
+      path-in = way-in h formed w;
       bytes = refl;
       count = refl;
       room = on-listed (λ t ws s. 0 + length (t .row) < s .cells) (λ t v. omega (arith, v .ranges .cells-least, free-length t v)) h;
     }
 
-pub writing-length : {ws : List ℕ} {s : Settings} {entry file : List ℕ} {p : Path} {i : ℕ} → Writing ws s entry file p i → length file ≡ length entry
-writing-length {entry = entry} g = ap length (g .bytes) ∙ length-sets entry bytesBefore (pairBytes (pairsOf (g .front)))
+pub writing-length : {ws : List ℕ} {s : Settings} {f : ℕ} {entry file : List ℕ} {p : Path} {i : ℕ} → Writing ws s f entry file p i → length file ≡ length entry
+writing-length {f = f} {entry = entry} g = ap length (g .bytes) ∙ length-sets entry f (pairBytes (pairsOf (g .front)))
 
-module _ {ws : List ℕ} {s : Settings} (h : Listed ws s) {entry file : List ℕ} {p : Path} {i : ℕ} (g : Writing ws s entry file p i) {r : Reached}
+module _ {ws : List ℕ} {s : Settings} (h : Listed ws s) {f : ℕ} {entry file : List ℕ} {p : Path} {i : ℕ} (g : Writing ws s f entry file p i) {r : Reached}
     (n : NextIs ws s p r) where
   -- all are written
-  pub writing-end : r .cell ≡ 0 → file ≡ sets entry bytesBefore (pairBytes (livePairs ws))
+  pub writing-end : r .cell ≡ 0 → file ≡ sets entry f (pairBytes (livePairs ws))
   writing-end none =
       let all : read ws .row ≡ g .front =
       g .on-way .split ∙ ap (λ l. g .front ++ l) (moves-end h n (g .later) (g .on-way) none) ∙ append-nil (g .front) in
-      g .bytes ∙ ap (λ row. sets entry bytesBefore (pairBytes (pairsOf row))) (sym all)
+      g .bytes ∙ ap (λ row. sets entry f (pairBytes (pairsOf row))) (sym all)
 
   module _ (some : r .cell ≡ 0 → ⊥) where
     on : MovesOn (read ws) ws (g .front) (g .later) r
@@ -188,7 +189,7 @@ module _ {ws : List ℕ} {s : Settings} (h : Listed ws s) {entry file : List ℕ
     writing-less = omega (arith, ahead-is h (r .path) (on .to .on-way), ahead-is h p (g .on-way), ap length (on .next))
 
     module _ {mark : ℕ} (is : mark ≡ markAt ws (r .cell)) where
-      pub writing-past : (mark ≡ 1 → ⊥) → Writing ws s entry file (r .path) i
+      pub writing-past : (mark ≡ 1 → ⊥) → Writing ws s f entry file (r .path) i
       writing-past other =
           let y = on .node in
           let same = pairs-same (g .front) y (mark-other (y .live) (λ e. other (is ∙ on .to .mark ∙ e))) in
@@ -197,7 +198,7 @@ module _ {ws : List ℕ} {s : Settings} (h : Listed ws s) {entry file : List ℕ
             later = on .rest;
             on-way = on .to .on-way;
             path-in = n .path-in;
-            bytes = g .bytes ∙ ap (λ pairs. sets entry bytesBefore (pairBytes pairs)) (sym same);
+            bytes = g .bytes ∙ ap (λ pairs. sets entry f (pairBytes pairs)) (sym same);
             count = g .count ∙ ap length (sym same);
             room = omega (arith, g .room, ap length (on .next));
           }
@@ -207,17 +208,15 @@ module _ {ws : List ℕ} {s : Settings} (h : Listed ws s) {entry file : List ℕ
         live = mark-one (on .node .live) (sym (on .to .mark) ∙ sym is ∙ one)
 
         -- there is room for the pair
-        pub writing-room : fileLength (length (livePairs ws)) ≤ length entry → (i < 65536) × (fileLength (i + 1) ≤ length file)
-        writing-room room =
+        pub writing-room : {m : ℕ} → m ≡ length (livePairs ws) → f + 8 * m ≤ length entry → f + 8 * (i + 1) ≤ length file
+        writing-room count room =
             let all = ap pairsOf split ∙ pairs-live (g .front) (on .node) (on .rest) live in
-            let long = ap length all ∙ length-append (pairsOf (g .front)) (pair (on .node) ∷ pairsOf (on .rest)) in (
-              omega (arith, g .room, listed-shaped h .cells-most),
-              omega (arith, room, writing-length g, g .count, long),
-            )
+            let long = ap length all ∙ length-append (pairsOf (g .front)) (pair (on .node) ∷ pairsOf (on .rest)) in
+            omega (arith, room, count, writing-length g, g .count, long)
 
         pub writing-here :
             {key value : ℕ} {after : List ℕ} → key ≡ keyAt ws (r .cell) → value ≡ valueAt ws (r .cell) →
-            after ≡ sets file (fileLength i) (pairBytes (record { key = key; value = value } ∷ [])) → Writing ws s entry after (r .path) (i + 1)
+            after ≡ sets file (f + 8 * i) (pairBytes (record { key = key; value = value } ∷ [])) → Writing ws s f entry after (r .path) (i + 1)
         writing-here {key} {value} {after} is-key is-value written =
             let y = on .node in
             let there = pair-there h (g .front) y (on .rest) split in
@@ -232,9 +231,9 @@ module _ {ws : List ℕ} {s : Settings} (h : Listed ws s) {entry file : List ℕ
               path-in = n .path-in;
               bytes =
                   written
-                  ∙ ap₂ (λ l q. sets l (fileLength i) (pairBytes (q ∷ []))) (g .bytes) is-pair
-                  ∙ pair-more entry (pairsOf (g .front)) (pair y) (g .count)
-                  ∙ ap (λ pairs. sets entry bytesBefore (pairBytes pairs)) (sym more);
+                  ∙ ap₂ (λ l q. sets l (f + 8 * i) (pairBytes (q ∷ []))) (g .bytes) is-pair
+                  ∙ pair-more entry f (pairsOf (g .front)) (pair y) (g .count)
+                  ∙ ap (λ pairs. sets entry f (pairBytes pairs)) (sym more);
               count = omega (arith, g .count, ap length more, length-append (pairsOf (g .front)) (pair y ∷ []));
               room = omega (arith, g .room, ap length (on .next));
             }

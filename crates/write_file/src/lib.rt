@@ -3,7 +3,7 @@ ghost use mathlib.Core.Path.{_≡_};
 ghost use Prim.Native.Nat.{_≤_, _<_};
 ghost use lib.ListN.{length};
 ghost use lib.Seq.{sets};
-ghost use Rattle.files.specs.Files.{bytesBefore, fileLength, pairBytes};
+ghost use Rattle.files.specs.Files.{before, fileLength, pairBytes};
 ghost use Rattle.answers.specs.Refusals.{Meets};
 ghost use Rattle.calls.specs.Pairs.{livePairs};
 ghost use Rattle.calls.specs.Saved.{fileLent, writeOut};
@@ -27,10 +27,10 @@ fn count_live(list: &[u32], s: Settings) -> u32
     n
 }
 
-// The live pairs, from the standing cells in key order, over the bytes behind those before the pairs.
-fn write_pairs(list: &[u32], s: Settings, file: &mut [u8])
-    requires { ⌜ Listed (now list) s × (fileLength (length (livePairs (now list))) ≤ length (now file)) ⌝ }
-    ensures { λ r. ⌜ now (file .exit) ≡ sets (now (file .entry)) bytesBefore (pairBytes (livePairs (now (list .entry)))) ⌝ }
+// The live pairs, of which there are n, from the standing cells in key order, over the bytes behind those before them.
+fn write_pairs(list: &[u32], s: Settings, file: &mut [u8], n: u32)
+    requires { ⌜ Listed (now list) s × ((n ≡ length (livePairs (now list))) × (fileLength n ≤ length (now file))) ⌝ }
+    ensures { λ r. ⌜ now (file .exit) ≡ sets (now (file .entry)) (before n) (pairBytes (livePairs (now (list .entry)))) ⌝ }
 {
     let mut path = [0u32; 16];
     let mut i: u32 = 0;
@@ -42,7 +42,7 @@ fn write_pairs(list: &[u32], s: Settings, file: &mut [u8])
         if words::word(list, s, next.cell, words::MARK) == words::LIVE {
             let key = words::word(list, s, next.cell, words::KEY);
             let value = words::word(list, s, next.cell, words::VALUE);
-            files::write_pair(file, i, key, value);
+            files::write_pair(file, n, i, key, value);
             i += 1;
         }
         paths::put_onward(&mut path, s.dimensions, next.number, next.cell);
@@ -60,6 +60,6 @@ pub fn write_file(list: &[u32], s: Settings, file: &mut [u8]) -> Answer
         return answers::refused(answers::NO_ROOM);
     }
     files::write_front(file, s, n);
-    write_pairs(list, s, file);
+    write_pairs(list, s, file, n);
     answers::accepted(0, 0, length as u32)
 }

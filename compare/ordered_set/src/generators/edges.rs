@@ -1,12 +1,13 @@
 //! The ends of every range of docs/REFERENCE.md, and those of the trace's own format.
 
-use super::file_forms::{Form, C, D, K};
+use super::file_forms::{Form, C, COUNT, D, K};
 use super::files::UNREADABLE as UNREADABLE_FOR_FILES;
-use super::records::{append, UNREADABLE as UNREADABLE_FOR_BYTES};
+use super::records::{append, lay, UNREADABLE as UNREADABLE_FOR_BYTES};
 use super::Trace;
 use crate::records::NONE_YET;
-use crate::replay::{MOST_BYTES, MOST_BYTES_OF_A_LINE, MOST_WORDS};
-use crate::settings::{exact_length, Settings};
+use crate::replay::{most_cells, MOST_BYTES, MOST_BYTES_OF_A_LINE, MOST_WORDS};
+use crate::settings::{exact_length, Settings, MOST_CELLS};
+use std::collections::BTreeSet;
 
 /// The fourteen steps.
 pub const FOURTEEN_STEPS: &str = "N 6 60|N 5 50|N 9 90|F 6|T|T|N 2 20|T|T|N 6 61|T|T|S|N 5 51";
@@ -69,6 +70,8 @@ pub fn edges(trace: &mut Trace) {
     settings_of_files(trace);
     keys_of_files(trace);
     bodies_of_files(trace);
+    files_of_the_other_tag(trace);
+    every_byte_of_the_other_tag(trace);
     greatest_files(trace);
     unreadable_lines_for_files(trace);
     trace.write(b"T", b""); // A last line without line feed.
@@ -95,12 +98,14 @@ fn few_words(trace: &mut Trace) {
 
 fn set_ups(trace: &mut Trace) {
     for d in [1, 2, 15, 16, 17] {
-        for c in [2, 3, 4096, 4097] {
+        for c in [2, 3, 4096, 4097, MOST_CELLS - 1, MOST_CELLS, MOST_CELLS + 1] {
             let exact = exact_length(d, c) as u32;
             // with a cell's coordinates beside its links, as buffers were before
             let old = exact + c as u32 * d as u32;
-            for length in [0, exact - 1, exact, exact + 1, old].map(|length| length.min(MOST_WORDS))
-            {
+            // where there can't be as many words the range of C alone decides
+            let lengths =
+                [0, exact - 1, exact, exact + 1, old].map(|length| length.min(MOST_WORDS));
+            for length in BTreeSet::from(lengths) {
                 say_all(trace, &format!("U {d} 0 {c} {length}|U {d} 1 {c} {length}"));
                 trace.say(format!("U {d} 4294967295 {c} {length}"));
             }
@@ -112,8 +117,10 @@ fn set_ups(trace: &mut Trace) {
 }
 
 fn keys_at_the_ends(trace: &mut Trace) {
-    for (d, c) in [(2, 3), (2, 8), (15, 8), (16, 8), (16, 4096)] {
-        for k in [1, 2, 15, u32::MAX] {
+    for (d, c) in [(2, 3), (2, 8), (15, 8), (16, 8), (16, 4097), (2, most_cells(2) as u32)] {
+        // fewer where a call takes long
+        let largest_keys = if c < 4097 { &[1, 2, 15, u32::MAX][..] } else { &[2, u32::MAX] };
+        for &k in largest_keys {
             trace.make(&Settings::new(d, k, c).expect("settings in range"));
             for key in [0, 1, k, k.saturating_add(1)] {
                 every_operation(trace, key);
@@ -264,24 +271,25 @@ fn read_form(trace: &mut Trace, form: &Form, length: usize) {
 }
 
 fn settings_of_files(trace: &mut Trace) {
+    const MOST: u32 = MOST_CELLS as u32;
     let ends = [
-        (D, [0, 1, 2, 15, 16, 17, u32::MAX]),
-        (K, [0, 1, 2, 3, 15, 1 << 31, u32::MAX]),
-        (C, [0, 2, 3, 4, 4096, 4097, u32::MAX]),
+        (D, &[0, 1, 2, 15, 16, 17, u32::MAX][..]),
+        (K, &[0, 1, 2, 3, 15, 1 << 31, u32::MAX]),
+        (C, &[0, 2, 3, 4, 4096, 4097, MOST - 1, MOST, MOST + 1, u32::MAX]),
     ];
     for (place, numbers) in ends {
-        for number in numbers {
+        for &number in numbers {
             for pairs in [&[][..], &[(1, 7)], &[(1, 7), (2, 0)], &[(1, 7), (2, 0), (3, u32::MAX)]] {
                 let mut form = Form::new([2, 15, 8], pairs);
                 form.set(place, number);
                 let [d, c] = [D, C].map(|place| form.get(place) as usize);
-                read_form(trace, &form, exact_length(d.min(17), c.min(4097)));
+                read_form(trace, &form, exact_length(d.min(17), c.min(MOST_CELLS)));
                 say_all(trace, "T|F 1");
             }
         }
     }
     // every one of them at its end
-    for settings in [[2, 1, 3], [16, u32::MAX, 4096], [1, 0, 2], [17, 0, 4097]] {
+    for settings in [[2, 1, 3], [16, u32::MAX, 4096], [1, 0, 2], [17, 0, 4097], [2, 1, 19_457]] {
         let form = Form::new(settings, &[(1, 1)]);
         read_form(trace, &form, exact_length(settings[0] as usize, settings[2] as usize));
         say_all(trace, "W|T|T");
@@ -326,16 +334,66 @@ fn bodies_of_files(trace: &mut Trace) {
     }
 }
 
-/// As many keys as there can be, with the fewest dimensions and with the most; then one key more,
-/// which count and length say too. No words stand while the bytes are laid.
+/// A full list with as many keys as there can be bytes for, with the fewest dimensions and with the
+/// most; then one key more, which count and length say too. No words stand while the bytes are laid.
 fn greatest_files(trace: &mut Trace) {
-    let pairs: Vec<(u32, u32)> = (1..4096).map(|i| (1_048_575 * i + 1, i)).collect();
+    const CELLS: u32 = (MOST_BYTES - 33) / 8;
+    let (few, long) = (CELLS - 1, 33 + 8 * (CELLS - 1));
+    let pairs: Vec<(u32, u32)> = (1..CELLS).map(|i| (859_000 * i + 1, i)).collect();
+    let [narrow, wide] = [2, 16].map(|d| exact_length(d, CELLS as usize));
     trace.say("L 0");
-    read_form(trace, &Form::new([2, u32::MAX, 4096], &pairs), exact_length(2, 4096));
-    say_all(trace, "F 1048576|F 1048577|N 1 1|B 32792|W|B 40000|W|R|B 32793|W|R");
-    say_all(trace, &format!("Q 22 16|R|L {}|R|T|N 1 1|S|T|S|N 1 1|R", exact_length(16, 4096)));
+    read_form(trace, &Form::new([2, u32::MAX, CELLS], &pairs), narrow);
+    say_all(trace, &format!("F 859001|F 859002|N 1 1|B {}|W|B {MOST_BYTES}|W|R", long - 1));
+    say_all(trace, &format!("B {long}|W|R|Q 22 16|R|L {wide}|R|T|N 1 1|S|T|S|N 1 1|R"));
     append(trace, &[u32::MAX.to_be_bytes(), [0; 4]].concat());
-    say_all(trace, "R|Q 31 16|Q 32 0|R|Q 17 128|Q 18 2|R|L 0|R");
+    trace.say("R");
+    put_bytes(trace, 31, &(few as u16 + 1).to_be_bytes());
+    trace.say("R");
+    put_bytes(trace, 15, &(2 + 8 * CELLS).to_be_bytes());
+    say_all(trace, "R|L 0|R");
+}
+
+/// Writes some bytes in a row, one a line.
+fn put_bytes(trace: &mut Trace, from: usize, bytes: &[u8]) {
+    for (index, byte) in (from..).zip(bytes) {
+        trace.say(format!("Q {index} {byte}"));
+    }
+}
+
+/// An entries body with tag 3 and a count in four bytes, of few keys and of as many as two bytes
+/// can't say: the first are no file, and the bytes of the second can't be laid. So all are refused by
+/// 11, whatever the words' length. The same for tag 2 with four bytes and tag 3 with two.
+fn files_of_the_other_tag(trace: &mut Trace) {
+    for (c, keys) in [(8, 0), (8, 2), (8, 7), (4097, 2), (65_537, 2), (262_144, 2), (262_145, 2)] {
+        let pairs: Vec<(u32, u32)> = (1..=keys).map(|key| (key, key ^ 5)).collect();
+        let form = Form::new([2, u32::MAX, c], &pairs);
+        for (tag, bytes) in [(3, 4), (3, 2), (2, 4), (2, 2)] {
+            read_form(trace, &form.counted(tag, bytes), exact_length(2, c as usize));
+            say_all(trace, "F 1|T");
+        }
+        // counts that do not fit the pairs
+        let mut other = form.counted(3, 4);
+        for count in [65_535, 65_536, 65_538, c - 1, c, 1 << 31, u32::MAX] {
+            other.set(COUNT, count);
+            read_form(trace, &other, exact_length(2, c as usize));
+        }
+    }
+}
+
+/// Each byte in front of the pairs, of a file with tag 3 and four bytes for the count, is altered in
+/// three ways and put back; then the tag is 2 and the two first bytes of the count are taken away.
+fn every_byte_of_the_other_tag(trace: &mut Trace) {
+    say_all(trace, TWO_WAIT);
+    let file = Form::new([2, 15, 8], &[(6, 60), (9, 90)]).counted(3, 4).bytes();
+    lay(trace, &file);
+    for (index, byte) in file.iter().enumerate().take(35) {
+        for other in [byte.wrapping_add(1), byte.wrapping_sub(1), byte ^ 128] {
+            say_all(trace, &format!("Q {index} {other}|R"));
+        }
+        trace.say(format!("Q {index} {byte}"));
+    }
+    lay(trace, &[&file[..31], &file[33..]].concat());
+    say_all(trace, "R|Q 10 2|R|Q 18 18|R|T|T|T");
 }
 
 fn unreadable_lines_for_files(trace: &mut Trace) {

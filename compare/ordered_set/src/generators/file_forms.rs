@@ -13,8 +13,11 @@ const ENTRIES_LENGTH: usize = 6;
 pub const D: usize = 7;
 pub const K: usize = 8;
 pub const C: usize = 9;
-const COUNT: usize = 10;
+pub const COUNT: usize = 10;
 const PAIRS: usize = 11;
+
+/// The most keys whose number is written in two bytes.
+pub const MOST_OF_TWO_BYTES: u32 = 65_535;
 
 /// The numbers of a file in their order, each with the number of its bytes.
 #[derive(Clone)]
@@ -28,12 +31,30 @@ impl Form {
         form
     }
 
-    /// Count and length are made to fit.
+    /// Tag, count and length are made to fit.
     pub fn set_pairs(&mut self, pairs: &[(u32, u32)]) {
         self.0.truncate(PAIRS);
         self.0.extend(pairs.iter().flat_map(|&(key, value)| [(key, 4), (value, 4)]));
         self.set(COUNT, pairs.len() as u32);
-        self.set(ENTRIES_LENGTH, 2 + 8 * pairs.len() as u32);
+        if pairs.len() as u32 <= MOST_OF_TWO_BYTES {
+            self.set_counted(2, 2);
+        } else {
+            self.set_counted(3, 4);
+        }
+    }
+
+    /// A tag of the entries body, and a number of bytes for the count; the length is made to fit.
+    pub fn set_counted(&mut self, tag: u32, bytes: usize) {
+        self.set(SECOND_TAG, tag);
+        self.0[COUNT].1 = bytes;
+        let pairs = (self.0.len() - PAIRS) / 2;
+        self.set(ENTRIES_LENGTH, (bytes + 8 * pairs) as u32);
+    }
+
+    pub fn counted(&self, tag: u32, bytes: usize) -> Form {
+        let mut form = self.clone();
+        form.set_counted(tag, bytes);
+        form
     }
 
     pub fn pairs(&self) -> Vec<(u32, u32)> {
@@ -57,11 +78,35 @@ impl Form {
     /// The same numbers in other bodies, or as many with other tags. No one is a file.
     pub fn other_bodies(&self) -> Vec<Form> {
         let mut forms: Vec<Form> = [0, 1, 3, 255].map(|many| self.with(&[(BODIES, many)])).into();
-        for tags in [[1, 1], [2, 2], [2, 1], [0, 2], [1, 3]] {
+        for tags in [[1, 1], [2, 2], [2, 1], [0, 2], [1, 3], [3, 2], [3, 3], [1, 4]] {
             forms.push(self.with(&[(FIRST_TAG, tags[0]), (SECOND_TAG, tags[1])]));
         }
+        forms.extend(self.with_other_counts());
         forms.extend(self.with_a_gap());
         forms.extend([self.with_a_third(), self.entries_first(), self.lines_exchanged()]);
+        forms
+    }
+
+    /// Tag 3 with a count of so few keys, in four bytes and in two; tag 2 with four; and bytes that
+    /// are fewer or more than both. The table of contents fits the pairs, or the other tag.
+    fn with_other_counts(&self) -> Vec<Form> {
+        let [many, long] = [COUNT, ENTRIES_LENGTH].map(|place| self.get(place));
+        let wide = self.counted(3, 4);
+        let mut forms = vec![
+            wide.clone(),
+            wide.with(&[(ENTRIES_LENGTH, long)]),
+            self.counted(2, 4),
+            self.counted(2, 4).with(&[(ENTRIES_LENGTH, long)]),
+            self.counted(3, 2).with(&[(ENTRIES_LENGTH, long + 2)]),
+            self.counted(2, 3),
+            self.counted(3, 3),
+            self.counted(2, 1),
+        ];
+        for other in [65_535, 65_536, many << 16, many + 65_536, self.get(C), u32::MAX] {
+            forms.push(wide.with(&[(COUNT, other)]));
+            let fits = other.wrapping_mul(8).wrapping_add(4);
+            forms.push(wide.with(&[(COUNT, other), (ENTRIES_LENGTH, fits)]));
+        }
         forms
     }
 
@@ -115,7 +160,7 @@ impl Form {
 /// A file with something altered; at times it is one still.
 pub fn altered(dice: &mut Dice, form: &Form) -> Vec<u8> {
     let mut form = form.clone();
-    match dice.below(15) {
+    match dice.below(20) {
         0..=2 => one_number(dice, &mut form),
         3 => exchange_numbers(dice, &mut form),
         4 => settings_at_an_end(dice, &mut form),
@@ -128,6 +173,7 @@ pub fn altered(dice: &mut Dice, form: &Form) -> Vec<u8> {
         }
         12 => return turned_number(dice, &form),
         13 => return cut(dice, &form),
+        14..=18 => other_count(dice, &mut form),
         _ => return extended(dice, &form),
     }
     form.bytes()
@@ -164,7 +210,7 @@ fn settings_at_an_end(dice: &mut Dice, form: &mut Form) {
     let (place, number) = match dice.below(3) {
         0 => (D, dice.pick(&[0, 1, 2, 3, 15, 16, 17, 1 << 16, 1 << 31, u32::MAX])),
         1 => (K, dice.pick(&[0, 1, greatest, greatest - 1, greatest.saturating_add(1), u32::MAX])),
-        _ => (C, dice.pick(&[0, 1, 2, 3, 4, 4095, 4096, 4097, 1 << 16, 1 << 31, u32::MAX])),
+        _ => (C, dice.pick(&[0, 1, 2, 3, 4, 4096, 4097, 262_144, 262_145, 1 << 31, u32::MAX])),
     };
     form.set(place, number);
 }
@@ -180,6 +226,25 @@ fn count_and_length(dice: &mut Dice, form: &mut Form) {
             form.set(COUNT, other);
             form.set(ENTRIES_LENGTH, 2 + 8 * other);
         }
+    }
+}
+
+/// The entries body as another tag has it, wholly or in part, at times in a list of more cells:
+/// the length says what the count's bytes and the pairs are, and the count what it said or the
+/// least that four bytes are for.
+fn other_count(dice: &mut Dice, form: &mut Form) {
+    let (tag, bytes) = dice.pick(&[(3, 4), (3, 4), (3, 4), (3, 2), (2, 4), (3, 3), (4, 4)]);
+    form.set_counted(tag, bytes);
+    let count = form.get(COUNT);
+    if dice.one_in(3) {
+        form.set(COUNT, dice.pick(&[65_535, 65_536, count << 16, count + 65_536, 262_143]));
+    }
+    if dice.one_in(3) {
+        form.set(C, dice.pick(&[4096, 4097, 65_536, 65_537, 262_143, 262_144, 262_145]));
+    }
+    if dice.one_in(4) {
+        let fits = form.get(COUNT).wrapping_mul(8).wrapping_add(dice.pick(&[2, 4]));
+        form.set(ENTRIES_LENGTH, fits);
     }
 }
 

@@ -10,7 +10,7 @@ use super::Trace;
 use crate::files::Kept;
 use crate::model::Model;
 use crate::replay::MOST_WORDS;
-use crate::settings::{exact_length, Settings};
+use crate::settings::{cells_within, exact_length, Settings};
 
 /// Lines near W and R that are not readable.
 pub const UNREADABLE: &[u8] = b"W |W 0| W|WW|w|W\r|W\0|R |R 0| R|RR|r|R\r|R\0|WR|W R|R W";
@@ -28,7 +28,7 @@ pub fn files(trace: &mut Trace) {
 fn begin(trace: &mut Trace) -> Vec<u32> {
     let most_cells = trace.dice.pick(&[6, 24, 24, 60]);
     let settings = match trace.dice.below(16) {
-        0 => Settings::new(trace.dice.pick(&[2, 8, 16]), u32::MAX, trace.dice.between(4000, 4096)),
+        0 => Settings::new(trace.dice.pick(&[2, 8, 16]), u32::MAX, trace.dice.between(4000, 4200)),
         _ => Some(some_settings(&mut trace.dice, most_cells)),
     };
     let settings = settings.expect("settings in range");
@@ -58,7 +58,7 @@ fn scene(trace: &mut Trace, keys: &[u32]) {
 
 /// How many bytes the list's file has.
 fn file_length(model: &Model) -> usize {
-    33 + 8 * Kept::of(model).waiting.len()
+    Kept::of(model).file().len()
 }
 
 /// Writes the list into bytes of exactly its file's length.
@@ -125,8 +125,8 @@ fn over_a_restart(trace: &mut Trace, model: &Model) {
 /// Another D, with the C that asks for the same length, if there is one.
 fn other_of_length(settings: &Settings) -> Option<(usize, usize)> {
     let others = (2..=16).filter(|&d| d != settings.dimensions);
-    let mut both = others.flat_map(|d| (3..=4096).map(move |c| (d, c)));
-    both.find(|&(d, c)| exact_length(d, c) == settings.length())
+    let mut both = others.map(|d| (d, cells_within(d, settings.length())));
+    both.find(|&(d, c)| c >= 3 && exact_length(d, c) == settings.length())
 }
 
 /// Single bytes of a file are others, then the old ones again: in front of the pairs as often as

@@ -4,24 +4,32 @@
 use super::keys::{clustered_keys, neighbour};
 use super::late::late_note;
 use super::Trace;
+use crate::replay::most_cells;
 use crate::settings::Settings;
 
+/// The first list has 4,096 cells, one more, or as many as a trace can have words for.
 pub fn large(trace: &mut Trace) {
-    let mut cells = 4096;
+    let dimensions = some_dimensions(trace);
+    let cells = trace.dice.pick(&[4096, 4097, most_cells(dimensions as usize) as u32]);
+    season(trace, dimensions, cells);
     while trace.goes_on() {
-        season(trace, cells);
-        let most = (trace.left / 4).clamp(64, 4096) as u32;
-        cells = trace.dice.between(most / 2, most);
+        let dimensions = some_dimensions(trace);
+        let most = (trace.left / 4).clamp(64, most_cells(dimensions as usize)) as u32;
+        let cells = trace.dice.between(most / 2, most);
+        season(trace, dimensions, cells);
     }
 }
 
-fn season(trace: &mut Trace, cells: u32) {
-    let dimensions = trace.dice.pick(&[2, 3, 4, 8, 15, 16]);
+fn some_dimensions(trace: &mut Trace) -> u32 {
+    trace.dice.pick(&[2, 2, 3, 4, 8, 15, 16])
+}
+
+fn season(trace: &mut Trace, dimensions: u32, cells: u32) {
     let largest_key = trace.dice.pick(&[u32::MAX, 1_048_575, 9_999]);
     let settings = Settings::new(dimensions, largest_key, cells).expect("settings in range");
     trace.make(&settings);
     let keys = many_keys(trace, &settings);
-    let part = (trace.left / 4).clamp(20, 5000);
+    let part = (trace.left / 4).clamp(20, settings.cells + settings.cells / 8);
     insert_all(trace, &keys[..part.min(keys.len())]);
     take_and_ask(trace, &settings, &keys, part / 3);
     late_notes(trace, part / 6);

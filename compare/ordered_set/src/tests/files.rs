@@ -3,7 +3,7 @@
 
 use super::{generated, line};
 use crate::files::{read, write, Kept};
-use crate::generators::file_forms::Form;
+use crate::generators::file_forms::{Form, COUNT};
 use crate::model::{Mark, Model};
 use crate::operations::{perform, Answer, Call};
 use crate::reading::list;
@@ -61,9 +61,24 @@ fn bytes_of_a_file() {
 fn printed_file() {
     let printed = "02  01 00000013 0000000c  02 0000001f 0000000a  00000002 0000000f 00000008  \
                    0001 00000006 0000003c";
-    let bytes = file(&after("U 2 15 8 71|N 6 60"));
-    let digits: String = bytes.iter().map(|byte| format!("{byte:02x}")).collect();
-    assert_eq!(digits, printed.replace(' ', ""));
+    assert_eq!(digits(&file(&after("U 2 15 8 71|N 6 60"))), printed.replace(' ', ""));
+    let begins =
+        "02  01 00000013 0000000c  03 0000001f 00080004  00000002 ffffffff 00040000  00010000";
+    let words = read_in([2, u32::MAX, 262_144], &keys_in_a_row(65_536));
+    let mut room = vec![0; 524_323];
+    assert_eq!(write(&words, &mut room), Answer::done(0, 0, 524_323));
+    assert_eq!(digits(&room[..35]), begins.replace(' ', ""));
+}
+
+fn digits(bytes: &[u8]) -> String {
+    bytes.iter().map(|byte| format!("{byte:02x}")).collect()
+}
+
+/// The list that a file with these settings and pairs is read as.
+fn read_in([d, k, c]: [u32; 3], pairs: &[(u32, u32)]) -> Vec<u32> {
+    let mut words = vec![7; exact_length(d as usize, c as usize)];
+    assert_eq!(read(&Form::new([d, k, c], pairs).bytes(), &mut words).refusal, 0);
+    words
 }
 
 #[test]
@@ -79,6 +94,117 @@ fn shortest_and_longest_file() {
     let one_more: Vec<(u32, u32)> = (1..4097).map(|key| (key, key)).collect();
     let too_long = Form::new([16, u32::MAX, 4096], &one_more).bytes();
     assert_eq!(read(&too_long, &mut words), Answer::refused(11));
+}
+
+/// So many keys from 1 on, each with a value.
+fn keys_in_a_row(many: u32) -> Vec<(u32, u32)> {
+    (1..=many).map(|key| (key, !key)).collect()
+}
+
+/// The numbers in front of the pairs, without the settings: tag and length of the entries body, and
+/// the bytes of its count.
+fn before_pairs(file: &[u8], count_bytes: usize) -> (u8, u32, &[u8]) {
+    let length = file[15..19].try_into().expect("four bytes");
+    (file[10], u32::from_be_bytes(length), &file[31..31 + count_bytes])
+}
+
+/// The last file of tag 2 and the first of tag 3, in the least list that has room and in the
+/// largest; then the greatest of all.
+#[test]
+fn files_of_both_tags() {
+    for (many, c, tag, long, count) in [
+        (65_535, 65_536, 2, 524_313, &[255, 255][..]),
+        (65_535, 262_144, 2, 524_313, &[255, 255]),
+        (65_536, 65_537, 3, 524_323, &[0, 1, 0, 0]),
+        (65_536, 262_144, 3, 524_323, &[0, 1, 0, 0]),
+        (262_143, 262_144, 3, 2_097_179, &[0, 3, 255, 255]),
+    ] {
+        let pairs = keys_in_a_row(many);
+        let bytes = Form::new([2, u32::MAX, c], &pairs).bytes();
+        assert_eq!(bytes.len(), long);
+        let body = long as u32 - 31;
+        assert_eq!(before_pairs(&bytes, count.len()), (tag, body, count));
+        let mut words = vec![7; exact_length(2, c as usize)];
+        assert_eq!(read(&bytes, &mut words), Answer::done(0, 0, many as usize));
+        assert_eq!(live(&list(&words).expect("a list")), pairs.into_iter().collect());
+        let mut room = vec![7; long + 1];
+        assert_eq!(write(&words, &mut room[..long - 1]), Answer::refused(12));
+        assert_eq!(write(&words, &mut room), Answer::done(0, 0, long));
+        assert_eq!((&room[..long], room[long]), (&bytes[..], 7));
+        // 11 is asked before 2
+        assert_eq!(read(&bytes, &mut words[1..]), Answer::refused(2));
+        assert_eq!(read(&bytes[..long - 1], &mut words[1..]), Answer::refused(11));
+    }
+}
+
+/// The width of the count follows the tag, and the tag the count.
+#[test]
+fn count_of_the_other_tag() {
+    for (many, c) in [(0, 3), (2, 8), (7, 8), (2, 4097), (2, 262_144), (65_535, 262_144)] {
+        let form = Form::new([2, u32::MAX, c], &keys_in_a_row(many));
+        assert!(Kept::in_file(&form.bytes()).is_some());
+        for (tag, bytes) in [(3, 4), (3, 2), (2, 4), (3, 3), (2, 3), (1, 2), (4, 4), (0, 2)] {
+            assert_eq!(
+                Kept::in_file(&form.counted(tag, bytes).bytes()),
+                None,
+                "{many} {tag} {bytes}"
+            );
+        }
+    }
+    let form = Form::new([2, u32::MAX, 262_144], &keys_in_a_row(65_536));
+    assert!(Kept::in_file(&form.bytes()).is_some());
+    for (tag, bytes) in [(3, 2), (2, 4), (2, 2), (3, 3), (2, 3), (4, 4), (1, 4), (0, 4)] {
+        assert_eq!(Kept::in_file(&form.counted(tag, bytes).bytes()), None, "{tag} {bytes}");
+    }
+}
+
+/// One key fewer than cells, as many, and one more, about where the tag changes and at the greatest C.
+#[test]
+fn count_and_cells() {
+    for c in [65_535, 65_536, 65_537, 262_144] {
+        for many in [c - 1, c, c + 1] {
+            let bytes = Form::new([16, u32::MAX, c], &keys_in_a_row(many)).bytes();
+            let answer = if many < c { Answer::refused(2) } else { Answer::refused(11) };
+            assert_eq!(read(&bytes, &mut []), answer, "{many} keys, {c} cells");
+        }
+    }
+    let bytes = Form::new([2, u32::MAX, 262_145], &keys_in_a_row(65_536)).bytes();
+    assert_eq!(read(&bytes, &mut []), Answer::refused(11));
+}
+
+/// Each byte in front of the pairs of a file with tag 3 becomes another: what is accepted has other
+/// settings that are in range still. Then the count, the length and the pairs do not fit each other.
+#[test]
+fn altered_bytes_of_tag_3() {
+    let form = Form::new([2, u32::MAX, 262_144], &keys_in_a_row(65_536));
+    let bytes = form.bytes();
+    let mut accepted = BTreeMap::<usize, Vec<u8>>::new();
+    for (index, byte) in (0..35).flat_map(|index| (0..20).map(move |byte| (index, byte))) {
+        let mut other = bytes.clone();
+        other[index] = byte;
+        match read(&other, &mut []) {
+            _ if other == bytes => (),
+            Answer { refusal: 2, .. } => accepted.entry(index).or_default().push(byte),
+            answer => assert_eq!(answer, Answer::refused(11), "{index} {byte}"),
+        }
+    }
+    // C is 0x40000: 0x20000 and 0x30000 are in range, and 0x10000 are one cell too few
+    let mut in_range = BTreeMap::from([(22, (3..=16).collect()), (28, vec![2, 3])]);
+    in_range.extend((23..=26).map(|index| (index, (0..20).collect())));
+    assert_eq!(accepted, in_range);
+    let long = bytes.len();
+    for cut in [0, 1, 10, 11, 19, 31, 32, 33, 34, 35, 43, long - 8, long - 1] {
+        assert_eq!(Kept::in_file(&bytes[..cut]), None);
+        assert_eq!(Kept::in_file(&bytes[long - cut..]), None);
+    }
+    for more in [&[0][..], &[255], &[255; 8]] {
+        assert_eq!(Kept::in_file(&[&bytes[..], more].concat()), None);
+    }
+    for count in [65_535, 65_537, 262_143, 1 << 24] {
+        let mut other = form.clone();
+        other.set(COUNT, count);
+        assert_eq!(Kept::in_file(&other.bytes()), None);
+    }
 }
 
 #[test]
@@ -132,7 +258,8 @@ fn every_altered_byte() {
     let values = [37, 38, 39, 40, 45, 46, 47, 48];
     let of_values = values.map(|index| (index, 255));
     // D from 2 to 16; K, C and the keys by their low bytes, K and C also by the higher ones
-    let others = [(22, 14), (23, 255), (24, 255), (25, 255), (26, 246), (29, 15), (30, 252)];
+    let others =
+        [(22, 14), (23, 255), (24, 255), (25, 255), (26, 246), (28, 3), (29, 255), (30, 252)];
     let of_keys = [(36, 7), (44, 8)];
     let expected: BTreeMap<usize, i32> =
         [&of_values[..], &others, &of_keys].concat().into_iter().collect();
@@ -178,13 +305,25 @@ fn keys_in_a_file() {
     assert!(!reads(u32::MAX, 3, &[u32::MAX, 0]));
 }
 
-/// What a trace's lines W and R lead to: the refusals, and how many lists were read by settings
-/// other than those that the words had.
+/// What a trace's lines W and R lead to: the refusals, how many lists were read by settings other
+/// than those that the words had, and how many reads were of tag 3 and of a file but for that tag
+/// and its four bytes.
 #[derive(Default)]
 struct Seen {
     refusals: BTreeSet<(char, u32)>,
     other_settings: u32,
     over_no_list: u32,
+    of_tag_3: u32,
+    but_for_tag_3: u32,
+}
+
+/// The same file under tag 2, with a count of two bytes, if the bytes are long enough.
+fn under_tag_2(bytes: &[u8]) -> Option<Vec<u8>> {
+    let (before, after) = (bytes.get(..31)?, bytes.get(33..)?);
+    let mut file = [before, after].concat();
+    file[10] = 2;
+    file[15..19].copy_from_slice(&(after.len() as u32).to_be_bytes());
+    Some(file)
 }
 
 /// A refused call alters nothing. A write leaves the words; a read leaves the bytes, and the words
@@ -207,6 +346,12 @@ fn see(trace: &[u8], seen: &mut Seen) {
             _ => continue,
         };
         seen.refusals.insert((letter, answer.refusal));
+        if letter == 'R' && bytes.get(10) == Some(&3) {
+            assert_eq!(answer, Answer::refused(11), "a trace has no bytes for so many keys");
+            let few = under_tag_2(&bytes).and_then(|file| Kept::in_file(&file));
+            seen.of_tag_3 += 1;
+            seen.but_for_tag_3 += u32::from(few.is_some());
+        }
         assert!(words == state.words || letter == 'R' && answer.refusal == 0, "words altered");
         assert!(bytes == state.bytes || letter == 'W' && answer.refusal == 0, "bytes altered");
         if letter == 'R' && answer.refusal == 0 {
@@ -241,10 +386,12 @@ fn traces_of_files() {
     let mut edges = Seen::default();
     see(&generated("gen-edges", 0, usize::MAX), &mut edges);
     assert_eq!(edges.refusals, every);
+    assert!(edges.of_tag_3 > 100 && edges.but_for_tag_3 > 20);
     let mut seen = Seen::default();
     (1..=8).for_each(|seed| see(&generated("gen-files", seed, 1500), &mut seen));
     assert_eq!(seen.refusals, every);
     assert!(seen.other_settings > 20 && seen.over_no_list > 20);
+    assert!(seen.of_tag_3 > 60 && seen.but_for_tag_3 > 20);
 }
 
 /// A list and the one read from its file give the same takes but for passed.

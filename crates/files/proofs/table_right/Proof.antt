@@ -26,17 +26,17 @@ returns-2 c =
 
 returns-3 : tie.Need-returns-3
 returns-3 c =
-    let s = c .before .before .before .before .before .before in
+    let s = c .before .before .before .before .before .before .before .before in
     let bytes = s .args .file .now in
-    let body = c .before .before .body-at in
-    c .body-at2 .ensures
+    let body = c .before .before .before .before .body-at in
+    (rw (c .before .count-width .ensures .0, c .before .before .tag-for .ensures) at (c .body-at2 .ensures))
     ∙ sym (
     table-same bytes (s .args .n) (omega (arith, s .pre .1))
-    ∙ rw (eq-eqb 2 (getD bytes 0 0) (sym (c .before .before .before .if1 .left)), ← body .ensures, not-false (body .result) (c .before .if2 .left)) refl
+    ∙ rw (eq-eqb 2 (getD bytes 0 0) (sym (c .before .before .before .before .before .if1 .left)), ← body .ensures, not-false (body .result) (c .before .before .before .if2 .left)) refl
     )
 
 pub table-right-spec : {M : Type 1} → statement M
 table-right-spec =
     tie.close
-    (tie.spec (λ c. search needs) returns (λ c κs. search needs) returns-2 (λ c. search needs) (λ c. search needs) (λ c κs. search needs)
-    returns-3)
+    (tie.spec (λ c. search needs) returns (λ c κs. search needs) returns-2 (λ c κs. search needs) (λ c κs. search needs) (λ c. search needs)
+    (λ c. search needs) (λ c. search needs) (λ c κs. search needs) returns-3)

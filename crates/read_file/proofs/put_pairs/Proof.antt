@@ -4,7 +4,7 @@ use Prim.Native.Nat.{_-_, _≤_}
 use native.Mathlib.Omega.{arith}
 use lib.ListN.{length, drop}
 use borrow.Author.Needs.{needs}
-use Rattle.files.specs.Files.{pairsFrom, bytesBefore}
+use Rattle.files.specs.Files.{before, pairsFrom}
 use Rattle.words.proofs.Listed.{listed-base, listed-power}
 use Rattle.read_file.specs.Putting.{Putting}
 use Rattle.read_file.proofs.Reading.{told, told-limits, told-listed, put-start, put-asks, put-more, put-all}
@@ -13,7 +13,7 @@ use Rattle.read_file.proofs.put_pairs.Tie as tie
 
 abbrev Inv-loop : tie.InvT-loop
 Inv-loop list₀ s file n powers path₀ last₀ i₀ list path last i =
-    (i ≤ n) × (Putting list s (pairsFrom i (drop bytesBefore file)) last path × (length list ≡ length list₀))
+    (i ≤ n) × (Putting list s (pairsFrom i (drop (before n) file)) last path × (length list ≡ length list₀))
 
 abbrev μ-loop : tie.MeasureT-loop
 μ-loop list₀ s file n powers path₀ last₀ i₀ list path last i = n - i
@@ -31,12 +31,12 @@ loop-holds c = let pre = c .before .before .before .pre in (omega arith, (put-st
 key-at-requires : tie.Need-key-at-requires Inv-loop μ-loop
 key-at-requires c κs =
     let t = told (c .before .before .before .before .before .pre .1) in
-    (omega (arith, told-limits t, c .loop-test .taken), omega (arith, t .long, c .loop-test .taken))
+    omega (arith, t .long, c .loop-test .taken)
 
 value-at-requires : tie.Need-value-at-requires Inv-loop μ-loop
 value-at-requires c κs =
     let t = told (c .before .before .before .before .before .before .pre .1) in
-    (omega (arith, told-limits t, c .before .loop-test .taken), omega (arith, t .long, c .before .loop-test .taken))
+    omega (arith, t .long, c .before .loop-test .taken)
 
 path-part : tie.Need-slice-aggregate-put-pair Inv-loop μ-loop
 path-part c = sym (c .before .before .before .before .before .before .before .before .loop .inv .1 .0 .formed .long)

@@ -1,5 +1,5 @@
--- `words::word_index` meets its contract: the index is the one of the definition, and it is small, as it lies inside a list of at most 16
--- dimensions and 4,096 cells.
+-- `words::word_index` meets its contract: the index is the one of the definition, and it is small, as it lies inside a list, and
+-- no list has more words than the largest one.
 use mathlib.Core.Path.{refl}
 use native.Mathlib.Omega.{arith}
 use borrow.Author.Needs.{needs}

@@ -2,13 +2,12 @@
 -- pairs.
 use native.Mathlib.Omega.{arith}
 use borrow.Author.Needs.{needs}
+use Rattle.files.specs.Files.{tagFor}
+use Rattle.files.proofs.Tags.{width-most}
 use Rattle.words.proofs.Listed.{listed-shaped}
 use Rattle.write_file.proofs.Whole.{write-refused, write-accepted}
 use Rattle.write_file.proofs.write_file.Statement.{statement}
 use Rattle.write_file.proofs.write_file.Tie as tie
-
-file-length-requires : tie.Need-file-length-requires
-file-length-requires c κs = omega (arith, c .count-live .ensures .1, listed-shaped (c .before .before .before .pre) .cells-most)
 
 returns : tie.Need-returns
 returns c =
@@ -30,7 +29,13 @@ cast-accepted : tie.Need-cast-accepted
 cast-accepted c =
     let bytes = c .before .before .before .before .before .before .before .before .before in
     let count = bytes .before in
-    omega (arith, bytes .file-length .ensures, count .count-live .ensures .1, listed-shaped (count .before .before .before .pre) .cells-most)
+    omega (
+      arith,
+      bytes .file-length .ensures,
+      width-most (tagFor (count .count-live .result)),
+      count .count-live .ensures .1,
+      listed-shaped (count .before .before .before .pre) .cells-most,
+    )
 
 returns-2 : tie.Need-returns-2
 returns-2 c =
@@ -46,5 +51,5 @@ returns-2 c =
 pub write-file-spec : {M : Type 1} → statement M
 write-file-spec =
     tie.close
-    (tie.spec (λ c κs. search needs) file-length-requires (λ c κs. search needs) returns write-front-requires (λ c κs. search needs) cast-accepted
+    (tie.spec (λ c κs. search needs) (λ c κs. search needs) (λ c κs. search needs) returns write-front-requires (λ c κs. search needs) cast-accepted
     (λ c κs. search needs) (λ c. search needs) returns-2)

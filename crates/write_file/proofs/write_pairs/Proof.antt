@@ -4,6 +4,7 @@ use mathlib.Core.Logic.{⊎-elim}
 use native.Mathlib.Omega.{arith}
 use borrow.Author.Needs.{needs}
 use Rattle.settings.specs.Numbers.{mostDimensions}
+use Rattle.files.specs.Files.{before}
 use Rattle.words.proofs.Shaped.{field-within}
 use Rattle.words.proofs.Listed.{listed-shaped}
 use Rattle.paths.specs.Paths.{held}
@@ -15,17 +16,17 @@ use Rattle.write_file.proofs.write_pairs.Statement.{statement}
 use Rattle.write_file.proofs.write_pairs.Tie as tie
 
 abbrev Inv-loop : tie.InvT-loop
-Inv-loop list s file₀ path₀ i₀ file path i = Writing list s file₀ file (held s path) i
+Inv-loop list s file₀ n path₀ i₀ file path i = Writing list s (before n) file₀ file (held s path) i
 
 abbrev μ-loop : tie.MeasureT-loop
-μ-loop list s file₀ path₀ i₀ file path i = keysAhead list s (held s path)
+μ-loop list s file₀ n path₀ i₀ file path i = keysAhead list s (held s path)
 
 loop-holds : tie.Need-loop-holds Inv-loop μ-loop
 loop-holds c =
     let s = c .before .before in
     let most = listed-shaped (s .pre .0) .dimensions-most in
     let D = s .args .s .dimensions in
-    writing-start (s .pre .0) (zeros-taken D mostDimensions most) (zeros-formed D most) (s .args .file .now)
+    writing-start (s .pre .0) (zeros-taken D mostDimensions most) (zeros-formed D most) (before (s .args .n)) (s .args .file .now)
 
 next-from-requires : tie.Need-next-from-requires Inv-loop μ-loop
 next-from-requires c κs = (listed-walkable (c .before .before .before .before .pre .0), c .before .loop .inv .path-in)
@@ -62,7 +63,7 @@ write-pair-requires c κs =
     let v = found .before .before in
     let s = v .before .before .before in
     let next = found-held (v .loop .inv .path-in) (found .next-from .ensures) in
-    writing-room (s .pre .0) (v .loop .inv) next (word .before .if1 .left) (word .word .ensures) (live .if2 .taken) (s .pre .1)
+    writing-room (s .pre .0) (v .loop .inv) next (word .before .if1 .left) (word .word .ensures) (live .if2 .taken) (s .pre .1 .0) (s .pre .1 .1)
 
 add-i : tie.Need-add-i Inv-loop μ-loop
 add-i c =

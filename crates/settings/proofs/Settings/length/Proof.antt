@@ -1,4 +1,4 @@
--- `Settings::length` meets its contract: the sum fits, as the cells have at most 155,648 words.
+-- `Settings::length` meets its contract: the sum fits, as no list has more words than the largest one.
 use native.Mathlib.Omega.{arith}
 use borrow.Author.Needs.{needs}
 use Rattle.settings.proofs.Numbers.{cells-fit}
