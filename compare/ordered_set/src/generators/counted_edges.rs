@@ -126,31 +126,21 @@ fn writes(trace: &mut Trace) {
 }
 
 /// 3, 15, 13, 14, 4: a record that breaks the grammar, one whose number does not fit, and one whose
-/// key is above K, 4,097; then good ones, and one whose key is live. The last number stays.
+/// key is above K, 4,097; then good ones, one whose key is live, and one that no cell is free for.
+/// The last number stays where one is refused.
 fn logged(trace: &mut Trace) {
-    say_all(trace, "K 32|U 2 4097 3 31");
-    for (record, last) in [
-        ("0,1,1,,", 0),
-        ("16,1,1,,1", 0),
-        ("0,1,1,,65535", 0),
-        ("0,1,2,,1", 0),
-        ("1,1,0,,1", 7),
-        ("0,1,1,,1", 7),
-        ("0,1,1,,2", 7),
-        ("0,1,0,,3", 4_294_967_296u64),
-        ("0,1,0,,4", 65_536),
-    ] {
-        trace.say("B 0");
-        append(trace, record.as_bytes());
-        let kept = at_hand(trace).to_vec();
-        say_all(trace, &format!("O {last}|P 0 3|X 2 1|G|P 0 2|G"));
-        put_record(trace, &kept);
-        for length in [31, 33] {
-            say_all(trace, &format!("K {length}|P 0 3|G|P 0 2|G"));
-            put_record(trace, &kept);
-        }
-        say_all(trace, "P 0 3|G|P 0 2|G|C 0");
+    say_all(trace, "K 32|U 2 4097 4 39");
+    for record in ["0,1,1,,", "16,1,1,,1", "0,1,1,,65535", "0,1,2,,1", "1,1,0,,1"] {
+        trace.say("O 0");
+        log(trace, record);
     }
+    log(trace, "0,1,1,,1");
+    log(trace, "0,1,1,,2");
+    say_all(trace, "N 1 10|N 2 20|O 4294967296");
+    log(trace, "0,1,0,,3");
+    say_all(trace, "T|T|S");
+    log(trace, "0,1,0,,3");
+    log(trace, "0,1,0,,4");
     // every class, its least and its greatest entry
     trace.make(&Settings::new(8, u32::MAX, 40).expect("settings in range"));
     for class in 0..16 {
@@ -160,6 +150,18 @@ fn logged(trace: &mut Trace) {
             say_all(trace, &format!("G|C {class}"));
         }
     }
+}
+
+/// One record of the logger, with the list and the class record damaged and not.
+fn log(trace: &mut Trace, record: &str) {
+    trace.say("B 0");
+    append(trace, record.as_bytes());
+    let kept = at_hand(trace).to_vec();
+    for damage in ["X 2 1", "K 31", "K 33"] {
+        say_all(trace, &format!("{damage}|P 0 3|G|P 0 2|G"));
+        put_record(trace, &kept);
+    }
+    say_all(trace, "P 0 3|G|P 0 2|G|C 0");
 }
 
 /// 11, 2, then 15 for the length alone: bytes that are no file, a list of another length, and
