@@ -1,7 +1,10 @@
 //! Lists with a class record beside them: what a record's words are, agreement with a model after random calls, batches and reads, the
-//! orders of refusals, damage of every word, lengths from 0 to 64, and the question about one class.
+//! orders of refusals, damage of every word, lengths from 0 to 64, the question about one class, and the example `screen`.
 
 mod common;
+#[path = "../examples/screen.rs"]
+#[allow(dead_code)]
+mod screen;
 
 use common::{entry_key, Dice};
 use mdlist_host::*;
@@ -519,4 +522,28 @@ fn largest_list() {
     lent.holds(&waiting);
     let total: u32 = (0..16).map(|number| counted::class(&lent.classes, number).expect("a class").count).sum();
     assert_eq!(total as usize, waiting.len());
+}
+
+/// The text of a screen, from a record alone.
+#[test]
+fn screen_of_a_record() {
+    let lent = Lent::fresh(8, u32::MAX, 16).with(&[entry_key(1, 1_117, 3), entry_key(1, 117, 12), entry_key(15, 65_535, 4_095)]);
+    let text = screen::shown(&lent.classes).expect("a record");
+    let lines: Vec<&str> = text.lines().collect();
+    assert_eq!(lines.len(), 17);
+    assert_eq!(lines[1..3], ["    0        0", "    1        2          117      12"]);
+    assert_eq!(lines[16], "   15        1        65535    4095");
+    assert_eq!(screen::shown(&lent.classes[1..]), Err(Refusal::BadClasses));
+}
+
+/// The example for a second: one screen, with entries that came in meanwhile.
+#[test]
+fn screen_for_a_second() {
+    let mut output = Vec::new();
+    screen::shift(1, &mut output).expect("the list is never refused");
+    let text = String::from_utf8(output).expect("text");
+    let waiting =
+        text.lines().skip(1).take(16).map(|line| line.split_whitespace().nth(1).expect("a count").parse::<u32>().expect("a number"));
+    assert_eq!(text.lines().count(), 18);
+    assert!(waiting.sum::<u32>() > 0);
 }
