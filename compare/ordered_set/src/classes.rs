@@ -5,10 +5,10 @@
 use crate::model::{Mark, Model};
 use crate::operations::{Answer, CLASSES_DIFFER, CLASS_OUT_OF_RANGE};
 
-/// The class record 1: two words for each class.
+/// The class record 2: two words for each class.
 pub const CLASS_WORDS: usize = 32;
 
-/// The class record 2: the keys of a class have its number in their first four bits.
+/// The class record 1: the keys of a class have its number in their first four bits.
 const BITS_BEHIND: u32 = 28;
 const ALL_BEHIND: u32 = 0x0fff_ffff;
 
