@@ -11,7 +11,7 @@ use Rattle.meaning.specs.declared.Reading.the-variants.{IsList}
 use Rattle.answers.specs.declared.Operation.{Operation}
 use Rattle.meaning.specs.Layer.Listed.{Listed}
 use Rattle.calls.specs.Calls.{outcome, operated, afterCalls}
-use Rattle.calls.specs.Batch.{BatchLent, callsIn, fits, batchDone, batchOn, batchOut}
+use Rattle.calls.specs.Batch.{BatchLent, callsIn, fits, batchDone, batchOut}
 use Rattle.calls.proofs.Listed.{operation-listed}
 
 module _ (calls : List ℕ) (lent : BatchLent) {r : Answer} {s : Settings} (listed : readingOf (lent .words) ≡ IsList s) where

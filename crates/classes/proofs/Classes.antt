@@ -1,6 +1,6 @@
 -- The words of the record: where those of each class stand, what one key more makes of them, and that the order of the keys does not matter.
 use mathlib.Core.Path.{_≡_, refl, sym, ap, ap₂, _∙_}
-use mathlib.Core.Bool.{Bool, true, false, cond, _&&_, _||_}
+use mathlib.Core.Bool.{Bool, true, false, cond}
 use mathlib.Core.List.{List, [], _∷_, _++_, map, flatMap}
 use Prim.Native.Nat.{ℕ, zero, suc, _+_, _*_, _-_, _≤_, _<_}
 use native.Mathlib.Decide.{ℕ-discrete, decLe}
@@ -26,7 +26,7 @@ lesser-none : (other : ℕ) → lesser 0 other ≡ other
 unfolding lesser
 lesser-none other = refl
 
-lesser-alone : (one : ℕ) → lesser one 0 ≡ one
+pub lesser-alone : (one : ℕ) → lesser one 0 ≡ one
 unfolding lesser
 lesser-alone one = at (ℕ-discrete one 0)
   where
@@ -34,7 +34,7 @@ lesser-alone one = at (ℕ-discrete one 0)
     at (yes e) = rw (eq-eqb one 0 e) (sym e)
     at (no ne) = rw (ne-eqb one 0 ne) refl
 
-lesser-first : (one other : ℕ) → 0 < one → one ≤ other → lesser one other ≡ one
+pub lesser-first : (one other : ℕ) → 0 < one → one ≤ other → lesser one other ≡ one
 unfolding lesser
 lesser-first one other h l = rw (ne-eqb one 0 (λ e. omega arith), ne-eqb other 0 (λ e. omega arith), le-leb one other l) refl
 

@@ -2,3 +2,4 @@
 pub mod Classes
 pub mod Tallying
 pub mod SameWords
+pub mod Least

@@ -1,5 +1,5 @@
 -- Two records are compared word by word: what is left to compare says whether they are the same.
-use mathlib.Core.Path.{_≡_, refl, sym, ap, _∙_}
+use mathlib.Core.Path.{_≡_, refl, ap, _∙_}
 use mathlib.Core.Bool.{Bool, true, false}
 use mathlib.Core.List.{List}
 use Prim.Native.Nat.{ℕ, suc, _+_, _≤_, _<_}
@@ -8,7 +8,6 @@ use lib.ListN.{length, getD, drop, drop-of-length-le}
 use lib.Seq.{drop-cons}
 use borrow.Author.Tests.{eq-eqb, ne-eqb}
 use Rattle.lists.specs.Lists.{same}
-use Rattle.lists.proofs.Tests.{tests-same}
 use Rattle.lists.proofs.Same.{same-eq}
 use Rattle.classes.specs.Classes.{recordWords, classesOf, agrees, liveKeys}
 use Rattle.classes.proofs.Classes.{classes-length}

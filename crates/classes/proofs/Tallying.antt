@@ -1,21 +1,21 @@
 -- From the last cell to the first: the record so far is that of the row of the cells from x on.
 use mathlib.Core.Path.{_≡_, refl, sym, ap, _∙_}
 use mathlib.Core.Bool.{Bool, true, false, cond}
-use mathlib.Core.List.{List, [], _∷_}
+use mathlib.Core.List.{List}
 use Prim.Native.Nat.{ℕ, zero, suc, _+_, _-_, _≤_, _<_}
 use native.Mathlib.Omega.{arith}
-use lib.Dec.{eqb, leb}
+use lib.Dec.{eqb}
 use lib.ListN.{length, getD, set, replicate, length-map}
 use borrow.Author.Tests.{eq-eqb, ne-eqb}
 use Rattle.settings.specs.declared.Settings.{Settings}
 use Rattle.lists.specs.Lists.{those}
 use Rattle.lists.proofs.Those.{those-most}
 use Rattle.meaning.specs.Row.{Node, put}
-use Rattle.meaning.specs.Words.{keyAt, markAt, liveMark}
+use Rattle.meaning.specs.Words.{keyAt, markAt}
 use Rattle.meaning.specs.Layer.Listed.{Listed}
-use Rattle.meaning.proofs.Cells.Folded.{nodeIn, rowFrom, no-cells, row-from, put-folded, row-folded, live-folded}
+use Rattle.meaning.proofs.Cells.Folded.{rowFrom, no-cells, row-from, put-folded, row-folded, live-folded}
 use Rattle.words.proofs.Listed.{listed-shaped, listed-cells}
-use Rattle.classes.specs.Classes.{classOf, numberOfClasses, recordWords, liveKeysIn, keysIn, lesser, classesIn, classesOf, countAt, leastAt}
+use Rattle.classes.specs.Classes.{classOf, numberOfClasses, recordWords, liveKeysIn, lesser, classesIn, classesOf, countAt}
 use Rattle.classes.specs.Tallying.{withKeyIn, withKey, withCell, Roomy}
 use Rattle.classes.proofs.Classes.{classes-length, count-word, no-keys, one-node}
 

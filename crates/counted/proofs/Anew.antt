@@ -1,17 +1,16 @@
 -- Set up and read, which make a list anew: what each refuses by itself, then a record of another length; else the record is read anew.
 use mathlib.Core.Path.{_≡_, refl, sym, ap, _∙_}
-use mathlib.Core.Bool.{Bool, true, false, cond}
+use mathlib.Core.Bool.{Bool, true, false}
 use mathlib.Core.List.{List, []}
 use Prim.Native.Nat.{ℕ}
 use native.Mathlib.Decide.{ℕ-discrete}
 use native.Mathlib.Omega.{arith}
-use lib.Dec.{eqb}
 use lib.ListN.{length, replicate}
 use borrow.Author.Tests.{eq-eqb, ne-eqb}
 use Rattle.settings.specs.Numbers.{inRange, lengthOf}
 use Rattle.settings.specs.declared.Settings.{Settings}
 use Rattle.lists.specs.Lists.{those}
-use Rattle.answers.specs.Refusals.{Outcome, Refusal, Meets, answer, answerOf, wrongLength, badClasses}
+use Rattle.answers.specs.Refusals.{Refusal, Meets, answer, wrongLength, badClasses}
 use Rattle.answers.specs.declared.Answer.{Answer}
 use Rattle.files.specs.Files.{contentsOf}
 use Rattle.files.specs.declared.Contents.the-variants.{IsFile, NotAFile}
@@ -31,7 +30,7 @@ use Rattle.calls.specs.declared.Call.the-variants.{SetUp, Read}
 use Rattle.calls.proofs.Promises.{refused-alters-nothing, read-gives-list}
 use Rattle.classes.specs.Classes.{recordWords, liveKeysIn, classesIn, classesOf}
 use Rattle.classes.proofs.Classes.{no-keys}
-use Rattle.counted.specs.Counted.{Beside, beside, wordsBeside, lentWords, anewOn, countedOut}
+use Rattle.counted.specs.Counted.{beside, wordsBeside, lentWords, anewOn, countedOut}
 use Rattle.counted.specs.Checked.{setUpRefusal, readRefusal}
 
 -- Either of them, where it was made

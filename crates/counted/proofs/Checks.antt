@@ -1,6 +1,6 @@
 -- What the check of words and record answers, and what becomes of the record after a call.
-use mathlib.Core.Path.{_≡_, refl, sym, _∙_}
-use mathlib.Core.Bool.{true, false, cond}
+use mathlib.Core.Path.{_≡_, refl, _∙_}
+use mathlib.Core.Bool.{true, false}
 use mathlib.Core.List.{List}
 use Prim.Native.Nat.{ℕ}
 use native.Mathlib.Omega.{arith}
@@ -9,7 +9,7 @@ use Rattle.settings.specs.Levels.{PowersOf}
 use Rattle.answers.specs.declared.Answer.{Answer}
 use Rattle.meaning.specs.Reading.{isList}
 use Rattle.classes.specs.Classes.{classesOf, agrees}
-use Rattle.counted.specs.Checked.{refusalOf, Agreeing, CheckedBeside, Renewed}
+use Rattle.counted.specs.Checked.{Agreeing, CheckedBeside, Renewed}
 use Rattle.counted.specs.declared.Pass.{Pass}
 
 module _ {ws classes : List ℕ} {p : Pass} where

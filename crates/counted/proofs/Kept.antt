@@ -1,12 +1,12 @@
 -- The calls on a list: the record is written anew where the live pairs may have changed, and kept where they have not.
 use mathlib.Core.Path.{_≡_, refl, sym, ap, _∙_, subst}
-use mathlib.Core.Bool.{Bool, true, false}
+use mathlib.Core.Bool.{true}
 use mathlib.Core.List.{List, [], _∷_, map}
 use Prim.Native.Nat.{ℕ}
 use lib.ListN.{length}
 use Rattle.lists.specs.Lists.{those}
 use Rattle.settings.specs.declared.Settings.{Settings}
-use Rattle.answers.specs.Refusals.{Outcome, Meets, answer}
+use Rattle.answers.specs.Refusals.{Meets, answer}
 use Rattle.answers.specs.declared.Answer.{Answer}
 use Rattle.answers.specs.declared.Operation.{Operation}
 use Rattle.notes.specs.declared.Logged.{Logged}
@@ -14,19 +14,19 @@ use Rattle.meaning.specs.Row.{Node}
 use Rattle.meaning.specs.Reading.{read}
 use Rattle.meaning.specs.Operations.{operationOut}
 use Rattle.meaning.specs.Layer.Listed.{Listed}
-use Rattle.calls.specs.Records.{Lent, lentOf, recordOut, noteOut}
+use Rattle.calls.specs.Records.{Lent, lentOf, recordOut}
 use Rattle.calls.specs.Saved.{fileLent, writeOut}
 use Rattle.calls.specs.Pairs.{pair, livePairs}
 use Rattle.calls.specs.Calls.{outcome, Made, madeOn}
 use Rattle.calls.specs.Effects.{operationEffect, effect, keepsPairs}
 use Rattle.calls.specs.declared.Call.{Call}
-use Rattle.calls.specs.declared.Call.the-variants.{SetUp, Operate, Record, Write, Read}
+use Rattle.calls.specs.declared.Call.the-variants.{Operate, Record, Write}
 use Rattle.calls.proofs.Listed.{operation-listed, note-listed}
 use Rattle.calls.proofs.Promises.{refused-alters-nothing}
 use Rattle.calls.proofs.Booked.Book.{pairs-kept}
 use Rattle.insert_record.specs.Noted.{Noted}
-use Rattle.classes.specs.Classes.{liveKeysIn, liveKeys, classesIn, classesOf}
-use Rattle.counted.specs.Counted.{Beside, beside, wordsBeside, lentWords, countedOn, countedOut}
+use Rattle.classes.specs.Classes.{liveKeys, classesIn, classesOf}
+use Rattle.counted.specs.Counted.{beside, wordsBeside, lentWords, countedOn, countedOut}
 use Rattle.counted.specs.Checked.{Agreeing, CheckedBeside, Renewed}
 use Rattle.counted.specs.declared.Pass.{Pass}
 use Rattle.counted.proofs.Outcomes.{agree-full, refused-so, done-so, renewed-so}

@@ -1,22 +1,21 @@
 -- A call with a class record, case by case: refused by 3 or by 15; else what the call alone does, with the record read anew.
 use mathlib.Core.Path.{_≡_, refl, sym, ap, _∙_}
 use mathlib.Core.Bool.{Bool, true, false, cond}
-use mathlib.Core.List.{List, []}
+use mathlib.Core.List.{List}
 use Prim.Native.Nat.{ℕ}
 use native.Mathlib.Decide.{ℕ-discrete}
 use lib.Dec.{eqb}
 use lib.ListN.{length}
 use borrow.Author.Tests.{eq-eqb, ne-eqb}
-use Rattle.lists.specs.Lists.{same}
-use Rattle.lists.proofs.Same.{same-eq, same-refl}
+use Rattle.lists.proofs.Same.{same-eq}
 use Rattle.settings.specs.declared.Settings.{Settings}
 use Rattle.answers.specs.Refusals.{Outcome, Meets, answer, refused, notAList, badClasses}
 use Rattle.answers.specs.declared.Answer.{Answer}
 use Rattle.meaning.specs.Reading.{isList}
 use Rattle.classes.specs.Classes.{recordWords, liveKeys, classesOf, agrees}
 use Rattle.classes.proofs.Classes.{classes-length}
-use Rattle.counted.specs.Counted.{Beside, beside, readAnew, countedOn, anewOn}
-use Rattle.counted.specs.Checked.{refusalOf, Agreeing, CheckedBeside, Renewed}
+use Rattle.counted.specs.Counted.{Beside, beside, readAnew, countedOn}
+use Rattle.counted.specs.Checked.{Agreeing, CheckedBeside, Renewed}
 use Rattle.counted.specs.declared.Pass.{Pass}
 
 -- a record that agrees is the full reading, and has its length
@@ -25,9 +24,6 @@ agree-full ws classes e = same-eq classes (classesOf ws) e
 
 pub agree-length : (ws classes : List ℕ) → agrees ws classes ≡ true → length classes ≡ recordWords
 agree-length ws classes e = ap length (agree-full ws classes e) ∙ classes-length (liveKeys ws)
-
-pub full-agrees : (ws classes : List ℕ) → classes ≡ classesOf ws → agrees ws classes ≡ true
-full-agrees ws classes e = ap (λ c. same c (classesOf ws)) e ∙ same-refl (classesOf ws)
 
 module _ {L : Type 0} (words : L → List ℕ) (call : L → Outcome L) (b : Beside L) {r : Answer} where
   -- 3 or 15, as the check of words and record answered

@@ -1,26 +1,23 @@
 -- The promises of specs/Promises.antt, each proved. Every counted call either leaves all as it was, or what the call alone leaves with the record read anew.
 use mathlib.Core.Path.{_≡_, refl, sym, ap, _∙_, subst}
 use mathlib.Core.Bool.{Bool, true, false, cond}
-use mathlib.Core.List.{List, [], _∷_, map}
-use mathlib.Core.Logic.{_⊎_, inl, inr}
+use mathlib.Core.List.{List, [], _∷_}
 use Prim.Native.Nat.{ℕ, _<_}
 use native.Mathlib.Decide.{ℕ-discrete}
 use native.Mathlib.Omega.{arith}
 use lib.Dec.{eqb, ltb}
 use lib.ListN.{length, getD}
-use borrow.Author.Tests.{eq-eqb, ne-eqb, eqb-true, eqb-false, lt-ltb}
+use borrow.Author.Tests.{eq-eqb, eqb-true, eqb-false, lt-ltb}
 use Rattle.answers.specs.Refusals.{Outcome, Refusal, answer, accepted, refused, answerOf, wrongLength, notAList, badKey, badClasses}
-use Rattle.answers.specs.declared.Answer.{Answer}
 use Rattle.answers.specs.declared.Operation.{Operation}
 use Rattle.answers.specs.declared.Operation.the-variants.{Insert, Find, Finish, Take, Sweep}
-use Rattle.meaning.specs.Reading.{isList, readingOf}
+use Rattle.meaning.specs.Reading.{isList}
 use Rattle.meaning.specs.Operations.{setUpOut, operationOut}
-use Rattle.meaning.specs.Layer.Listed.{Listed}
 use Rattle.meaning.proofs.Outcomes.{insert-outcome-not-a-list, find-outcome-not-a-list, finish-outcome-not-a-list, take-outcome-not-a-list, sweep-outcome-not-a-list}
 use Rattle.notes.specs.Notes.{noteBy}
 use Rattle.calls.specs.Records.{Lent, lentOf, noteOn, noteOut, recordOut}
 use Rattle.calls.specs.Saved.{fileLent}
-use Rattle.calls.specs.Calls.{outcome, Made, alone, lending, madeOn, operated, afterCalls, onWords, onFile}
+use Rattle.calls.specs.Calls.{outcome, alone, lending, afterCalls, onWords, onFile}
 use Rattle.calls.specs.Batch.{BatchLent, batchLent, callsIn, batchOut}
 use Rattle.calls.specs.declared.Call.{Call}
 use Rattle.calls.specs.declared.Call.the-variants.{SetUp, Operate, Record, Write, Read}
@@ -28,13 +25,14 @@ use Rattle.calls.proofs.Promises.{lists-stay-lists, calls-keep-lists, refused-a
 use Rattle.calls.proofs.Restarted.Saved.{write-outcome-not-a-list}
 use Rattle.is_list.proofs.Answered.{reading-none}
 use Rattle.batch.proofs.Whole.{operations-listed}
-use Rattle.classes.specs.Classes.{classOf, numberOfClasses, recordWords, liveKeys, keysIn, leastOf, classesOf, agrees, countAt, leastAt, classOut}
+use Rattle.classes.specs.Classes.{numberOfClasses, recordWords, liveKeys, classesOf, agrees, countAt, leastAt, classOut}
 use Rattle.classes.proofs.Classes.{classes-length, count-word, least-word}
+use Rattle.classes.proofs.Least as leasts
 use Rattle.counted.specs.Counted.{Beside, beside, wordsBeside, readAnew, countedOn, anewOn, lentWords, batchWords, countedOut, countedBatchOut}
 use Rattle.counted.specs.Calls.{CountedList, CountedMade, single, batched, madeOnCounted, batchOnCounted, afterCounted, afterAllCounted}
-use Rattle.counted.specs.Promises.{Agreed, ClassesStay, FromFreshCounted, ClassesStayFromFresh, isSetUp, CountedIsCall, CountedBatchIsBatch}
-use Rattle.counted.specs.Promises.{RefusedCountedAltersNothing, ClassesTotal, ClassReadsTwoWords, ClassAnswered, ClassOfEntry}
-use Rattle.counted.proofs.Outcomes.{agree-full, full-agrees}
+use Rattle.counted.specs.Promises.{Agreed, ClassesStay, ClassesStayFromFresh, CountedIsCall, CountedBatchIsBatch}
+use Rattle.counted.specs.Promises.{RefusedCountedAltersNothing, ClassesTotal, ClassReadsTwoWords, ClassAnswered, LeastIsLeast, ClassOfEntry}
+use Rattle.counted.proofs.Outcomes.{agree-full}
 use Rattle.counted.proofs.Totals as totals
 
 -- The two ends of a counted call
@@ -291,6 +289,9 @@ class-answered p from class h =
     let least = ap (λ l. getD l (leastAt class) 0) full ∙ least-word (liveKeys (p .lent)) class h in
     let count = ap (λ l. getD l (countAt class) 0) full ∙ count-word (liveKeys (p .lent)) class h in
     class-known class (p .classes) long h ∙ (λ i. accepted (least i) 0 (count i) (p .classes))
+
+pub least-is-least : LeastIsLeast
+least-is-least = leasts.least-is-least
 
 -- 6. The class of an entry
 

@@ -5,18 +5,14 @@ use mathlib.Core.List.{List, [], _∷_, map}
 use Prim.Native.Nat.{ℕ, zero, suc, _+_, _≤_, _<_}
 use native.Mathlib.Omega.{arith}
 use lib.ListN.{length, getD, length-map}
-use borrow.Author.Tests.{eq-eqb, ne-eqb}
 use Rattle.lists.specs.Lists.{those, numbersFrom}
 use Rattle.lists.proofs.All.{All, all-map}
 use Rattle.lists.proofs.Those.{those-keep}
 use Rattle.meaning.specs.Row.{Node}
-use Rattle.meaning.specs.State.{State}
-use Rattle.meaning.specs.Picture.{picture}
 use Rattle.meaning.specs.Reading.{read, isList}
-use Rattle.meaning.proofs.Pictures.State.{Sound}
 use Rattle.meaning.proofs.Outcomes.{on-read-lists}
-use Rattle.calls.specs.Pairs.{pair, livePairs}
-use Rattle.classes.specs.Classes.{classOf, numberOfClasses, liveKeysIn, liveKeys, keysIn, classesIn, countAt}
+use Rattle.calls.specs.Pairs.{pair}
+use Rattle.classes.specs.Classes.{classOf, numberOfClasses, liveKeys, keysIn, classesIn, countAt}
 use Rattle.classes.proofs.Classes.{count-word, other-class, own-class}
 use Rattle.counted.specs.Promises.{sumOf, countsIn, ClassesTotal}
 

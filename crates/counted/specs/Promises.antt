@@ -2,10 +2,10 @@
 use mathlib.Core.Path.{_≡_}
 use mathlib.Core.Bool.{Bool, true, false}
 use mathlib.Core.List.{List, [], _∷_, map}
-use Prim.Native.Nat.{ℕ, zero, suc, _+_, _≤_, _<_}
+use Prim.Native.Nat.{ℕ, _+_, _≤_, _<_}
 use lib.ListN.{length, getD}
-use Rattle.lists.specs.Lists.{numbersFrom}
-use Rattle.answers.specs.Refusals.{Outcome, accepted}
+use Rattle.lists.specs.Lists.{occurrences, numbersFrom}
+use Rattle.answers.specs.Refusals.{accepted}
 use Rattle.entries.specs.Entries.{InRange, entryKey}
 use Rattle.entries.specs.declared.Entry.{Entry}
 use Rattle.meaning.specs.Reading.{isList}
@@ -90,6 +90,12 @@ abbrev pub ClassAnswered : Type 0
 ClassAnswered =
     (p : CountedList) → FromFreshCounted p → (class : ℕ) → class < numberOfClasses
     → let keys = keysIn class (liveKeys (p .lent)) in classOut class (p .classes) ≡ accepted (leastOf keys) 0 (length keys) (p .classes)
+
+-- .. On a list that least key is one of the class's live keys, if there are any, and no other is less.
+abbrev pub LeastIsLeast : Type 0
+LeastIsLeast =
+    (ws : List ℕ) → isList ws ≡ true → (class key : ℕ) → let keys = keysIn class (liveKeys ws) in
+    0 < occurrences key keys → (leastOf keys ≤ key) × (0 < occurrences (leastOf keys) keys)
 
 -- 6. The class of an entry's key is the entry's class.
 abbrev pub ClassOfEntry : Type 0

@@ -1,5 +1,5 @@
 -- `classes::add_cell` meets its contract, by the cell's mark.
-use mathlib.Core.Path.{_≡_, sym, ap, _∙_}
+use mathlib.Core.Path.{sym, ap, _∙_}
 use native.Mathlib.Omega.{arith}
 use borrow.Author.Needs.{needs}
 use Rattle.words.proofs.Shaped.{field-within}

@@ -1,5 +1,4 @@
 -- `classes::add_key` meets its contract: the two words of the key's class.
-use mathlib.Core.Path.{_≡_}
 use native.Mathlib.Omega.{arith}
 use lib.ListN.{length-set}
 use borrow.Author.Needs.{needs}

@@ -1,6 +1,5 @@
 -- `classes::lesser_of` meets its contract, by its tests.
 use mathlib.Core.Path.{refl}
-use native.Mathlib.Omega.{arith}
 use borrow.Author.Tests.{eq-eqb, ne-eqb, le-leb, lt-leb}
 use Rattle.classes.specs.Classes.{lesser}
 use Rattle.classes.proofs.lesser_of.Statement.{statement}

@@ -1,9 +1,8 @@
 -- `classes::tally` meets its contract: at each turn the record is that of the cells from x on.
-use mathlib.Core.Path.{_≡_, _∙_, sym, ap, subst}
-use mathlib.Core.List.{List}
-use Prim.Native.Nat.{ℕ, _-_}
+use mathlib.Core.Path.{_∙_, sym, ap}
+use Prim.Native.Nat.{_-_}
 use native.Mathlib.Omega.{arith}
-use lib.ListN.{length, replicate}
+use lib.ListN.{replicate}
 use borrow.Author.Needs.{needs}
 use Rattle.classes.proofs.Tallying.{Tallied, tallied-start, tallied-length, tallied-roomy, tallied-more, tallied-all}
 use Rattle.classes.proofs.tally.Statement.{statement}

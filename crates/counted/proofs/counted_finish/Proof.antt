@@ -9,17 +9,17 @@ use Rattle.counted.proofs.counted_finish.Tie as tie
 returns : tie.Need-returns
 returns c =
     let a = c .before .before .before .before .before .before .before .args in
-    operation-refused (Finish (a .key)) (a .list .now) (a .classes .now) (c .before .before .before .check .ensures) (search needs) (c .refused .ensures)
+    operation-refused (Finish (a .key)) (a .list .now) (a .classes .now) (c .before .before .before .check .ensures) (c .before .if1 .taken) (c .refused .ensures)
 
 finish-requires : tie.Need-finish-requires
 finish-requires c κs =
-    let agreeing = c .before .before .before .before .before .before .before .check .ensures .agreeing (search needs) in
-    (agreeing .listed, c .before .before .before .before .before .before .before .check .ensures .levels (search needs))
+    let agreeing = c .before .before .before .before .before .before .before .check .ensures .agreeing (c .before .before .before .before .before .if1 .left) in
+    (agreeing .listed, c .before .before .before .before .before .before .before .check .ensures .levels (c .before .before .before .before .before .if1 .left))
 
 returns-2 : tie.Need-returns-2
 returns-2 c =
     let a = c .before .before .before .before .before .before .before .before .before .before .before .before .before .before .args in
-    let agreeing = c .before .before .before .before .before .before .before .before .before .before .check .ensures .agreeing (search needs) in
+    let agreeing = c .before .before .before .before .before .before .before .before .before .before .check .ensures .agreeing (c .before .before .before .before .before .before .before .before .if1 .left) in
     operation-kept (Finish (a .key)) (a .list .now) (a .classes .now) agreeing refl (c .before .before .finish .ensures)
 
 pub counted-finish-spec : {M : Type 1} → statement M

@@ -12,24 +12,24 @@ use Rattle.counted.proofs.counted_record.Tie as tie
 returns : tie.Need-returns
 returns c =
     let a = c .before .before .before .before .before .before .before .before .before .args in
-    record-refused (a .list .now) (a .record .now) (a .last .now) (a .classes .now) (c .before .before .before .check .ensures) (search needs) (c .refused .ensures)
+    record-refused (a .list .now) (a .record .now) (a .last .now) (a .classes .now) (c .before .before .before .check .ensures) (c .before .if1 .taken) (c .refused .ensures)
 
 insert-record-requires : tie.Need-insert-record-requires
 insert-record-requires c κs =
-    let agreeing = c .before .before .before .before .before .before .before .before .before .check .ensures .agreeing (search needs) in
+    let agreeing = c .before .before .before .before .before .before .before .before .before .check .ensures .agreeing (c .before .before .before .before .before .before .before .if1 .left) in
     let within = subst Within (sym (c .before .before .before .before .before .note-by .ensures)) (notes-within (c .before .before .before .before .before .before .before .before .before .before .before .before .before .before .before .args .record .now)) in
-    ((agreeing .listed, within), c .before .before .before .before .before .before .before .before .before .check .ensures .levels (search needs))
+    ((agreeing .listed, within), c .before .before .before .before .before .before .before .before .before .check .ensures .levels (c .before .before .before .before .before .before .before .if1 .left))
 
 renew-requires : tie.Need-renew-requires
 renew-requires c κs =
     let a = c .before .before .before .before .before .before .before .before .before .before .before .before .before .before .before .before .before .before .before .before .args in
-    let agreeing = c .before .before .before .before .before .before .before .before .before .before .before .before .before .before .check .ensures .agreeing (search needs) in
+    let agreeing = c .before .before .before .before .before .before .before .before .before .before .before .before .before .before .check .ensures .agreeing (c .before .before .before .before .before .before .before .before .before .before .before .before .if1 .left) in
     (note-after (agreeing .listed) (c .before .before .before .before .insert-record .ensures), agree-length (a .list .now) (a .classes .now) (agreeing .agree))
 
 returns-2 : tie.Need-returns-2
 returns-2 c =
     let a = c .before .before .before .before .before .before .before .before .before .before .before .before .before .before .before .before .before .before .before .before .before .before .before .args in
-    let agreeing = c .before .before .before .before .before .before .before .before .before .before .before .before .before .before .before .before .before .check .ensures .agreeing (search needs) in
+    let agreeing = c .before .before .before .before .before .before .before .before .before .before .before .before .before .before .before .before .before .check .ensures .agreeing (c .before .before .before .before .before .before .before .before .before .before .before .before .before .before .before .if1 .left) in
     record-renewed (a .list .now) (a .record .now) (a .last .now) (a .classes .now) agreeing
     (record-meets (a .record .now) (c .before .before .before .before .before .before .before .before .before .before .before .before .before .note-by .ensures) (c .before .before .before .before .before .before .before .insert-record .ensures)) (c .before .before .renew .ensures)
 

@@ -9,23 +9,23 @@ use Rattle.counted.proofs.counted_take.Tie as tie
 returns : tie.Need-returns
 returns c =
     let a = c .before .before .before .before .before .before .before .before .args in
-    operation-refused Take (a .list .now) (a .classes .now) (c .before .before .before .check .ensures) (search needs) (c .refused .ensures)
+    operation-refused Take (a .list .now) (a .classes .now) (c .before .before .before .check .ensures) (c .before .if1 .taken) (c .refused .ensures)
 
 take-requires : tie.Need-take-requires
 take-requires c κs =
-    let agreeing = c .before .before .before .check .ensures .agreeing (search needs) in
+    let agreeing = c .before .before .before .check .ensures .agreeing (c .before .if1 .left) in
     agreeing .listed
 
 renew-requires : tie.Need-renew-requires
 renew-requires c κs =
     let a = c .before .before .before .before .before .before .before .before .before .before .before .before .before .args in
-    let agreeing = c .before .before .before .before .before .before .before .before .check .ensures .agreeing (search needs) in
+    let agreeing = c .before .before .before .before .before .before .before .before .check .ensures .agreeing (c .before .before .before .before .before .before .if1 .left) in
     (operation-after Take (a .list .now) (agreeing .listed) (c .before .before .before .before .take .ensures), agree-length (a .list .now) (a .classes .now) (agreeing .agree))
 
 returns-2 : tie.Need-returns-2
 returns-2 c =
     let a = c .before .before .before .before .before .before .before .before .before .before .before .before .before .before .before .before .args in
-    let agreeing = c .before .before .before .before .before .before .before .before .before .before .before .check .ensures .agreeing (search needs) in
+    let agreeing = c .before .before .before .before .before .before .before .before .before .before .before .check .ensures .agreeing (c .before .before .before .before .before .before .before .before .before .if1 .left) in
     operation-renewed Take (a .list .now) (a .classes .now) agreeing (c .before .before .before .before .before .before .before .take .ensures) (c .before .before .renew .ensures)
 
 pub counted-take-spec : {M : Type 1} → statement M

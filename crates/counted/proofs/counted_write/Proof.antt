@@ -7,17 +7,17 @@ use Rattle.counted.proofs.counted_write.Tie as tie
 returns : tie.Need-returns
 returns c =
     let a = c .before .before .before .before .before .before .before .args in
-    write-refused (a .list .now) (a .file .now) 0 (a .classes .now) (c .before .before .before .check .ensures) (search needs) (c .refused .ensures)
+    write-refused (a .list .now) (a .file .now) 0 (a .classes .now) (c .before .before .before .check .ensures) (c .before .if1 .taken) (c .refused .ensures)
 
 write-file-requires : tie.Need-write-file-requires
 write-file-requires c κs =
-    let agreeing = c .before .before .before .check .ensures .agreeing (search needs) in
+    let agreeing = c .before .before .before .check .ensures .agreeing (c .before .if1 .left) in
     agreeing .listed
 
 returns-2 : tie.Need-returns-2
 returns-2 c =
     let a = c .before .before .before .before .before .before .before .before .before .before .args in
-    let agreeing = c .before .before .before .before .before .before .check .ensures .agreeing (search needs) in
+    let agreeing = c .before .before .before .before .before .before .check .ensures .agreeing (c .before .before .before .before .if1 .left) in
     write-kept (a .list .now) (a .file .now) 0 (a .classes .now) agreeing (c .before .before .write-file .ensures)
 
 pub counted-write-spec : {M : Type 1} → statement M
