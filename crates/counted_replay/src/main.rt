@@ -61,8 +61,9 @@ fn feed_part(
     let mut s = state;
     let mut i = 0;
     while i < part.len() {
-        s = feed_byte(words, bytes, last, classes, line, s, part[i]);
+        let byte = part[i];
         i += 1;
+        s = feed_byte(words, bytes, last, classes, line, s, byte);
     }
     s
 }

@@ -11,7 +11,7 @@ ghost use Rattle.counted.specs.Counted.{beside, wordsBeside, countedOut};
 ghost use Rattle.trace.specs.Lines.{Fits};
 ghost use Rattle.trace_held.specs.Held.{Held, Holds};
 ghost use Rattle.counted_step.specs.Lines.{mostClasses, LineFits, kindIn, classesAfter, KindCalled, LineCalled};
-ghost use Rattle.counted_step.specs.Printed.{Room, heldIn, leftBy, lineBytes, LineAnswered, TextOf};
+ghost use Rattle.counted_step.specs.Printed.{Room, heldIn, leftBy, textOf, lineBytes, LineDone, TextOf};
 use answers::Answer;
 use answers::Operation;
 use calls::Call;
@@ -44,12 +44,12 @@ pub struct Sizes {
     pub classes: usize,
 }
 
-// After a line: what is held, and how many bytes are printed.
-struct Answered {
+// After a line: what is held, and what the line is answered.
+struct Done {
     pub used: usize,
     pub filled: usize,
     pub classes: usize,
-    pub text: usize,
+    pub reply: Reply,
 }
 
 fn unreadable() -> Line
@@ -213,8 +213,8 @@ fn line_call(
     }
 }
 
-// Does what a line says, and puts the bytes that are printed for it into `out`, from the first on.
-fn line_text(
+// Does what a line says.
+fn do_line(
     words: &mut [u32],
     bytes: &mut [u8],
     last: &mut u64,
@@ -222,10 +222,9 @@ fn line_text(
     sizes: Sizes,
     text: &[u8],
     line: Line,
-    out: &mut [u8],
-) -> Answered
-    requires { ⌜ (Room (now words) (now bytes) (now classes) sizes × LineFits line) × (lineBytes ≤ length (now out)) ⌝ }
-    ensures { λ r. ⌜ LineAnswered line (now (text .entry)) (heldIn (now (words .entry)) (now (bytes .entry)) (now (last .entry)) (now (classes .entry)) sizes) (now (words .exit)) (now (bytes .exit)) (now (last .exit)) (now (classes .exit)) (now (out .exit)) r ⌝ }
+) -> Done
+    requires { ⌜ Room (now words) (now bytes) (now classes) sizes × LineFits line ⌝ }
+    ensures { λ r. ⌜ LineDone line (now (text .entry)) (heldIn (now (words .entry)) (now (bytes .entry)) (now (last .entry)) (now (classes .entry)) sizes) (now (words .exit)) (now (bytes .exit)) (now (last .exit)) (now (classes .exit)) r ⌝ }
 {
     let kind = kind_in(line);
     let n = trace_held::buffer::altered(words, sizes.used, kind);
@@ -240,17 +239,30 @@ fn line_text(
         last,
         line,
     );
-    let at = trace_step::put::put_head(out, reply);
-    let told = trace_step::put::kind_tells(kind);
-    let after = *last;
-    let next = trace_step::put::put_tail(out, at, told, &words[0..n], &bytes[0..m], after, b' ');
-    let end = report::put_checksum(out, next, &classes[0..h]);
-    Answered {
+    Done {
         used: n,
         filled: m,
         classes: h,
-        text: end,
+        reply,
     }
+}
+
+// Puts what is printed for a line into `out`, from the first byte on; how many bytes.
+fn put_line(
+    out: &mut [u8],
+    reply: Reply,
+    told: bool,
+    list: &[u32],
+    bytes: &[u8],
+    last: u64,
+    classes: &[u32],
+) -> usize
+    requires { ⌜ lineBytes ≤ length (now out) ⌝ }
+    ensures { λ r. ⌜ (take r (now (out .exit)) ≡ textOf reply told (beside (lentOf (now (list .entry)) (now (bytes .entry)) last) (now (classes .entry)))) × (r ≤ length (now (out .exit))) ⌝ }
+{
+    let at = trace_step::put::put_head(out, reply);
+    let next = trace_step::put::put_tail(out, at, told, list, bytes, last, b' ');
+    report::put_checksum(out, next, classes)
 }
 
 // Writes a line, by one write. It takes what the line says and what is held afterwards so that its contract can say whose line it is.
@@ -282,13 +294,23 @@ fn reply(
     ensures held { λ r. ⌜ Room (now (words .exit)) (now (bytes .exit)) (now (classes .exit)) r ⌝ }
     ensures left { λ r. ⌜ heldIn (now (words .exit)) (now (bytes .exit)) (now (last .exit)) (now (classes .exit)) r ≡ leftBy line (now (text .entry)) (heldIn (now (words .entry)) (now (bytes .entry)) (now (last .entry)) (now (classes .entry)) sizes) ⌝ }
 {
-    let mut out = [0u8; LINE_BYTES];
-    let done = line_text(words, bytes, last, classes, sizes, text, line, &mut out);
+    let done = do_line(words, bytes, last, classes, sizes, text, line);
     let n = done.used;
     let m = done.filled;
     let h = done.classes;
-    let end = done.text;
+    let answer = done.reply;
     let number = *last;
+    let told = trace_step::put::kind_tells(kind_in(line));
+    let mut out = [0u8; LINE_BYTES];
+    let end = put_line(
+        &mut out,
+        answer,
+        told,
+        &words[..n],
+        &bytes[..m],
+        number,
+        &classes[..h],
+    );
     write(
         &out[..end],
         text,
