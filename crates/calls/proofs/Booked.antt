@@ -1,5 +1,5 @@
 -- What an ordered map would do, and what each call answers by it.
 pub mod BookRow
+pub mod BookOperations
 pub mod BookCalls
 pub mod Book
-pub mod BookReplies
