@@ -1,0 +1,2 @@
+-- The plain row: its words and its operations.
+pub mod Row
