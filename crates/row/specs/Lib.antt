@@ -1,2 +1,3 @@
 -- The plain row: its words and its operations.
 pub mod Row
+pub mod Places
