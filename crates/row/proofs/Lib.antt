@@ -1,0 +1,2 @@
+-- That a row is read as it was written, and what the functions do to its words.
+pub mod Written
