@@ -1,2 +1,3 @@
 -- That a row is read as it was written, and what the functions do to its words.
 pub mod Written
+pub mod Searching
