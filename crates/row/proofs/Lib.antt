@@ -1,3 +1,4 @@
 -- That a row is read as it was written, and what the functions do to its words.
 pub mod Written
 pub mod Searching
+pub mod Turns

@@ -87,3 +87,90 @@ fn put_at(row: &mut [u32], i: usize, key: u32, value: u32, mark: u32)
     row[at + 1] = value;
     row[at + 2] = mark;
 }
+
+// Whether a number is a key of the row: from 1 to K.
+fn is_key(row: &[u32], key: u32) -> bool
+    requires { ⌜ Shaped (now row) ⌝ }
+    ensures { λ r. ⌜ r ≡ isKey (getD (now (row .entry)) 1 0) key ⌝ }
+{
+    if key == 0 {
+        return false;
+    }
+    key <= row[LARGEST]
+}
+
+// The search.
+
+// The place of the first key at or above a key, from the front.
+fn place_of(row: &[u32], key: u32) -> usize
+    requires { ⌜ Shaped (now row) ⌝ }
+    ensures { λ r. ⌜ r ≡ placeOf key (bookIn (now (row .entry)) .row) ⌝ }
+{
+    let keys = row[KEYS] as usize;
+    let mut i: usize = 0;
+    while i < keys {
+        if key <= key_at(row, i) {
+            return i;
+        }
+        i += 1;
+    }
+    i
+}
+
+// Whether a key stands at place i.
+fn stands_at(row: &[u32], i: usize, key: u32) -> bool
+    requires { ⌜ Shaped (now row) ⌝ }
+    ensures { λ r. ⌜ r ≡ (ltb i (getD (now (row .entry)) 3 0) && eqb (getD (now (row .entry)) (wordOf i) 0) key) ⌝ }
+{
+    if row[KEYS] as usize <= i {
+        return false;
+    }
+    key_at(row, i) == key
+}
+
+// The place of the first live key, from the front; behind all keys if none is live.
+fn first_live(row: &[u32]) -> usize
+    requires { ⌜ Shaped (now row) ⌝ }
+    ensures { λ r. ⌜ r ≡ length (deadBefore (bookIn (now (row .entry)) .row)) ⌝ }
+{
+    let keys = row[KEYS] as usize;
+    let mut i: usize = 0;
+    while i < keys {
+        if mark_at(row, i) == LIVE {
+            return i;
+        }
+        i += 1;
+    }
+    i
+}
+
+// How many of the keys before place `end` are above the position.
+fn above_position(row: &[u32], end: usize) -> u32
+    requires { ⌜ Shaped (now row) × (end ≤ getD (now row) 3 0) ⌝ }
+    ensures { λ r. ⌜ r ≡ standingAbove (getD (now (row .entry)) 4 0) (take end (bookIn (now (row .entry)) .row)) ⌝ }
+{
+    let mut count: u32 = 0;
+    let mut i: usize = 0;
+    while i < end {
+        if row[POSITION] < key_at(row, i) {
+            count += 1;
+        }
+        i += 1;
+    }
+    count
+}
+
+// The position after an insert of a key whose place is i: if the key is at or below the position, the next smaller standing key.
+fn position_with(row: &[u32], i: usize, key: u32) -> u32
+    requires { ⌜ Shaped (now row) × (i ≤ getD (now row) 3 0) ⌝ }
+    ensures { λ r. ⌜ r ≡ cond (leb key (getD (now (row .entry)) 4 0)) (lastIn (take i (bookIn (now (row .entry)) .row))) (getD (now (row .entry)) 4 0) ⌝ }
+{
+    let position = row[POSITION];
+    if position < key {
+        return position;
+    }
+    if i == 0 {
+        return 0;
+    }
+    key_at(row, i - 1)
+}

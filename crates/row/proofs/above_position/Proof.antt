@@ -1,0 +1,84 @@
+-- `row::above_position` meets its contract: the count is that of the keys before place i.
+use mathlib.Core.Path.{_≡_, refl, ap, _∙_}
+use mathlib.Core.Logic.{⊎-elim}
+use Prim.Native.Nat.{_-_, _≤_}
+use native.Mathlib.Omega.{arith}
+use lib.ListN.{getD, take}
+use borrow.Author.Needs.{needs}
+use Rattle.lists.specs.Lists.{those}
+use Rattle.book.specs.Book.{standingAbove}
+use Rattle.row.specs.Row.{bookIn}
+use Rattle.row.proofs.Turns.{above-one, above-none}
+use Rattle.row.proofs.above_position.Statement.{statement}
+use Rattle.row.proofs.above_position.Tie as tie
+use Rattle.row.proofs.above_position.Reads as reads
+use Rattle.row.proofs.above_position.Lts as lts
+use Rattle.row.proofs.key_at.Reads as key-at-reads
+
+abbrev Inv-loop : tie.InvT-loop
+Inv-loop row end count₀ i₀ count i = (i ≤ end) × ((count ≤ i) × (count ≡ standingAbove (getD row 4 0) (take i (bookIn row .row))))
+
+abbrev μ-loop : tie.MeasureT-loop
+μ-loop row end count₀ i₀ count i = end - i
+
+-- src/lib.rt:154:5
+loop-holds : tie.Need-loop-holds Inv-loop μ-loop
+unfolding those
+loop-holds c = (omega arith, (omega arith, refl))
+
+-- src/lib.rt:155:12
+shared-slice-read-if1 : tie.Need-shared-slice-read-if1 Inv-loop μ-loop
+shared-slice-read-if1 c = search needs
+
+-- src/lib.rt:155:28
+key-at-requires : tie.Need-key-at-requires Inv-loop μ-loop
+key-at-requires c κs = search needs
+
+-- src/lib.rt:156:13
+add-count : tie.Need-add-count Inv-loop μ-loop
+add-count c = omega (arith, c .before .before .shared-slice-known2 .given 3)
+
+-- src/lib.rt:158:9
+add-i : tie.Need-add-i Inv-loop μ-loop
+add-i c = search needs
+
+-- src/lib.rt:154:5
+loop-less : tie.Need-loop-less Inv-loop μ-loop
+loop-less c = search needs
+
+-- src/lib.rt:154:5
+loop-again : tie.Need-loop-again Inv-loop μ-loop
+loop-again c =
+    let v = c .before .before .before .before .loop in
+    let ws = c .before .before .before .before .before .before .args .row .now in
+    ⊎-elim
+    (λ w.
+    let one = above-one ws (v .i) (omega arith) (getD ws 4 0) (omega arith) in
+    (omega arith, (omega arith, omega arith)))
+    (λ w.
+    let none = above-none ws (v .i) (omega arith) (getD ws 4 0) (omega arith) in
+    (omega arith, (omega arith, omega arith)))
+    (c .if1 .came)
+
+-- src/lib.rt:148:1
+returns : tie.Need-returns Inv-loop μ-loop
+returns c =
+    let v = c .before .loop in
+    let a = c .before .before .before .args in
+    let all : v .i ≡ a .end = omega arith in
+    v .inv .1 .1 ∙ ap (λ n. standingAbove (getD (a .row .now) 4 0) (take n (bookIn (a .row .now) .row))) all
+
+pub above-position-spec : {M : Type 1} → statement M
+above-position-spec =
+    tie.close
+    (tie.spec
+    Inv-loop
+    μ-loop
+    loop-holds
+    shared-slice-read-if1
+    key-at-requires
+    add-count
+    add-i
+    loop-less
+    loop-again
+    returns)
