@@ -2,3 +2,4 @@
 pub mod Written
 pub mod Searching
 pub mod Turns
+pub mod Checking

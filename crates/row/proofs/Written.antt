@@ -77,14 +77,20 @@ mark-read : (live : Bool) → eqb (cond live 1 2) 1 ≡ live
 mark-read true = refl
 mark-read false = refl
 
+pub word-back :
+    (D : ℕ) (k : Book) (i : ℕ) (x : StandingKey) (later : List StandingKey) →
+        i < length (k .row) → drop i (k .row) ≡ x ∷ later →
+        (j : ℕ) → getD (rowWords D k) (wordOf i + j) 0 ≡ getD (keyWords x ++ (flatMap keyWords later ++ unused k)) j 0
+unfolding flatMap
+word-back D k i x later h e j =
+    let rest = words-drop D k i (omega arith) ∙ ap (λ r. flatMap keyWords r ++ unused k) e in
+    sym (getD-drop (wordOf i) (rowWords D k) j 0) ∙ ap (λ l. getD l j 0) rest
+
 key-back :
     (D : ℕ) (k : Book) (i : ℕ) (x : StandingKey) (later : List StandingKey) →
         i < length (k .row) → drop i (k .row) ≡ x ∷ later → keyIn (rowWords D k) i ≡ x
-unfolding flatMap
 key-back D k i x later h e =
-    let rest = words-drop D k i (omega arith) ∙ ap (λ r. flatMap keyWords r ++ unused k) e in
-    let at : (j : ℕ) → getD (rowWords D k) (wordOf i + j) 0 ≡ getD (keyWords x ++ (flatMap keyWords later ++ unused k)) j 0 =
-        λ j. sym (getD-drop (wordOf i) (rowWords D k) j 0) ∙ ap (λ l. getD l j 0) rest in
+    let at = word-back D k i x later h e in
     let none : wordOf i + 0 ≡ wordOf i = omega arith in
     let key : getD (rowWords D k) (wordOf i) 0 ≡ x .key = rw none at (at 0) in
     let live : eqb (getD (rowWords D k) (wordOf i + 2) 0) 1 ≡ x .live = ap (λ m. eqb m 1) (at 2) ∙ mark-read (x .live) in
