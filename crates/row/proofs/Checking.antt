@@ -225,3 +225,24 @@ module _ (ws : List ℕ) where
       let rest : drop (wordOf n) (rowWords (getD ws 0 0) k) ≡ unused k =
           words-drop (getD ws 0 0) k n (omega (arith, read-length ws)) ∙ ap (λ r. flatMap keyWords r ++ unused k) (drop-of-length-le (k .row) all) in
       ap (λ l. allZero (drop (wordOf n) l)) (row-written ws e) ∙ (rw rest (zeros-zero (3 * (k .cells - 1 - length (k .row)))))
+
+-- Told of the shape
+
+pub shape-no : (ws : List ℕ) → (Shaped ws → ⊥) → HasShape ws false
+shape-no ws other = record { told = λ e. absurd (false≢true e); kept = λ e. absurd (other (row-shaped ws e)) }
+
+pub shape-is :
+    (ws : List ℕ) → inRange (getD ws 0 0) (getD ws 1 0) (getD ws 2 0) ≡ true → length ws ≡ rowLength (getD ws 2 0) → HasShape ws (ltb (getD ws 3 0) (getD ws 2 0))
+shape-is ws range long =
+    record { told = λ e. record { range = range; long = long; room = ltb-true (getD ws 3 0) (getD ws 2 0) e }
+    ; kept = λ e. lt-ltb (getD ws 3 0) (getD ws 2 0) (row-shaped ws e .room) }
+
+-- Told of the keys
+pub keys-rise : (ws : List ℕ) → rightKeys ws 0 0 (getD ws 3 0) ≡ true → ascending 0 (getD ws 1 0) (bookIn ws .row) ≡ true
+unfolding bookIn
+keys-rise ws e = right-told ws (getD ws 3 0) 0 0 e .0
+
+-- a test that cannot hold
+pub refuted : (t : Bool) → (t ≡ true → ⊥) → false ≡ t
+refuted true never = absurd (never refl)
+refuted false never = refl

@@ -2,4 +2,5 @@
 pub mod Written
 pub mod Searching
 pub mod Turns
+pub mod Found
 pub mod Checking

@@ -1,8 +1,8 @@
 -- One turn of the loops over the keys: what the key at place i says of the keys from it on.
 use mathlib.Core.Path.{_≡_, refl, sym, ap, _∙_}
-use mathlib.Core.Bool.{Bool}
+use mathlib.Core.Bool.{Bool, true, _&&_}
 use mathlib.Core.List.{List, [], _∷_, _++_}
-use Prim.Native.Nat.{ℕ, suc, _+_, _≤_, _<_}
+use Prim.Native.Nat.{ℕ, suc, _+_, _-_, _≤_, _<_}
 use native.Mathlib.Numerals.{add-one}
 use native.Mathlib.Omega.{arith}
 use lib.Dec.{eqb, leb, ltb}
@@ -13,7 +13,7 @@ use Rattle.lists.specs.Lists.{those}
 use Rattle.lists.proofs.Those.{those-append}
 use Rattle.book.specs.Book.{StandingKey, standingKey, deadBefore, standingAbove}
 use Rattle.row.specs.Row.{keyIn, bookIn}
-use Rattle.row.specs.Places.{wordOf, placeOf}
+use Rattle.row.specs.Places.{wordOf, placeOf, rightKey, rightKeys}
 use Rattle.row.proofs.Written.{read-length, read-at, read-from}
 
 module _ (ws : List ℕ) (i : ℕ) (h : i < getD ws 3 0) where
@@ -62,3 +62,16 @@ place-end ws i key h = rw (keys-end ws i h) refl
 pub live-end : (ws : List ℕ) (i : ℕ) → getD ws 3 0 ≤ i → length (deadBefore (drop i (bookIn ws .row))) ≡ 0
 unfolding deadBefore
 live-end ws i h = rw (keys-end ws i h) refl
+
+-- the check of the keys from place i on is that of the key there, and of those after it
+pub right-turn :
+    (ws : List ℕ) (n low i : ℕ) → i < n →
+        rightKeys ws low i (n - i) ≡ (rightKey ws low i && rightKeys ws (getD ws (wordOf i) 0) (i + 1) (n - (i + 1)))
+unfolding rightKeys
+right-turn ws n low i h =
+    let more : n - i ≡ suc (n - (i + 1)) = omega arith in
+    rw (more, add-one i) refl
+
+pub right-end : (ws : List ℕ) (n low i : ℕ) → n ≤ i → rightKeys ws low i (n - i) ≡ true
+unfolding rightKeys
+right-end ws n low i h = let none : n - i ≡ 0 = omega arith in rw none refl

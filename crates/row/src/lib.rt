@@ -88,6 +88,106 @@ fn put_at(row: &mut [u32], i: usize, key: u32, value: u32, mark: u32)
     row[at + 2] = mark;
 }
 
+// The check.
+
+// Whether the key at place i is above `low` and at most K, and its mark is right: live above the position, or dead with the value 0.
+fn right_key(row: &[u32], i: usize, low: u32) -> bool
+    requires { ⌜ wordOf i + 3 ≤ length (now row) ⌝ }
+    ensures { λ r. ⌜ r ≡ rightKey (now (row .entry)) low i ⌝ }
+{
+    let key = key_at(row, i);
+    if key <= low {
+        return false;
+    }
+    if row[LARGEST] < key {
+        return false;
+    }
+    if mark_at(row, i) == LIVE {
+        return row[POSITION] < key;
+    }
+    if mark_at(row, i) != DEAD {
+        return false;
+    }
+    value_at(row, i) == 0
+}
+
+// Whether each key is right, above the one before.
+fn right_keys(row: &[u32]) -> bool
+    requires { ⌜ Shaped (now row) ⌝ }
+    ensures { λ r. ⌜ r ≡ rightKeys (now (row .entry)) 0 0 (getD (now (row .entry)) 3 0) ⌝ }
+{
+    let keys = row[KEYS] as usize;
+    let mut low: u32 = 0;
+    let mut i: usize = 0;
+    while i < keys {
+        if !right_key(row, i, low) {
+            return false;
+        }
+        low = key_at(row, i);
+        i += 1;
+    }
+    true
+}
+
+// Whether every word of a part is 0.
+fn all_zero(part: &[u32]) -> bool
+    ensures { λ r. ⌜ r ≡ allZero (now (part .entry)) ⌝ }
+{
+    let mut i: usize = 0;
+    while i < part.len() {
+        if part[i] != 0 {
+            return false;
+        }
+        i += 1;
+    }
+    true
+}
+
+// Whether there are as many words as C asks for, and room for the keys.
+fn has_shape(row: &[u32]) -> bool
+    ensures { λ r. ⌜ HasShape (now (row .entry)) r ⌝ }
+{
+    if row.len() < BEFORE {
+        return false;
+    }
+    if !Settings::in_range(row[DIMENSIONS], row[LARGEST], row[CELLS]) {
+        return false;
+    }
+    if row.len() != word_of(row[CELLS] as usize - 1) {
+        return false;
+    }
+    row[KEYS] < row[CELLS]
+}
+
+// Whether the position is the head's or a standing key.
+fn right_position(row: &[u32]) -> bool
+    requires { ⌜ Shaped (now row) × (ascending 0 (getD (now row) 1 0) (bookIn (now row) .row) ≡ true) ⌝ }
+    ensures { λ r. ⌜ r ≡ atPosition (getD (now (row .entry)) 4 0) (bookIn (now (row .entry)) .row) ⌝ }
+{
+    let position = row[POSITION];
+    if position == 0 {
+        return true;
+    }
+    stands_at(row, place_of(row, position), position)
+}
+
+// Whether the words are a row.
+fn is_row(row: &[u32]) -> bool
+    ensures { λ r. ⌜ r ≡ isRow (now (row .entry)) ⌝ }
+{
+    if !has_shape(row) {
+        return false;
+    }
+    if !right_keys(row) {
+        return false;
+    }
+    if !right_position(row) {
+        return false;
+    }
+    let unused = word_of(row[KEYS] as usize);
+    all_zero(&row[unused..])
+}
+
 // Whether a number is a key of the row: from 1 to K.
 fn is_key(row: &[u32], key: u32) -> bool
     requires { ⌜ Shaped (now row) ⌝ }
