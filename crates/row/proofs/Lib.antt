@@ -4,3 +4,4 @@ pub mod Searching
 pub mod Turns
 pub mod Found
 pub mod Checking
+pub mod Moving

@@ -274,3 +274,74 @@ fn position_with(row: &[u32], i: usize, key: u32) -> u32
     }
     key_at(row, i - 1)
 }
+
+// Moving places.
+
+// Every word of a part moves up by three, from the last down; the first three are kept.
+fn move_up(part: &mut [u32])
+    requires { ⌜ 3 ≤ length (now part) ⌝ }
+    ensures { λ r. ⌜ now (part .exit) ≡ take 3 (now (part .entry)) ++ take (length (now (part .entry)) - 3) (now (part .entry)) ⌝ }
+{
+    let mut i = part.len();
+    while 3 < i {
+        i -= 1;
+        part[i] = part[i - 3];
+    }
+}
+
+// Every word of a part becomes 0.
+fn clear(part: &mut [u32])
+    ensures { λ r. ⌜ now (part .exit) ≡ replicate (length (now (part .entry))) 0 ⌝ }
+{
+    let mut i: usize = 0;
+    while i < part.len() {
+        part[i] = 0;
+        i += 1;
+    }
+}
+
+// Every word of a part moves down by some words; the last words are kept.
+fn move_down(part: &mut [u32], by: usize)
+    requires { ⌜ by ≤ length (now part) ⌝ }
+    ensures { λ r. ⌜ now (part .exit) ≡ drop by (now (part .entry)) ++ drop (length (now (part .entry)) - by) (now (part .entry)) ⌝ }
+{
+    let mut i: usize = 0;
+    while i + by < part.len() {
+        part[i] = part[i + by];
+        i += 1;
+    }
+}
+
+// .. and become 0.
+fn shift_down(part: &mut [u32], by: usize)
+    requires { ⌜ by ≤ length (now part) ⌝ }
+    ensures { λ r. ⌜ now (part .exit) ≡ drop by (now (part .entry)) ++ replicate by 0 ⌝ }
+{
+    move_down(part, by);
+    let end = part.len() - by;
+    clear(&mut part[end..]);
+}
+
+// A new live key at place i: the places behind move up by one.
+fn add_at(row: &mut [u32], i: usize, key: u32, value: u32)
+    requires { ⌜ (isRow (now row) ≡ true) × ((i ≤ getD (now row) 3 0) × (getD (now row) 3 0 + 1 < getD (now row) 2 0)) ⌝ }
+    ensures { λ r. ⌜ now (row .exit) ≡ rowWords (getD (now (row .entry)) 0 0) (withRow (bookIn (now (row .entry))) (take i (bookIn (now (row .entry)) .row) ++ (standingKey key value true ∷ drop i (bookIn (now (row .entry)) .row))) (bookIn (now (row .entry)) .position)) ⌝ }
+{
+    let keys = row[KEYS];
+    let start = word_of(i);
+    let end = word_of(keys as usize + 1);
+    move_up(&mut row[start..end]);
+    put_at(row, i, key, value, LIVE);
+    row[KEYS] = keys + 1;
+}
+
+// The first keys are freed: the places behind move down, and the words that are unused then become 0.
+fn free_first(row: &mut [u32], freed: usize)
+    requires { ⌜ (isRow (now row) ≡ true) × (freed ≤ getD (now row) 3 0) ⌝ }
+    ensures { λ r. ⌜ now (row .exit) ≡ rowWords (getD (now (row .entry)) 0 0) (withRow (bookIn (now (row .entry))) (drop freed (bookIn (now (row .entry)) .row)) (bookIn (now (row .entry)) .position)) ⌝ }
+{
+    let keys = row[KEYS];
+    let end = word_of(keys as usize);
+    shift_down(&mut row[BEFORE..end], 3 * freed);
+    row[KEYS] = keys - freed as u32;
+}
