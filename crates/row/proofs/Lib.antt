@@ -5,3 +5,4 @@ pub mod Turns
 pub mod Found
 pub mod Checking
 pub mod Moving
+pub mod Changed

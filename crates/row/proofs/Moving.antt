@@ -4,8 +4,9 @@ use mathlib.Core.List.{List, [], _∷_, _++_, append-assoc, append-nil}
 use Prim.Native.Nat.{ℕ, zero, suc, _+_, _-_, _≤_, _<_}
 use native.Mathlib.Numerals.{add-one}
 use native.Mathlib.Omega.{arith}
-use lib.ListN.{length, getD, take, drop, set, length-append, length-take, length-drop, drop-of-length-le, List·getD-append}
-use lib.Seq.{length-take-le, take-all, take-suc, drop-cons, append-snoc, getD-take, getD-drop, getD-append-add, set-at}
+use lib.ListN.{length, getD, take, drop, set, replicate, length-append, length-take, length-drop, drop-of-length-le, List·getD-append}
+use lib.Seq.{length-take-le, take-all, take-suc, drop-cons, append-snoc, getD-take, getD-drop, getD-append-add, set-at, take-at, drop-at}
+use borrow.Rule.Slice.PartMut.{putMid}
 
 module _ (part : List ℕ) where
   -- moved up from place i on
@@ -67,3 +68,25 @@ module _ (part : List ℕ) where
       let end : i ≡ length part - by = omega arith in
       let all : length (drop by part) ≤ i = omega (arith, length-drop by part) in
       rw (take-all i (drop by part) all, end) refl
+
+-- moved down, and the last words 0
+pub down-cleared :
+    (part moved : List ℕ) (by : ℕ) → by ≤ length part → moved ≡ drop by part ++ drop (length part - by) part →
+        let start = length moved - by in
+        let count = length moved - start in
+        putMid start count moved (replicate (length (take count (drop start moved))) 0) ≡ drop by part ++ replicate by 0
+down-cleared part moved by h e =
+    let kept = drop by part in
+    let last = drop (length part - by) part in
+    let k = length-drop by part in
+    let l = length-drop (length part - by) part in
+    let long : length moved ≡ length part = ap length e ∙ length-append kept last ∙ omega arith in
+    let start = length moved - by in
+    let count = length moved - start in
+    let took : take start moved ≡ kept = ap (λ (m : List ℕ). take start m) e ∙ take-at kept last start (omega arith) in
+    let dropped : drop start moved ≡ last = ap (λ (m : List ℕ). drop start m) e ∙ drop-at kept last start (omega arith) in
+    let whole : take count (drop start moved) ≡ last = ap (λ (m : List ℕ). take count m) dropped ∙ take-all count last (omega arith) in
+    let short : length last ≤ count = omega arith in
+    let past : drop count (drop start moved) ≡ [] = ap (λ (m : List ℕ). drop count m) dropped ∙ drop-of-length-le last short in
+    let as-many : length last ≡ by = omega arith in
+    rw (took, whole, past, as-many) (ap (λ (m : List ℕ). kept ++ m) (append-nil (replicate by 0)))

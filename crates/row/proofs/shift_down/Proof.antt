@@ -1,4 +1,6 @@
+-- `row::shift_down` meets its contract: the words that are not moved over become 0.
 use borrow.Author.Needs.{needs}
+use Rattle.row.proofs.Moving.{down-cleared}
 use Rattle.row.proofs.shift_down.Statement.{statement}
 use Rattle.row.proofs.shift_down.Tie as tie
 use Rattle.row.proofs.shift_down.Reads as reads
@@ -40,7 +42,9 @@ same-length c = search needs
 
 -- src/lib.rt:316:1
 returns : tie.Need-returns
-returns c = ?
+returns c =
+    let a = c .before .before .before .before .before .before .before .before .before .args in
+    rw (c .before .before .clear .ensures) (down-cleared (a .part .now) (c .before .before .before .before .before .before .move-down .last .0) (a .by) (c .before .before .before .before .before .before .before .before .before .pre) (c .before .before .before .before .before .before .move-down .ensures))
 
 pub shift-down-spec : {M : Type 1} → statement M
 shift-down-spec =
