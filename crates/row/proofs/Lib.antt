@@ -6,3 +6,4 @@ pub mod Found
 pub mod Checking
 pub mod Moving
 pub mod Changed
+pub mod Outcomes
