@@ -7,8 +7,8 @@ use native.Mathlib.Omega.{arith}
 use lib.ListN.{length, getD, take, drop, set, replicate, length-append, length-take, length-drop, length-set, length-replicate, replicate-append-replicate, take-append-drop, drop-of-length-le}
 use lib.Seq.{sets, set-split, drop-cons, length-take-le, take-at, drop-at, take-length, drop-drop}
 use borrow.Rule.Slice.PartMut.{putMid}
-use Rattle.book.specs.Book.{StandingKey, standingKey, Book, withRow}
-use Rattle.row.specs.Row.{keyWords, rowWords, bookIn, isRow}
+use Rattle.book.specs.Book.{StandingKey, standingKey, Book, freshBook, withRow}
+use Rattle.row.specs.Row.{rowLength, keyWords, rowWords, bookIn, isRow}
 use Rattle.row.specs.Places.{wordOf}
 use Rattle.row.proofs.Written.{front, unused, keys-length, keys-append, keys-drop, words-take, words-drop, row-written, row-holds, read-length}
 use Rattle.row.proofs.Checking.{held}
@@ -134,14 +134,33 @@ module _ (D : ℕ) (k : Book) where
       ∙ ap (λ (l : List ℕ). D ∷ k .largest ∷ k .cells ∷ (n + 1) ∷ k .position ∷ l) keys
       ∙ built (first ++ (x ∷ drop i (k .row))) (n + 1) m count (ap (λ w. 3 * (k .cells - 1 - w)) count)
 
+-- A fresh row
+
+pub fresh-words : (D K C n : ℕ) → n ≡ rowLength C → set (set (set (replicate n 0) 0 D) 1 K) 2 C ≡ rowWords D (freshBook K C)
+unfolding rowWords flatMap
+fresh-words D K C n long =
+    let words : n ≡ suc (suc (suc (suc (suc (3 * (C - 1)))))) = omega arith in
+    let all : 3 * (C - 1) ≡ 3 * (C - 1 - 0) = omega arith in
+    rw words (ap (λ (m : ℕ). D ∷ K ∷ C ∷ 0 ∷ 0 ∷ replicate m 0) all)
+
 -- The same of words that are a row
 
 module _ (ws : List ℕ) (e : isRow ws ≡ true) where
-  pub row-put :
+  row-put :
       (i : ℕ) (x : StandingKey) → i < getD ws 3 0 →
           sets ws (wordOf i) (keyWords x) ≡ rowWords (getD ws 0 0) (withRow (bookIn ws) (set (bookIn ws .row) i x) (bookIn ws .position))
   row-put i x h =
       ap (λ (l : List ℕ). sets l (wordOf i) (keyWords x)) (row-written ws e) ∙ key-put (getD ws 0 0) (bookIn ws) i x (omega (arith, read-length ws))
+
+  pub row-put-at :
+      (i : ℕ) (x : StandingKey) (q : ℕ) → i < getD ws 3 0 →
+          set (sets ws (wordOf i) (keyWords x)) 4 q ≡ rowWords (getD ws 0 0) (withRow (bookIn ws) (set (bookIn ws .row) i x) q)
+  row-put-at i x q h =
+      let D = getD ws 0 0 in
+      ap (λ (l : List ℕ). set l 4 q) (row-put i x h) ∙ position-put D (withRow (bookIn ws) (set (bookIn ws .row) i x) (bookIn ws .position)) q
+
+  pub row-placed : (q : ℕ) → set ws 4 q ≡ rowWords (getD ws 0 0) (withRow (bookIn ws) (bookIn ws .row) q)
+  row-placed q = ap (λ (l : List ℕ). set l 4 q) (row-written ws e) ∙ position-put (getD ws 0 0) (bookIn ws) q
 
   pub row-freed :
       (n : ℕ) → n ≤ getD ws 3 0 → (end : ℕ) → end ≡ wordOf (getD ws 3 0) →

@@ -1,6 +1,6 @@
 -- What each operation answers and leaves on words that are a row, by what the code finds on them.
 use mathlib.Core.Path.{_≡_, refl, sym, ap, _∙_}
-use mathlib.Core.Bool.{Bool, true, false, cond, _&&_}
+use mathlib.Core.Bool.{Bool, true, false, cond, not, _&&_}
 use mathlib.Core.List.{List, [], _∷_, _++_, dropLast}
 use mathlib.Core.Option.{none, some}
 use Prim.Native.Nat.{ℕ, zero, suc, _+_, _-_, _≤_, _<_}
@@ -9,7 +9,7 @@ use native.Mathlib.Omega.{arith}
 use lib.Dec.{eqb, leb, ltb}
 use lib.ListN.{length, getD, take, drop, set, replicate, drop-of-length-le}
 use lib.Seq.{sets, take-all}
-use borrow.Author.Tests.{ltb-true, lt-ltb, le-ltb, eqb-true, eq-eqb, ne-eqb}
+use borrow.Author.Tests.{not-true, not-false, ltb-true, lt-ltb, le-ltb, eqb-true, eq-eqb, ne-eqb}
 use Rattle.lists.specs.Lists.{those}
 use Rattle.lists.proofs.Tests.{both}
 use Rattle.settings.specs.Numbers.{inRange, isKey}
@@ -21,15 +21,28 @@ use Rattle.book.specs.Book.{StandingKey, standingKey, Book, freshBook, withRow,
 use Rattle.row.specs.Row.{rowLength, rowWords, keyWords, keyIn, bookIn, ascending, isRow, rowSetUpOut, inWords, rowOut}
 use Rattle.row.specs.Places.{wordOf, placeOf}
 use Rattle.row.proofs.Written.{row-written, row-holds, read-length, read-at, read-from}
-use Rattle.row.proofs.Searching.{place-put, place-below, marked-at, last-before, last-kept, others-length, between-up-to, dead-taken, live-dropped, dead-within}
+use Rattle.row.proofs.Searching.{place-within, place-put, place-below, marked-at, last-before, last-kept, others-length, between-up-to, dead-taken, live-dropped, dead-within}
 use Rattle.row.proofs.Found.{standsAt, found-there, found-nowhere}
 use Rattle.row.proofs.Turns.{keys-end}
 use Rattle.row.proofs.Checking.{held}
-use Rattle.row.proofs.Changed.{row-put, position-put}
 
 -- an outcome met, by another that is the same
 pub met : {o p : Outcome (List ℕ)} → o ≡ p → {r : Answer} {ws : List ℕ} → r ≡ p .answered → ws ≡ p .left → Meets o r ws
 met e a l = rw e record { answered = a; left = l }
+
+-- a test that the code turned, held or not
+pub passed : {r t : Bool} → r ≡ t → not r ≡ false → t ≡ true
+passed {r} e h = sym e ∙ not-false r h
+
+pub failed : {r t : Bool} → r ≡ t → not r ≡ true → t ≡ false
+failed {r} e h = sym e ∙ not-true r h
+
+-- a place at which a key stands, and one up to which keys stand
+pub there-within : (ws : List ℕ) (i key : ℕ) → standsAt ws i key ≡ true → i < getD ws 3 0
+there-within ws i key there = ltb-true i (getD ws 3 0) (both (ltb i (getD ws 3 0)) (eqb (getD ws (wordOf i) 0) key) there .0)
+
+pub place-fits : (ws : List ℕ) (key i : ℕ) → i ≡ placeOf key (bookIn ws .row) → i ≤ getD ws 3 0
+place-fits ws key i is = omega (arith, place-within key (bookIn ws .row), read-length ws)
 
 -- Set up
 
@@ -87,7 +100,7 @@ module _ (ws : List ℕ) (e : isRow ws ≡ true) where
     there-marked : standsAt ws i key ≡ true → (value : ℕ) (live : Bool) → marked key value live (bookIn ws .row) ≡ set (bookIn ws .row) i (standingKey key value live)
     there-marked there value live =
         let t = both (ltb i (getD ws 3 0)) (eqb (getD ws (wordOf i) 0) key) there in
-        let within = ltb-true i (getD ws 3 0) (t .0) in
+        let within = there-within ws i key there in
         let key-is : getD (bookIn ws .row) i (keyIn ws i) .key ≡ key =
             ap (λ x. x .key) (read-at ws i (keyIn ws i) within) ∙ eqb-true (getD ws (wordOf i) 0) key (t .1) in
         rw key-is at (marked-at 0 (getD ws 1 0) (bookIn ws .row) i value live (keyIn ws i) rise (omega (arith, read-length ws)))

@@ -345,3 +345,42 @@ fn free_first(row: &mut [u32], freed: usize)
     shift_down(&mut row[BEFORE..end], 3 * freed);
     row[KEYS] = keys - freed as u32;
 }
+
+// Finds a live key's value; writes nothing.
+#[no_mangle]
+pub extern "C" fn row_find(row: &[u32], key: u32) -> Answer
+    ensures { λ r. ⌜ Meets (rowOut (Find key) (now (row .entry))) r (now (row .entry)) ⌝ }
+{
+    if !is_row(row) {
+        return reply(answers::NOT_A_LIST, 0, 0, 0);
+    }
+    if !is_key(row, key) {
+        return reply(answers::BAD_KEY, 0, 0, 0);
+    }
+    let i = place_of(row, key);
+    if !stands_at(row, i, key) {
+        return reply(answers::KEY_NOT_LIVE, key, 0, 0);
+    }
+    if mark_at(row, i) != LIVE {
+        return reply(answers::KEY_NOT_LIVE, key, 0, 0);
+    }
+    reply(0, key, value_at(row, i), 0)
+}
+
+// Tells whether a key stands: a row owes nothing.
+#[no_mangle]
+pub extern "C" fn row_finish(row: &[u32], key: u32) -> Answer
+    ensures { λ r. ⌜ Meets (rowOut (Finish key) (now (row .entry))) r (now (row .entry)) ⌝ }
+{
+    if !is_row(row) {
+        return reply(answers::NOT_A_LIST, 0, 0, 0);
+    }
+    if !is_key(row, key) {
+        return reply(answers::BAD_KEY, 0, 0, 0);
+    }
+    let i = place_of(row, key);
+    if !stands_at(row, i, key) {
+        return reply(answers::KEY_NOT_STANDING, key, 0, 0);
+    }
+    reply(0, key, 0, 0)
+}
