@@ -37,6 +37,12 @@ passed {r} e h = sym e ∙ not-false r h
 pub failed : {r t : Bool} → r ≡ t → not r ≡ true → t ≡ false
 failed {r} e h = sym e ∙ not-true r h
 
+pub same-held : {r t : Bool} → r ≡ t → r ≡ true → t ≡ true
+same-held e h = sym e ∙ h
+
+pub same-not : {r t : Bool} → r ≡ t → r ≡ false → t ≡ false
+same-not e h = sym e ∙ h
+
 -- a place at which a key stands, and one up to which keys stand
 pub there-within : (ws : List ℕ) (i key : ℕ) → standsAt ws i key ≡ true → i < getD ws 3 0
 there-within ws i key there = ltb-true i (getD ws 3 0) (both (ltb i (getD ws 3 0)) (eqb (getD ws (wordOf i) 0) key) there .0)

@@ -346,6 +346,53 @@ fn free_first(row: &mut [u32], freed: usize)
     row[KEYS] = keys - freed as u32;
 }
 
+// Set up.
+#[no_mangle]
+pub extern "C" fn row_set_up(d: u32, k: u32, c: u32, row: &mut [u32]) -> Answer
+    ensures { λ r. ⌜ Meets (rowSetUpOut d k c (now (row .entry))) r (now (row .exit)) ⌝ }
+{
+    if !Settings::in_range(d, k, c) {
+        return reply(answers::OUT_OF_RANGE, 0, 0, 0);
+    }
+    if row.len() != word_of(c as usize - 1) {
+        return reply(answers::WRONG_LENGTH, 0, 0, 0);
+    }
+    clear(row);
+    row[DIMENSIONS] = d;
+    row[LARGEST] = k;
+    row[CELLS] = c;
+    reply(0, 0, 0, 0)
+}
+
+// Puts a key with its value into the row.
+#[no_mangle]
+pub extern "C" fn row_insert(row: &mut [u32], key: u32, value: u32) -> Answer
+    ensures { λ r. ⌜ Meets (rowOut (Insert key value) (now (row .entry))) r (now (row .exit)) ⌝ }
+{
+    if !is_row(row) {
+        return reply(answers::NOT_A_LIST, 0, 0, 0);
+    }
+    if !is_key(row, key) {
+        return reply(answers::BAD_KEY, 0, 0, 0);
+    }
+    let i = place_of(row, key);
+    let position = position_with(row, i, key);
+    if stands_at(row, i, key) {
+        if mark_at(row, i) == LIVE {
+            return reply(answers::KEY_LIVE, key, 0, 0);
+        }
+        put_at(row, i, key, value, LIVE);
+        row[POSITION] = position;
+        return reply(0, key, 0, 0);
+    }
+    if row[CELLS] <= row[KEYS] + 1 {
+        return reply(answers::NO_FREE_CELL, key, 0, 0);
+    }
+    add_at(row, i, key, value);
+    row[POSITION] = position;
+    reply(0, key, 0, 0)
+}
+
 // Finds a live key's value; writes nothing.
 #[no_mangle]
 pub extern "C" fn row_find(row: &[u32], key: u32) -> Answer
@@ -383,4 +430,44 @@ pub extern "C" fn row_finish(row: &[u32], key: u32) -> Answer
         return reply(answers::KEY_NOT_STANDING, key, 0, 0);
     }
     reply(0, key, 0, 0)
+}
+
+// Takes the least live key.
+#[no_mangle]
+pub extern "C" fn row_take(row: &mut [u32]) -> Answer
+    ensures { λ r. ⌜ Meets (rowOut Take (now (row .entry))) r (now (row .exit)) ⌝ }
+{
+    if !is_row(row) {
+        return reply(answers::NOT_A_LIST, 0, 0, 0);
+    }
+    let i = first_live(row);
+    if row[KEYS] as usize <= i {
+        return reply(answers::NOTHING_LIVE, 0, 0, above_position(row, i));
+    }
+    let key = key_at(row, i);
+    let value = value_at(row, i);
+    let passed = above_position(row, i + 1);
+    put_at(row, i, key, 0, DEAD);
+    row[POSITION] = key;
+    reply(0, key, value, passed)
+}
+
+// Frees the dead keys before the first live one, but for the last of them: it is kept and becomes the position.
+#[no_mangle]
+pub extern "C" fn row_sweep(row: &mut [u32]) -> Answer
+    ensures { λ r. ⌜ Meets (rowOut Sweep (now (row .entry))) r (now (row .exit)) ⌝ }
+{
+    if !is_row(row) {
+        return reply(answers::NOT_A_LIST, 0, 0, 0);
+    }
+    let dead = first_live(row);
+    if dead == 0 {
+        row[POSITION] = 0;
+        return reply(0, 0, 0, 0);
+    }
+    let freed = dead - 1;
+    let position = key_at(row, freed);
+    free_first(row, freed);
+    row[POSITION] = position;
+    reply(0, 0, 0, freed as u32)
 }
