@@ -7,3 +7,5 @@ pub mod Checking
 pub mod Moving
 pub mod Changed
 pub mod Outcomes
+pub mod Staying
+pub mod Promises
