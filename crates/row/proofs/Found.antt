@@ -6,10 +6,10 @@ use mathlib.Core.Option.{none, some}
 use Prim.Native.Nat.{ℕ, _-_, _<_}
 use native.Mathlib.Omega.{arith}
 use lib.Dec.{eqb, ltb}
-use lib.ListN.{length, getD}
+use lib.ListN.{getD}
 use borrow.Author.Tests.{ltb-true, lt-ltb, eqb-true, eq-eqb}
 use Rattle.lists.proofs.Tests.{both, and-both}
-use Rattle.book.specs.Book.{StandingKey, standingAt}
+use Rattle.book.specs.Book.{standingAt}
 use Rattle.row.specs.Row.{keyIn, bookIn, ascending, stands}
 use Rattle.row.specs.Places.{wordOf, placeOf}
 use Rattle.row.proofs.Written.{read-length, read-at}

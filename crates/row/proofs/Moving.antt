@@ -1,7 +1,7 @@
 -- Words moved up by three, or down: what one turn of each loop does, and what is left in the end.
 use mathlib.Core.Path.{_≡_, refl, sym, ap, _∙_}
-use mathlib.Core.List.{List, [], _∷_, _++_, append-assoc, append-nil}
-use Prim.Native.Nat.{ℕ, zero, suc, _+_, _-_, _≤_, _<_}
+use mathlib.Core.List.{List, [], _∷_, _++_, append-nil}
+use Prim.Native.Nat.{ℕ, suc, _+_, _-_, _≤_, _<_}
 use native.Mathlib.Numerals.{add-one}
 use native.Mathlib.Omega.{arith}
 use lib.ListN.{length, getD, take, drop, set, replicate, length-append, length-take, length-drop, drop-of-length-le, List·getD-append}
@@ -30,8 +30,12 @@ module _ (part : List ℕ) where
       let next : suc j - 3 ≡ suc (j - 3) = omega arith in
       let within : j - 3 < length all = omega (arith, length-take (length part - 3) part) in
       let word : getD all (j - 3) 0 ≡ v = getD-take (length part - 3) part (j - 3) 0 (omega arith) in
-      rw (take-suc part j 0 high, append-snoc (take j part) (getD part j 0) (drop (suc j - 3) all),
-      set-at (take j part) (getD part j 0) (drop (suc j - 3) all) v j (length-take-le j part (omega arith)), next)
+      rw (
+        take-suc part j 0 high,
+        append-snoc (take j part) (getD part j 0) (drop (suc j - 3) all),
+        set-at (take j part) (getD part j 0) (drop (suc j - 3) all) v j (length-take-le j part (omega arith)),
+        next,
+      )
       (ap (λ (l : List ℕ). take j part ++ l) (sym (drop-cons all (j - 3) 0 within ∙ ap (λ w. w ∷ drop (suc (j - 3)) all) word)))
 
   pub up-more : (i : ℕ) → 3 < i → i ≤ length part → set (movedUp i) (i - 1) (getD part (i - 1 - 3) 0) ≡ movedUp (i - 1)
@@ -59,8 +63,13 @@ module _ (part : List ℕ) where
       let turned : by + i ≡ i + by = omega arith in
       let word : getD (drop by part) i 0 ≡ v = rw turned at (getD-drop by part i 0) in
       let within : i < length (drop by part) = omega (arith, length-drop by part) in
-      rw (add-one i, drop-cons part i 0 (omega arith), set-at moved (getD part i 0) (drop (suc i) part) v i (moved-length by i (omega arith)),
-      take-suc (drop by part) i 0 within, word)
+      rw (
+        add-one i,
+        drop-cons part i 0 (omega arith),
+        set-at moved (getD part i 0) (drop (suc i) part) v i (moved-length by i (omega arith)),
+        take-suc (drop by part) i 0 within,
+        word,
+      )
       (sym (append-snoc moved v (drop (suc i) part)))
 
   pub down-end : (by i : ℕ) → i + by ≡ length part → movedDown by i ≡ drop by part ++ drop (length part - by) part
@@ -72,9 +81,9 @@ module _ (part : List ℕ) where
 -- moved down, and the last words 0
 pub down-cleared :
     (part moved : List ℕ) (by : ℕ) → by ≤ length part → moved ≡ drop by part ++ drop (length part - by) part →
-        let start = length moved - by in
-        let count = length moved - start in
-        putMid start count moved (replicate (length (take count (drop start moved))) 0) ≡ drop by part ++ replicate by 0
+    let start = length moved - by in
+    let count = length moved - start in
+    putMid start count moved (replicate (length (take count (drop start moved))) 0) ≡ drop by part ++ replicate by 0
 down-cleared part moved by h e =
     let kept = drop by part in
     let last = drop (length part - by) part in

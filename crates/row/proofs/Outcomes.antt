@@ -1,26 +1,25 @@
 -- What each operation answers and leaves on words that are a row, by what the code finds on them.
 use mathlib.Core.Path.{_≡_, refl, sym, ap, _∙_}
-use mathlib.Core.Bool.{Bool, true, false, cond, not, _&&_}
-use mathlib.Core.List.{List, [], _∷_, _++_, dropLast}
+use mathlib.Core.Bool.{Bool, true, false, cond, not}
+use mathlib.Core.List.{List, _∷_, _++_}
 use mathlib.Core.Option.{none, some}
-use Prim.Native.Nat.{ℕ, zero, suc, _+_, _-_, _≤_, _<_}
+use Prim.Native.Nat.{ℕ, suc, _+_, _-_, _≤_, _<_}
 use native.Mathlib.Numerals.{add-one}
 use native.Mathlib.Omega.{arith}
 use lib.Dec.{eqb, leb, ltb}
-use lib.ListN.{length, getD, take, drop, set, replicate, drop-of-length-le}
-use lib.Seq.{sets, take-all}
+use lib.ListN.{length, getD, take, drop, set}
+use lib.Seq.{take-all}
 use borrow.Author.Tests.{not-true, not-false, ltb-true, lt-ltb, le-ltb, eqb-true, eq-eqb, ne-eqb}
-use Rattle.lists.specs.Lists.{those}
 use Rattle.lists.proofs.Tests.{both}
 use Rattle.settings.specs.Numbers.{inRange, isKey}
 use Rattle.answers.specs.declared.Answer.{Answer}
 use Rattle.answers.specs.declared.Operation.{Operation}
 use Rattle.answers.specs.declared.Operation.the-variants.{Insert, Find, Finish, Take, Sweep}
-use Rattle.answers.specs.Refusals.{Outcome, Meets, accepted, refused, answer, outOfRange, wrongLength, notAList, badKey, keyLive, noFreeCell, nothingLive, keyNotLive, keyNotStanding}
-use Rattle.book.specs.Book.{StandingKey, standingKey, Book, freshBook, withRow, lastIn, keyBelow, standingAt, onBookKey, putKey, marked, positionWith, insertBook, findBook, finishBook, deadBefore, liveOn, standingAbove, standingBetween, takeBook, lastOnly, sweepBook, operationBook}
-use Rattle.row.specs.Row.{rowLength, rowWords, keyWords, keyIn, bookIn, ascending, isRow, rowSetUpOut, inWords, rowOut}
+use Rattle.answers.specs.Refusals.{Outcome, Meets, accepted, refused, outOfRange, wrongLength, notAList, badKey, keyLive, noFreeCell, nothingLive, keyNotLive, keyNotStanding}
+use Rattle.book.specs.Book.{standingKey, freshBook, withRow, lastIn, standingAt, onBookKey, putKey, marked, positionWith, insertBook, findBook, finishBook, deadBefore, liveOn, standingAbove, standingBetween, takeBook, lastOnly, sweepBook, operationBook}
+use Rattle.row.specs.Row.{rowLength, rowWords, keyIn, bookIn, ascending, isRow, rowSetUpOut, inWords, rowOut}
 use Rattle.row.specs.Places.{wordOf, placeOf}
-use Rattle.row.proofs.Written.{row-written, row-holds, read-length, read-at, read-from}
+use Rattle.row.proofs.Written.{row-holds, read-length, read-at, read-from}
 use Rattle.row.proofs.Searching.{place-within, place-put, place-below, marked-at, last-before, last-kept, others-length, between-up-to, dead-taken, live-dropped, dead-within}
 use Rattle.row.proofs.Found.{standsAt, found-there, found-nowhere}
 use Rattle.row.proofs.Turns.{keys-end}
@@ -108,7 +107,7 @@ module _ (ws : List ℕ) (e : isRow ws ≡ true) where
         let t = both (ltb i (getD ws 3 0)) (eqb (getD ws (wordOf i) 0) key) there in
         let within = there-within ws i key there in
         let key-is : getD (bookIn ws .row) i (keyIn ws i) .key ≡ key =
-            ap (λ x. x .key) (read-at ws i (keyIn ws i) within) ∙ eqb-true (getD ws (wordOf i) 0) key (t .1) in
+        ap (λ x. x .key) (read-at ws i (keyIn ws i) within) ∙ eqb-true (getD ws (wordOf i) 0) key (t .1) in
         rw key-is at (marked-at 0 (getD ws 1 0) (bookIn ws .row) i value live (keyIn ws i) rise (omega (arith, read-length ws)))
 
     abbrev pub positionAfter : ℕ
@@ -120,14 +119,14 @@ module _ (ws : List ℕ) (e : isRow ws ≡ true) where
 
     pub insert-live :
         (value : ℕ) → standsAt ws i key ≡ true → getD ws (wordOf i + 2) 0 ≡ 1 →
-            rowOut (Insert key value) ws ≡ inWords (getD ws 0 0) (refused (keyLive key 0) (bookIn ws))
+        rowOut (Insert key value) ws ≡ inWords (getD ws 0 0) (refused (keyLive key 0) (bookIn ws))
     unfolding operationBook onBookKey bookIn insertBook
     insert-live value there live = on-row (Insert key value) ∙ (rw (good, there-found there, live) refl)
 
     pub insert-dead :
         (value : ℕ) → standsAt ws i key ≡ true → (getD ws (wordOf i + 2) 0 ≡ 1 → ⊥) →
-            rowOut (Insert key value) ws
-            ≡ inWords (getD ws 0 0) (accepted key 0 0 (withRow (bookIn ws) (set (bookIn ws .row) i (standingKey key value true)) positionAfter))
+        rowOut (Insert key value) ws
+        ≡ inWords (getD ws 0 0) (accepted key 0 0 (withRow (bookIn ws) (set (bookIn ws .row) i (standingKey key value true)) positionAfter))
     unfolding operationBook onBookKey bookIn insertBook
     insert-dead value there dead =
         on-row (Insert key value)
@@ -135,7 +134,7 @@ module _ (ws : List ℕ) (e : isRow ws ≡ true) where
 
     pub insert-full :
         (value : ℕ) → standsAt ws i key ≡ false → getD ws 2 0 ≤ getD ws 3 0 + 1 →
-            rowOut (Insert key value) ws ≡ inWords (getD ws 0 0) (refused (noFreeCell key 0) (bookIn ws))
+        rowOut (Insert key value) ws ≡ inWords (getD ws 0 0) (refused (noFreeCell key 0) (bookIn ws))
     unfolding operationBook onBookKey bookIn insertBook
     insert-full value other full =
         let none-left : getD ws 2 0 ≤ suc (length (bookIn ws .row)) = omega (arith, read-length ws) in
@@ -143,14 +142,14 @@ module _ (ws : List ℕ) (e : isRow ws ≡ true) where
 
     pub insert-new :
         (value : ℕ) → standsAt ws i key ≡ false → getD ws 3 0 + 1 < getD ws 2 0 →
-            rowOut (Insert key value) ws
-            ≡ inWords (getD ws 0 0)
-            (accepted key 0 0 (withRow (bookIn ws) (take i (bookIn ws .row) ++ (standingKey key value true ∷ drop i (bookIn ws .row))) positionAfter))
+        rowOut (Insert key value) ws
+        ≡ inWords (getD ws 0 0)
+        (accepted key 0 0 (withRow (bookIn ws) (take i (bookIn ws .row) ++ (standingKey key value true ∷ drop i (bookIn ws .row))) positionAfter))
     unfolding operationBook onBookKey bookIn insertBook
     insert-new value other room =
         let some-left : suc (length (bookIn ws .row)) < getD ws 2 0 = omega (arith, read-length ws) in
         let put : putKey (standingKey key value true) (bookIn ws .row) ≡ take i (bookIn ws .row) ++ (standingKey key value true ∷ drop i (bookIn ws .row)) =
-            rw is (place-put (standingKey key value true) (bookIn ws .row)) in
+        rw is (place-put (standingKey key value true) (bookIn ws .row)) in
         on-row (Insert key value) ∙ (rw (good, none-found other, lt-ltb (suc (length (bookIn ws .row))) (getD ws 2 0) some-left, put, position-is) refl)
 
     pub find-none : standsAt ws i key ≡ false → rowOut (Find key) ws ≡ inWords (getD ws 0 0) (refused (keyNotLive key 0) (bookIn ws))
@@ -164,7 +163,7 @@ module _ (ws : List ℕ) (e : isRow ws ≡ true) where
 
     pub find-live :
         standsAt ws i key ≡ true → getD ws (wordOf i + 2) 0 ≡ 1 →
-            rowOut (Find key) ws ≡ inWords (getD ws 0 0) (accepted key (getD ws (wordOf i + 1) 0) 0 (bookIn ws))
+        rowOut (Find key) ws ≡ inWords (getD ws 0 0) (accepted key (getD ws (wordOf i + 1) 0) 0 (bookIn ws))
     unfolding operationBook onBookKey bookIn findBook
     find-live there live = on-row (Find key) ∙ (rw (good, there-found there, live) refl)
 
@@ -195,20 +194,20 @@ module _ (ws : List ℕ) (e : isRow ws ≡ true) where
 
     pub take-live :
         i < getD ws 3 0 →
-            let key = getD ws (wordOf i) 0 in
-            rowOut Take ws
-            ≡ inWords (getD ws 0 0)
-            (accepted key (getD ws (wordOf i + 1) 0) (standingAbove (getD ws 4 0) (take (i + 1) (bookIn ws .row)))
-            (withRow (bookIn ws) (set (bookIn ws .row) i (standingKey key 0 false)) key))
+        let key = getD ws (wordOf i) 0 in
+        rowOut Take ws
+        ≡ inWords (getD ws 0 0)
+        (accepted key (getD ws (wordOf i + 1) 0) (standingAbove (getD ws 4 0) (take (i + 1) (bookIn ws .row)))
+        (withRow (bookIn ws) (set (bookIn ws .row) i (standingKey key 0 false)) key))
     unfolding operationBook bookIn takeBook
     take-live h =
         let row = bookIn ws .row in
         let within : i < length row = omega (arith, read-length ws) in
         let key-is : getD row i (keyIn ws i) .key ≡ getD ws (wordOf i) 0 = ap (λ x. x .key) (read-at ws i (keyIn ws i) h) in
         let passed : standingBetween (getD ws 4 0) (getD ws (wordOf i) 0) row ≡ standingAbove (getD ws 4 0) (take (i + 1) row) =
-            rw (add-one i) (rw key-is at (between-up-to 0 (getD ws 4 0) (getD ws 1 0) row i (keyIn ws i) rise within)) in
+        rw (add-one i) (rw key-is at (between-up-to 0 (getD ws 4 0) (getD ws 1 0) row i (keyIn ws i) rise within)) in
         let taken : marked (getD ws (wordOf i) 0) 0 false row ≡ set row i (standingKey (getD ws (wordOf i) 0) 0 false) =
-            rw key-is at (marked-at 0 (getD ws 1 0) row i 0 false (keyIn ws i) rise within) in
+        rw key-is at (marked-at 0 (getD ws 1 0) row i 0 false (keyIn ws i) rise within) in
         on-row Take ∙ (rw (live-on, read-from ws i h, passed, taken) refl)
 
     pub sweep-none : i ≡ 0 → rowOut Sweep ws ≡ inWords (getD ws 0 0) (accepted 0 0 0 (withRow (bookIn ws) (bookIn ws .row) 0))
@@ -217,7 +216,7 @@ module _ (ws : List ℕ) (e : isRow ws ≡ true) where
 
     pub sweep-some :
         (j : ℕ) → i ≡ suc j →
-            rowOut Sweep ws ≡ inWords (getD ws 0 0) (accepted 0 0 j (withRow (bookIn ws) (drop j (bookIn ws .row)) (getD ws (wordOf j) 0)))
+        rowOut Sweep ws ≡ inWords (getD ws 0 0) (accepted 0 0 j (withRow (bookIn ws) (drop j (bookIn ws .row)) (getD ws (wordOf j) 0)))
     unfolding operationBook sweepBook
     sweep-some j next =
         let row = bookIn ws .row in

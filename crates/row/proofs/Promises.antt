@@ -7,7 +7,6 @@ use Prim.Native.Nat.{ℕ, suc, _-_}
 use native.Mathlib.Omega.{arith}
 use lib.Dec.{eqb, ltb}
 use lib.ListN.{length, getD}
-use borrow.Author.Tests.{eqb-true}
 use Rattle.lists.specs.Lists.{every}
 use Rattle.lists.proofs.Tests.{cond-has}
 use Rattle.settings.specs.Numbers.{inRange, isKey}
@@ -33,9 +32,9 @@ pub rows-stay-rows : RowsStayRows
 rows-stay-rows = (
   (λ D K C ws range long. rw (set-up-done D K C ws range long) (written-row D (freshBook K C) (may-hold D (freshBook K C) (fresh-held D K C range)))),
   (λ operation ws e.
-  let D = getD ws 0 0 in
-  let after = operationBook operation (bookIn ws) .left in
-  rw (on-row ws e operation) (written-row D after (may-hold D after (stays-held D (bookIn ws) (held D (bookIn ws) (row-holds ws e)) operation)))),
+      let D = getD ws 0 0 in
+      let after = operationBook operation (bookIn ws) .left in
+      rw (on-row ws e operation) (written-row D after (may-hold D after (stays-held D (bookIn ws) (held D (bookIn ws) (row-holds ws e)) operation)))),
 )
 
 pub row-is-book : RowIsBook

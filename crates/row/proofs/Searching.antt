@@ -1,5 +1,5 @@
 -- The search: what a key's place in ascending keys says of them, and the place of the first live key.
-use mathlib.Core.Path.{_≡_, refl, sym, ap, _∙_}
+use mathlib.Core.Path.{_≡_, refl, ap, _∙_}
 use mathlib.Core.Bool.{Bool, true, false, cond, _&&_, _||_, and-false}
 use mathlib.Core.List.{List, [], _∷_, _++_, map, dropLast}
 use mathlib.Core.Option.{Option, none, some}
@@ -12,7 +12,7 @@ use Rattle.lists.specs.Lists.{those}
 use Rattle.lists.proofs.Tests.{both}
 use Rattle.lists.proofs.All.{All, all-map}
 use Rattle.lists.proofs.Those.{those-none}
-use Rattle.book.specs.Book.{StandingKey, standingKey, lastIn, keyBelow, standingAt, putKey, marked, deadBefore, liveOn, standingAbove, standingBetween, lastOnly}
+use Rattle.book.specs.Book.{StandingKey, standingKey, lastIn, standingAt, putKey, marked, deadBefore, liveOn, standingAbove, standingBetween, lastOnly}
 use Rattle.row.specs.Row.{ascending, stands}
 use Rattle.row.specs.Places.{placeOf}
 
@@ -20,7 +20,7 @@ use Rattle.row.specs.Places.{placeOf}
 
 pub ascending-first :
     (low K : ℕ) (x : StandingKey) (row : List StandingKey) → ascending low K (x ∷ row) ≡ true →
-        (low < x .key) × ((x .key ≤ K) × (ascending (x .key) K row ≡ true))
+    (low < x .key) × ((x .key ≤ K) × (ascending (x .key) K row ≡ true))
 unfolding ascending
 ascending-first low K x row a =
     let t = both (ltb low (x .key) && leb (x .key) K) (ascending (x .key) K row) a in
@@ -82,7 +82,7 @@ place-below key low K (x ∷ row) a =
 -- the key at its place, if it is this one, is the one that stands; if it is another, none does
 pub place-found :
     (key : ℕ) (row : List StandingKey) (z : StandingKey) →
-        placeOf key row < length row → getD row (placeOf key row) z .key ≡ key → standingAt key row ≡ some (getD row (placeOf key row) z)
+    placeOf key row < length row → getD row (placeOf key row) z .key ≡ key → standingAt key row ≡ some (getD row (placeOf key row) z)
 unfolding placeOf standingAt
 place-found key [] z h e = absurd (omega arith)
 place-found key (x ∷ row) z h e = at (leb key (x .key)) refl h e (place-found key row z)
@@ -97,7 +97,7 @@ place-found key (x ∷ row) z h e = at (leb key (x .key)) refl h e (place-found 
 
 pub place-absent :
     (key low K : ℕ) (row : List StandingKey) (z : StandingKey) → ascending low K row ≡ true →
-        (placeOf key row < length row → getD row (placeOf key row) z .key ≡ key → ⊥) → standingAt key row ≡ none
+    (placeOf key row < length row → getD row (placeOf key row) z .key ≡ key → ⊥) → standingAt key row ≡ none
 unfolding placeOf standingAt
 place-absent key low K [] z a other = refl
 place-absent key low K (x ∷ row) z a other =
@@ -109,6 +109,7 @@ place-absent key low K (x ∷ row) z a other =
     no-later (y ∷ r) above =
         let h = above .0 in
         rw (ne-eqb (y .key) key (λ q. omega arith)) (no-later r (above .1))
+
     at : (t : Bool) → leb key (x .key) ≡ t →
         (cond t 0 (suc (placeOf key row)) < suc (length row) → getD (x ∷ row) (cond t 0 (suc (placeOf key row))) z .key ≡ key → ⊥) →
         All (λ y. x .key < y .key) row →
@@ -138,7 +139,7 @@ stands-found key (x ∷ row) = at (eqb (x .key) key) (stands-found key row)
 -- a key that stands at place i, marked
 pub marked-at :
     (low K : ℕ) (row : List StandingKey) (i value : ℕ) (live : Bool) (z : StandingKey) → ascending low K row ≡ true → i < length row →
-        marked (getD row i z .key) value live row ≡ set row i (standingKey (getD row i z .key) value live)
+    marked (getD row i z .key) value live row ≡ set row i (standingKey (getD row i z .key) value live)
 unfolding marked
 marked-at low K [] i value live z a h = absurd (omega arith)
 marked-at low K (x ∷ row) zero value live z a h =
@@ -181,13 +182,13 @@ others-length (x ∷ y ∷ row) (suc j) h = ap suc (others-length (y ∷ row) j 
 -- the standing keys up to the one at place i
 pub between-up-to :
     (bottom low K : ℕ) (row : List StandingKey) (i : ℕ) (z : StandingKey) → ascending bottom K row ≡ true → i < length row →
-        standingBetween low (getD row i z .key) row ≡ standingAbove low (take (suc i) row)
+    standingBetween low (getD row i z .key) row ≡ standingAbove low (take (suc i) row)
 unfolding those
 between-up-to bottom low K [] i z a h = absurd (omega arith)
 between-up-to bottom low K (x ∷ row) zero z a h =
     let t = ascending-first bottom K x row a in
     let past : All (λ y. (ltb low (y .key) && leb (y .key) (x .key)) ≡ false) row =
-        all-map (λ y h. ap (λ b. ltb low (y .key) && b) (lt-leb (y .key) (x .key) h) ∙ and-false (ltb low (y .key))) row (keys-above (x .key) K row (t .1 .1)) in
+    all-map (λ y h. ap (λ b. ltb low (y .key) && b) (lt-leb (y .key) (x .key) h) ∙ and-false (ltb low (y .key))) row (keys-above (x .key) K row (t .1 .1)) in
     rw (le-leb (x .key) (x .key) (omega arith), those-none (λ y. ltb low (y .key) && leb (y .key) (x .key)) row past) (at (ltb low (x .key)))
   where
     at : (t : Bool) → length (cond (t && true) (x ∷ []) []) ≡ length (cond t (x ∷ []) [])

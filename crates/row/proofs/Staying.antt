@@ -1,7 +1,7 @@
 -- What a row may hold it may hold after every operation.
 use mathlib.Core.Path.{_≡_, refl, sym, ap, _∙_}
 use mathlib.Core.Bool.{Bool, true, false, cond, _&&_, _||_}
-use mathlib.Core.List.{List, [], _∷_, _++_, map}
+use mathlib.Core.List.{List, [], _∷_, _++_}
 use mathlib.Core.Option.{Option, none, some}
 use Prim.Native.Nat.{ℕ, zero, suc, _+_, _-_, _≤_, _<_}
 use native.Mathlib.Omega.{arith}
@@ -9,7 +9,6 @@ use lib.Dec.{eqb, leb, ltb}
 use lib.ListN.{length, getD, take, drop, length-map, length-drop}
 use lib.Seq.{drop-cons}
 use borrow.Author.Tests.{ltb-true, leb-true, leb-false, eqb-true, eqb-false, lt-ltb, le-leb, eq-eqb}
-use Rattle.lists.specs.Lists.{every, those}
 use Rattle.lists.proofs.Tests.{both, cond-has}
 use Rattle.lists.proofs.All.{All, every-all, all-every, all-map, all-zip, all-mapped}
 use Rattle.settings.specs.Numbers.{isKey}
@@ -66,7 +65,7 @@ absent-first key y row e = at (eqb (y .key) key) e
 
 rise-put :
     (low K : ℕ) (x : StandingKey) (row : List StandingKey) → ascending low K row ≡ true → low < x .key → x .key ≤ K → standingAt (x .key) row ≡ none →
-        ascending low K (putKey x row) ≡ true
+    ascending low K (putKey x row) ≡ true
 unfolding putKey ascending
 rise-put low K x [] a p q absent = rise-first low K x [] p q refl
 rise-put low K x (y ∷ row) a p q absent =
@@ -146,7 +145,7 @@ marked-length key value live row = length-map row (λ x. cond (eqb (x .key) key)
 -- each mark is right with another position, and the key that is marked is right itself
 marked-right :
     (key value : ℕ) (live : Bool) (p q : ℕ) (row : List StandingKey) → rightMark q (standingKey key value live) ≡ true →
-        All (λ y. rightMark p y ≡ true) row → All (λ y. (y .key ≡ key → ⊥) → y .live ≡ true → q < y .key) row → All (λ y. rightMark q y ≡ true) (marked key value live row)
+    All (λ y. rightMark p y ≡ true) row → All (λ y. (y .key ≡ key → ⊥) → y .live ≡ true → q < y .key) row → All (λ y. rightMark q y ≡ true) (marked key value live row)
 unfolding marked
 marked-right key value live p q row right old above =
     all-mapped (λ y. rightMark q y ≡ true) (λ x. cond (eqb (x .key) key) (standingKey key value live) x) row
@@ -188,7 +187,7 @@ below-place key row positive (suc j) h =
 
 first-live :
     (low K : ℕ) (row : List StandingKey) (x : StandingKey) (later : List StandingKey) → ascending low K row ≡ true → liveOn row ≡ x ∷ later →
-        (stands (x .key) row ≡ true) × All (λ y. (y .key ≡ x .key → ⊥) → y .live ≡ true → x .key < y .key) row
+    (stands (x .key) row ≡ true) × All (λ y. (y .key ≡ x .key → ⊥) → y .live ≡ true → x .key < y .key) row
 unfolding liveOn stands
 first-live low K [] x later a e = absurd (let z : _≡_ {A = ℕ} 0 1 = cc in omega arith)
 first-live low K (y ∷ row) x later a e =
@@ -297,7 +296,7 @@ module _ (D : ℕ) (k : Book) (h : Held D k) where
 
   marked-held :
       (key value : ℕ) (live : Bool) (q : ℕ) → atPosition q (k .row) ≡ true → rightMark q (standingKey key value live) ≡ true →
-          All (λ y. (y .key ≡ key → ⊥) → y .live ≡ true → q < y .key) (k .row) → Held D (withRow k (marked key value live (k .row)) q)
+      All (λ y. (y .key ≡ key → ⊥) → y .live ≡ true → q < y .key) (k .row) → Held D (withRow k (marked key value live (k .row)) q)
   marked-held key value live q position right above =
       record {
         range = h .range;
@@ -341,9 +340,10 @@ module _ (D : ℕ) (k : Book) (h : Held D k) where
         position = or-right (eqb (x .key) 0) (stands (x .key) (drop j row)) (rw split (first-stands x (drop (suc j) row)));
         marks =
             all-every (rightMark (x .key)) (drop j row)
-            (rw split
-            (mark-again (k .position) (x .key) x (marks .0) (λ l. absurd (let c : _≡_ {A = ℕ} 0 1 = cc in omega arith)),
-            all-zip (λ y e above. mark-again (k .position) (x .key) y e (λ l. above)) (drop (suc j) row) (marks .1) (above-place 0 (k .largest) row j z (h .rise) within)));
+            (rw split (
+              mark-again (k .position) (x .key) x (marks .0) (λ l. absurd (let c : _≡_ {A = ℕ} 0 1 = cc in omega arith)),
+              all-zip (λ y e above. mark-again (k .position) (x .key) y e (λ l. above)) (drop (suc j) row) (marks .1) (above-place 0 (k .largest) row j z (h .rise) within),
+            ));
       }
 
   insert-held : (key value : ℕ) → isKey (k .largest) key ≡ true → (o : Option StandingKey) → standingAt key (k .row) ≡ o → Held D (insertBook key value k o .left)

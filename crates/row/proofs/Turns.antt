@@ -1,17 +1,17 @@
 -- One turn of the loops over the keys: what the key at place i says of the keys from it on.
-use mathlib.Core.Path.{_≡_, refl, sym, ap, _∙_}
+use mathlib.Core.Path.{_≡_, refl}
 use mathlib.Core.Bool.{Bool, true, _&&_}
-use mathlib.Core.List.{List, [], _∷_, _++_}
+use mathlib.Core.List.{List, [], _∷_}
 use Prim.Native.Nat.{ℕ, suc, _+_, _-_, _≤_, _<_}
 use native.Mathlib.Numerals.{add-one}
 use native.Mathlib.Omega.{arith}
-use lib.Dec.{eqb, leb, ltb}
+use lib.Dec.{ltb}
 use lib.ListN.{length, getD, take, drop, length-append, drop-of-length-le}
 use lib.Seq.{take-suc}
 use borrow.Author.Tests.{lt-ltb, le-ltb, le-leb, lt-leb, eq-eqb, ne-eqb}
 use Rattle.lists.specs.Lists.{those}
 use Rattle.lists.proofs.Those.{those-append}
-use Rattle.book.specs.Book.{StandingKey, standingKey, deadBefore, standingAbove}
+use Rattle.book.specs.Book.{StandingKey, deadBefore, standingAbove}
 use Rattle.row.specs.Row.{keyIn, bookIn}
 use Rattle.row.specs.Places.{wordOf, placeOf, rightKey, rightKeys}
 use Rattle.row.proofs.Written.{read-length, read-at, read-from}
@@ -66,7 +66,7 @@ live-end ws i h = rw (keys-end ws i h) refl
 -- the check of the keys from place i on is that of the key there, and of those after it
 pub right-turn :
     (ws : List ℕ) (n low i : ℕ) → i < n →
-        rightKeys ws low i (n - i) ≡ (rightKey ws low i && rightKeys ws (getD ws (wordOf i) 0) (i + 1) (n - (i + 1)))
+    rightKeys ws low i (n - i) ≡ (rightKey ws low i && rightKeys ws (getD ws (wordOf i) 0) (i + 1) (n - (i + 1)))
 unfolding rightKeys
 right-turn ws n low i h =
     let more : n - i ≡ suc (n - (i + 1)) = omega arith in

@@ -1,18 +1,18 @@
 -- The words of a row: where its places begin, and that what is read out of them is the book that was written.
 use mathlib.Core.Path.{_≡_, refl, sym, ap, _∙_}
 use mathlib.Core.Bool.{Bool, true, false, cond}
-use mathlib.Core.List.{List, [], _∷_, _++_, map, flatMap, append-assoc}
+use mathlib.Core.List.{List, [], _∷_, _++_, flatMap}
 use Prim.Native.Nat.{ℕ, zero, suc, _+_, _*_, _-_, _≤_, _<_}
 use native.Mathlib.Omega.{arith}
 use lib.Dec.{eqb}
 use lib.ListN.{length, getD, take, drop, replicate, length-append, length-replicate}
 use lib.Seq.{drop-cons, getD-drop, ext-getD, take-append-add, drop-append-add}
-use Rattle.lists.specs.Lists.{numbersFrom, same}
+use Rattle.lists.specs.Lists.{same}
 use Rattle.lists.proofs.Tests.{both, and-both}
 use Rattle.lists.proofs.Numbers.{made-at, made-length}
 use Rattle.lists.proofs.Same.{same-refl, same-eq}
-use Rattle.book.specs.Book.{StandingKey, standingKey, Book, withRow}
-use Rattle.row.specs.Row.{wordsBefore, rowLength, keyWords, rowWords, keyIn, bookIn, holds, isRow}
+use Rattle.book.specs.Book.{StandingKey, standingKey, Book}
+use Rattle.row.specs.Row.{rowLength, keyWords, rowWords, keyIn, bookIn, holds, isRow}
 use Rattle.row.specs.Places.{wordOf}
 
 -- three words for a key
@@ -79,8 +79,8 @@ mark-read false = refl
 
 pub word-back :
     (D : ℕ) (k : Book) (i : ℕ) (x : StandingKey) (later : List StandingKey) →
-        i < length (k .row) → drop i (k .row) ≡ x ∷ later →
-        (j : ℕ) → getD (rowWords D k) (wordOf i + j) 0 ≡ getD (keyWords x ++ (flatMap keyWords later ++ unused k)) j 0
+    i < length (k .row) → drop i (k .row) ≡ x ∷ later →
+    (j : ℕ) → getD (rowWords D k) (wordOf i + j) 0 ≡ getD (keyWords x ++ (flatMap keyWords later ++ unused k)) j 0
 unfolding flatMap
 word-back D k i x later h e j =
     let rest = words-drop D k i (omega arith) ∙ ap (λ r. flatMap keyWords r ++ unused k) e in
@@ -88,7 +88,7 @@ word-back D k i x later h e j =
 
 key-back :
     (D : ℕ) (k : Book) (i : ℕ) (x : StandingKey) (later : List StandingKey) →
-        i < length (k .row) → drop i (k .row) ≡ x ∷ later → keyIn (rowWords D k) i ≡ x
+    i < length (k .row) → drop i (k .row) ≡ x ∷ later → keyIn (rowWords D k) i ≡ x
 key-back D k i x later h e =
     let at = word-back D k i x later h e in
     let none : wordOf i + 0 ≡ wordOf i = omega arith in

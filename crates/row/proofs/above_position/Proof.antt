@@ -11,9 +11,6 @@ use Rattle.row.specs.Row.{bookIn}
 use Rattle.row.proofs.Turns.{above-one, above-none}
 use Rattle.row.proofs.above_position.Statement.{statement}
 use Rattle.row.proofs.above_position.Tie as tie
-use Rattle.row.proofs.above_position.Reads as reads
-use Rattle.row.proofs.above_position.Lts as lts
-use Rattle.row.proofs.key_at.Reads as key-at-reads
 
 abbrev Inv-loop : tie.InvT-loop
 Inv-loop row end count₀ i₀ count i = (i ≤ end) × ((count ≤ i) × (count ≡ standingAbove (getD row 4 0) (take i (bookIn row .row))))
@@ -21,32 +18,13 @@ Inv-loop row end count₀ i₀ count i = (i ≤ end) × ((count ≤ i) × (count
 abbrev μ-loop : tie.MeasureT-loop
 μ-loop row end count₀ i₀ count i = end - i
 
--- src/lib.rt:154:5
 loop-holds : tie.Need-loop-holds Inv-loop μ-loop
 unfolding those
 loop-holds c = (omega arith, (omega arith, refl))
 
--- src/lib.rt:155:12
-shared-slice-read-if1 : tie.Need-shared-slice-read-if1 Inv-loop μ-loop
-shared-slice-read-if1 c = search needs
-
--- src/lib.rt:155:28
-key-at-requires : tie.Need-key-at-requires Inv-loop μ-loop
-key-at-requires c κs = search needs
-
--- src/lib.rt:156:13
 add-count : tie.Need-add-count Inv-loop μ-loop
 add-count c = omega (arith, c .before .before .shared-slice-known2 .given 3)
 
--- src/lib.rt:158:9
-add-i : tie.Need-add-i Inv-loop μ-loop
-add-i c = search needs
-
--- src/lib.rt:154:5
-loop-less : tie.Need-loop-less Inv-loop μ-loop
-loop-less c = search needs
-
--- src/lib.rt:154:5
 loop-again : tie.Need-loop-again Inv-loop μ-loop
 loop-again c =
     let v = c .before .before .before .before .loop in
@@ -60,7 +38,6 @@ loop-again c =
     (omega arith, (omega arith, omega arith)))
     (c .if1 .came)
 
--- src/lib.rt:148:1
 returns : tie.Need-returns Inv-loop μ-loop
 returns c =
     let v = c .before .loop in
@@ -71,14 +48,5 @@ returns c =
 pub above-position-spec : {M : Type 1} → statement M
 above-position-spec =
     tie.close
-    (tie.spec
-    Inv-loop
-    μ-loop
-    loop-holds
-    shared-slice-read-if1
-    key-at-requires
-    add-count
-    add-i
-    loop-less
-    loop-again
+    (tie.spec Inv-loop μ-loop loop-holds (λ c. search needs) (λ c κs. search needs) add-count (λ c. search needs) (λ c. search needs) loop-again
     returns)

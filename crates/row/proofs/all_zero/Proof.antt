@@ -8,8 +8,6 @@ use Rattle.lists.specs.Zeros.{allZero}
 use Rattle.row.proofs.Checking.{zero-here, zero-on, zero-end}
 use Rattle.row.proofs.all_zero.Statement.{statement}
 use Rattle.row.proofs.all_zero.Tie as tie
-use Rattle.row.proofs.all_zero.Reads as reads
-use Rattle.row.proofs.all_zero.Lts as lts
 
 abbrev Inv-loop : tie.InvT-loop
 Inv-loop part i₀ i = (i ≤ length part) × (allZero part ≡ allZero (drop i part))
@@ -17,41 +15,21 @@ Inv-loop part i₀ i = (i ≤ length part) × (allZero part ≡ allZero (drop i 
 abbrev μ-loop : tie.MeasureT-loop
 μ-loop part i₀ i = length part - i
 
--- src/lib.rt:137:5
 loop-holds : tie.Need-loop-holds Inv-loop μ-loop
 loop-holds c = (omega arith, refl)
 
--- src/lib.rt:138:12
-mul-if1 : tie.Need-mul-if1 Inv-loop μ-loop
-mul-if1 c = search needs
-
--- src/lib.rt:138:12
-shared-slice-read-if1 : tie.Need-shared-slice-read-if1 Inv-loop μ-loop
-shared-slice-read-if1 c = search needs
-
--- src/lib.rt:139:13
 returns : tie.Need-returns Inv-loop μ-loop
 returns c =
     let v = c .before .before .before .loop in
     let part = c .before .before .before .before .args .part .now in
     sym (v .inv .1 ∙ zero-here part (v .i) (omega arith) (λ e. omega arith))
 
--- src/lib.rt:141:9
-add-i : tie.Need-add-i Inv-loop μ-loop
-add-i c = search needs
-
--- src/lib.rt:137:5
-loop-less : tie.Need-loop-less Inv-loop μ-loop
-loop-less c = search needs
-
--- src/lib.rt:137:5
 loop-again : tie.Need-loop-again Inv-loop μ-loop
 loop-again c =
     let v = c .before .before .before .loop in
     let part = c .before .before .before .before .args .part .now in
     (omega arith, v .inv .1 ∙ zero-on part (v .i) (omega arith) (omega arith))
 
--- src/lib.rt:133:1
 returns-2 : tie.Need-returns-2 Inv-loop μ-loop
 returns-2 c =
     let v = c .before .loop in
@@ -61,14 +39,4 @@ returns-2 c =
 pub all-zero-spec : {M : Type 1} → statement M
 all-zero-spec =
     tie.close
-    (tie.spec
-    Inv-loop
-    μ-loop
-    loop-holds
-    mul-if1
-    shared-slice-read-if1
-    returns
-    add-i
-    loop-less
-    loop-again
-    returns-2)
+    (tie.spec Inv-loop μ-loop loop-holds (λ c. search needs) (λ c. search needs) returns (λ c. search needs) (λ c. search needs) loop-again returns-2)

@@ -10,49 +10,21 @@ use Rattle.settings.proofs.Numbers.{ranges}
 use Rattle.row.proofs.Checking.{shape-no, shape-is}
 use Rattle.row.proofs.has_shape.Statement.{statement}
 use Rattle.row.proofs.has_shape.Tie as tie
-use Rattle.row.proofs.has_shape.Reads as reads
-use Rattle.row.proofs.has_shape.Lts as lts
-use Rattle.row.proofs.word_of.Reads as word-of-reads
-use Rattle.settings.proofs.Settings.in_range.Reads as in-range-reads
 
--- src/lib.rt:151:9
 returns : tie.Need-returns
 returns c =
     let ws = c .before .before .args .row .now in
     shape-no ws (λ shape. let long = shape .long in omega arith)
 
--- src/lib.rt:153:28
-shared-slice-read-in-range : tie.Need-shared-slice-read-in-range
-shared-slice-read-in-range c = search needs
-
--- src/lib.rt:153:45
-shared-slice-read-in-range-2 : tie.Need-shared-slice-read-in-range-2
-shared-slice-read-in-range-2 c = search needs
-
--- src/lib.rt:153:59
-shared-slice-read-in-range-3 : tie.Need-shared-slice-read-in-range-3
-shared-slice-read-in-range-3 c = search needs
-
--- src/lib.rt:153:9
-in-range-requires : tie.Need-in-range-requires
-in-range-requires c κs = search needs
-
--- src/lib.rt:154:9
 returns-2 : tie.Need-returns-2
 returns-2 c =
     let ws = c .before .before .before .before .before .before .before .args .row .now in
     let out : inRange (getD ws 0 0) (getD ws 1 0) (getD ws 2 0) ≡ false = sym (c .before .in-range .ensures) ∙ not-true (c .before .in-range .result) (c .if2 .taken) in
     shape-no ws (λ shape. false≢true (sym out ∙ shape .range))
 
--- src/lib.rt:156:29
-shared-slice-read-word-of : tie.Need-shared-slice-read-word-of
-shared-slice-read-word-of c = search needs
-
--- src/lib.rt:156:29
 cast-word-of : tie.Need-cast-word-of
 cast-word-of c = omega (arith, c .shared-slice-known5 .given 2)
 
--- src/lib.rt:156:29
 sub-word-of : tie.Need-sub-word-of
 sub-word-of c =
     let ws = c .before .before .before .before .before .before .before .before .args .row .now in
@@ -60,25 +32,14 @@ sub-word-of c =
     let cells = ranges (getD ws 0 0) (getD ws 1 0) (getD ws 2 0) range in
     omega arith
 
--- src/lib.rt:156:21
 word-of-requires : tie.Need-word-of-requires
 word-of-requires c κs = omega (arith, c .shared-slice-known5 .given 2)
 
--- src/lib.rt:157:9
 returns-3 : tie.Need-returns-3
 returns-3 c =
     let ws = c .before .before .before .before .before .before .before .before .before .before .args .row .now in
     shape-no ws (λ shape. let long = shape .long in omega arith)
 
--- src/lib.rt:159:5
-shared-slice-read-result : tie.Need-shared-slice-read-result
-shared-slice-read-result c = search needs
-
--- src/lib.rt:159:17
-shared-slice-read-result-2 : tie.Need-shared-slice-read-result-2
-shared-slice-read-result-2 c = search needs
-
--- src/lib.rt:147:1
 returns-4 : tie.Need-returns-4
 returns-4 c =
     let ws = c .before .before .before .before .before .before .before .before .before .before .before .before .args .row .now in
@@ -89,18 +50,5 @@ returns-4 c =
 pub has-shape-spec : {M : Type 1} → statement M
 has-shape-spec =
     tie.close
-    (tie.spec
-    returns
-    shared-slice-read-in-range
-    shared-slice-read-in-range-2
-    shared-slice-read-in-range-3
-    in-range-requires
-    returns-2
-    shared-slice-read-word-of
-    cast-word-of
-    sub-word-of
-    word-of-requires
-    returns-3
-    shared-slice-read-result
-    shared-slice-read-result-2
-    returns-4)
+    (tie.spec returns (λ c. search needs) (λ c. search needs) (λ c. search needs) (λ c κs. search needs) returns-2 (λ c. search needs) cast-word-of
+    sub-word-of word-of-requires returns-3 (λ c. search needs) (λ c. search needs) returns-4)

@@ -14,49 +14,32 @@ use Rattle.row.specs.Places.{wordOf}
 use Rattle.row.proofs.Checking.{refuted, checked, keys-rise, row-keys, row-position, row-zeros}
 use Rattle.row.proofs.is_row.Statement.{statement}
 use Rattle.row.proofs.is_row.Tie as tie
-use Rattle.row.proofs.is_row.Reads as reads
-use Rattle.row.proofs.is_row.Lts as lts
-use Rattle.row.proofs.all_zero.Reads as all-zero-reads
-use Rattle.row.proofs.has_shape.Reads as has-shape-reads
-use Rattle.row.proofs.right_keys.Reads as right-keys-reads
-use Rattle.row.proofs.right_position.Reads as right-position-reads
-use Rattle.row.proofs.word_of.Reads as word-of-reads
 
--- src/lib.rt:178:9
-has-shape-requires : tie.Need-has-shape-requires
-has-shape-requires c κs = search needs
-
--- src/lib.rt:179:9
 returns : tie.Need-returns
 returns c =
     refuted (isRow (c .before .before .before .args .row .now)) (λ e. false≢true (sym (not-true (c .before .has-shape .result) (c .if1 .taken)) ∙ c .before .has-shape .ensures .kept e))
 
--- src/lib.rt:181:9
 right-keys-requires : tie.Need-right-keys-requires
 right-keys-requires c κs = c .before .has-shape .ensures .told (not-false (c .before .has-shape .result) (c .if1 .left))
 
--- src/lib.rt:182:9
 returns-2 : tie.Need-returns-2
 returns-2 c =
     let ws = c .before .before .before .before .before .args .row .now in
     refuted (isRow ws)
     (λ e. false≢true (sym (not-true (c .before .right-keys .result) (c .if2 .taken)) ∙ c .before .right-keys .ensures ∙ row-keys ws e))
 
--- src/lib.rt:184:9
 right-position-requires : tie.Need-right-position-requires
 right-position-requires c κs =
     let ws = c .before .before .before .before .before .args .row .now in
     let right = sym (c .before .right-keys .ensures) ∙ not-false (c .before .right-keys .result) (c .if2 .left) in
     (c .before .before .before .has-shape .ensures .told (not-false (c .before .before .before .has-shape .result) (c .before .before .if1 .left)), keys-rise ws right)
 
--- src/lib.rt:185:9
 returns-3 : tie.Need-returns-3
 returns-3 c =
     let ws = c .before .before .before .before .before .before .before .args .row .now in
     refuted (isRow ws)
     (λ e. false≢true (sym (not-true (c .before .right-position .result) (c .if3 .taken)) ∙ c .before .right-position .ensures ∙ row-position ws e))
 
--- src/lib.rt:187:26
 shared-slice-read-word-of : tie.Need-shared-slice-read-word-of
 shared-slice-read-word-of c =
     let shape = c .before .before .before .before .before .before .has-shape .ensures .told (not-false (c .before .before .before .before .before .before .has-shape .result) (c .before .before .before .before .before .if1 .left)) in
@@ -64,19 +47,15 @@ shared-slice-read-word-of c =
     let room = shape .room in
     omega arith
 
--- src/lib.rt:187:26
 cast-word-of : tie.Need-cast-word-of
 cast-word-of c = omega (arith, c .shared-slice-known2 .given 3)
 
--- src/lib.rt:187:9
 word-of-requires : tie.Need-word-of-requires
 word-of-requires c κs = omega (arith, c .shared-slice-known2 .given 3)
 
--- src/lib.rt:188:14
 mul-all-zero : tie.Need-mul-all-zero
 mul-all-zero c = omega (arith, c .before .shared-slice-known2 .given 3)
 
--- src/lib.rt:188:14
 sub-all-zero : tie.Need-sub-all-zero
 sub-all-zero c =
     let shape = c .before .before .before .before .before .before .before .has-shape .ensures .told (not-false (c .before .before .before .before .before .before .before .has-shape .result) (c .before .before .before .before .before .before .if1 .left)) in
@@ -84,7 +63,6 @@ sub-all-zero c =
     let room = shape .room in
     omega arith
 
--- src/lib.rt:188:14
 part-all-zero-start : tie.Need-part-all-zero-start
 part-all-zero-start c =
     let shape = c .before .before .before .before .before .before .before .has-shape .ensures .told (not-false (c .before .before .before .before .before .before .before .has-shape .result) (c .before .before .before .before .before .before .if1 .left)) in
@@ -92,15 +70,6 @@ part-all-zero-start c =
     let room = shape .room in
     omega arith
 
--- src/lib.rt:188:14
-part-all-zero-end : tie.Need-part-all-zero-end
-part-all-zero-end c = search needs
-
--- src/lib.rt:188:5
-all-zero-requires : tie.Need-all-zero-requires
-all-zero-requires c κs = search needs
-
--- src/lib.rt:175:1
 returns-4 : tie.Need-returns-4
 returns-4 c =
     let ws = c .before .before .before .before .before .before .before .before .before .before .before .args .row .now in
@@ -117,19 +86,5 @@ returns-4 c =
 pub is-row-spec : {M : Type 1} → statement M
 is-row-spec =
     tie.close
-    (tie.spec
-    has-shape-requires
-    returns
-    right-keys-requires
-    returns-2
-    right-position-requires
-    returns-3
-    shared-slice-read-word-of
-    cast-word-of
-    word-of-requires
-    mul-all-zero
-    sub-all-zero
-    part-all-zero-start
-    part-all-zero-end
-    all-zero-requires
-    returns-4)
+    (tie.spec (λ c κs. search needs) returns right-keys-requires returns-2 right-position-requires returns-3 shared-slice-read-word-of cast-word-of
+    word-of-requires mul-all-zero sub-all-zero part-all-zero-start (λ c. search needs) (λ c κs. search needs) returns-4)

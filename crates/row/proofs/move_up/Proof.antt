@@ -7,8 +7,6 @@ use borrow.Author.Needs.{needs}
 use Rattle.row.proofs.Moving.{movedUp, up-start, up-read, up-more}
 use Rattle.row.proofs.move_up.Statement.{statement}
 use Rattle.row.proofs.move_up.Tie as tie
-use Rattle.row.proofs.move_up.Reads as reads
-use Rattle.row.proofs.move_up.Lts as lts
 
 abbrev Inv-loop : tie.InvT-loop
 Inv-loop part₀ i₀ part i = (3 ≤ i) × ((i ≤ length part₀) × ((length part ≡ length part₀) × (part ≡ movedUp part₀ i)))
@@ -16,53 +14,18 @@ Inv-loop part₀ i₀ part i = (3 ≤ i) × ((i ≤ length part₀) × ((length 
 abbrev μ-loop : tie.MeasureT-loop
 μ-loop part₀ i₀ part i = i
 
--- src/lib.rt:286:5
 loop-holds : tie.Need-loop-holds Inv-loop μ-loop
 loop-holds c = (omega arith, (omega arith, (refl, up-start _ (c .pre))))
 
--- src/lib.rt:287:9
-sub-i : tie.Need-sub-i Inv-loop μ-loop
-sub-i c = search needs
-
--- src/lib.rt:288:24
-sub-part : tie.Need-sub-part Inv-loop μ-loop
-sub-part c = search needs
-
--- src/lib.rt:288:19
-mul-part : tie.Need-mul-part Inv-loop μ-loop
-mul-part c = search needs
-
--- src/lib.rt:288:19
-slice-read-part : tie.Need-slice-read-part Inv-loop μ-loop
-slice-read-part c = search needs
-
--- src/lib.rt:288:9
-mul-part-2 : tie.Need-mul-part-2 Inv-loop μ-loop
-mul-part-2 c = search needs
-
--- src/lib.rt:288:9
-slice-write-part : tie.Need-slice-write-part Inv-loop μ-loop
-slice-write-part c = search needs
-
--- src/lib.rt:286:5
-loop-less : tie.Need-loop-less Inv-loop μ-loop
-loop-less c = search needs
-
--- src/lib.rt:286:5
 loop-again : tie.Need-loop-again Inv-loop μ-loop
 loop-again c =
     let v = c .before .before .loop in
     let part = c .before .before .before .args .part .now in
     let moved = v .inv .1 .1 .1 in
     let next : set (v .part) (v .i - 1) (getD (v .part) (v .i - 1 - 3) 0) ≡ movedUp part (v .i - 1) =
-        rw (moved, up-read part (v .i) (omega arith) (v .inv .1 .0)) (up-more part (v .i) (omega arith) (v .inv .1 .0)) in
+    rw (moved, up-read part (v .i) (omega arith) (v .inv .1 .0)) (up-more part (v .i) (omega arith) (v .inv .1 .0)) in
     (omega arith, (omega arith, (search needs, next)))
 
--- src/lib.rt:281:1
-same-length : tie.Need-same-length Inv-loop μ-loop
-same-length c = search needs
-
--- src/lib.rt:281:1
 returns : tie.Need-returns Inv-loop μ-loop
 returns c =
     let v = c .before .loop in
@@ -72,17 +35,5 @@ returns c =
 pub move-up-spec : {M : Type 1} → statement M
 move-up-spec =
     tie.close
-    (tie.spec
-    Inv-loop
-    μ-loop
-    loop-holds
-    sub-i
-    sub-part
-    mul-part
-    slice-read-part
-    mul-part-2
-    slice-write-part
-    loop-less
-    loop-again
-    same-length
-    returns)
+    (tie.spec Inv-loop μ-loop loop-holds (λ c. search needs) (λ c. search needs) (λ c. search needs) (λ c. search needs) (λ c. search needs)
+    (λ c. search needs) (λ c. search needs) loop-again (λ c. search needs) returns)

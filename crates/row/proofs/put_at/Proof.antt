@@ -23,5 +23,5 @@ returns c =
 pub put-at-spec : {M : Type 1} → statement M
 put-at-spec =
     tie.close
-    (tie.spec (λ c κs. search needs) (λ c. search needs) (λ c. search needs) (λ c. search needs) (λ c. search needs) slice-write-row-2
-    (λ c. search needs) (λ c. search needs) slice-write-row-3 (λ c. search needs) returns)
+    (tie.spec (λ c κs. search needs) (λ c. search needs) (λ c. search needs) (λ c. search needs) (λ c. search needs) slice-write-row-2 (λ c. search
+    needs) (λ c. search needs) slice-write-row-3 (λ c. search needs) returns)

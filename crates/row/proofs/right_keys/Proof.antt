@@ -10,10 +10,6 @@ use Rattle.row.specs.Places.{rightKey, rightKeys}
 use Rattle.row.proofs.Turns.{right-turn, right-end}
 use Rattle.row.proofs.right_keys.Statement.{statement}
 use Rattle.row.proofs.right_keys.Tie as tie
-use Rattle.row.proofs.right_keys.Reads as reads
-use Rattle.row.proofs.right_keys.Lts as lts
-use Rattle.row.proofs.key_at.Reads as key-at-reads
-use Rattle.row.proofs.right_key.Reads as right-key-reads
 
 abbrev Inv-loop : tie.InvT-loop
 Inv-loop row keys low₀ i₀ low i = (i ≤ getD row 3 0) × (rightKeys row 0 0 (getD row 3 0) ≡ rightKeys row low i (getD row 3 0 - i))
@@ -21,23 +17,9 @@ Inv-loop row keys low₀ i₀ low i = (i ≤ getD row 3 0) × (rightKeys row 0 0
 abbrev μ-loop : tie.MeasureT-loop
 μ-loop row keys low₀ i₀ low i = getD row 3 0 - i
 
--- src/lib.rt:119:16
-shared-slice-read-keys : tie.Need-shared-slice-read-keys Inv-loop μ-loop
-shared-slice-read-keys c = search needs
-
--- src/lib.rt:119:16
-cast-keys : tie.Need-cast-keys Inv-loop μ-loop
-cast-keys c = search needs
-
--- src/lib.rt:122:5
 loop-holds : tie.Need-loop-holds Inv-loop μ-loop
 loop-holds c = (omega arith, ap (rightKeys _ 0 0) (omega arith))
 
--- src/lib.rt:123:13
-right-key-requires : tie.Need-right-key-requires Inv-loop μ-loop
-right-key-requires c κs = search needs
-
--- src/lib.rt:124:13
 returns : tie.Need-returns Inv-loop μ-loop
 returns c =
     let v = c .before .before .before .loop in
@@ -45,29 +27,15 @@ returns c =
     let wrong : rightKey ws (v .low) (v .i) ≡ false = sym (c .before .right-key .ensures) ∙ not-true (c .before .right-key .result) (c .if1 .taken) in
     sym (v .inv .1 ∙ right-turn ws (getD ws 3 0) (v .low) (v .i) (omega arith) ∙ (rw wrong refl))
 
--- src/lib.rt:126:9
-key-at-requires : tie.Need-key-at-requires Inv-loop μ-loop
-key-at-requires c κs = search needs
-
--- src/lib.rt:127:9
-add-i : tie.Need-add-i Inv-loop μ-loop
-add-i c = search needs
-
--- src/lib.rt:122:5
-loop-less : tie.Need-loop-less Inv-loop μ-loop
-loop-less c = search needs
-
--- src/lib.rt:122:5
 loop-again : tie.Need-loop-again Inv-loop μ-loop
 loop-again c =
     let v = c .before .before .before .before .loop in
     let ws = c .before .before .before .before .before .before .before .args .row .now in
     let right : rightKey ws (v .low) (v .i) ≡ true = sym (c .before .before .right-key .ensures) ∙ not-false (c .before .before .right-key .result) (c .before .if1 .left) in
     let more : rightKeys ws (v .low) (v .i) (getD ws 3 0 - v .i) ≡ rightKeys ws (c .key-at .result) (v .i + 1) (getD ws 3 0 - (v .i + 1)) =
-        rw (c .key-at .ensures, right-turn ws (getD ws 3 0) (v .low) (v .i) (omega arith), right) refl in
+    rw (c .key-at .ensures, right-turn ws (getD ws 3 0) (v .low) (v .i) (omega arith), right) refl in
     (omega arith, v .inv .1 ∙ more)
 
--- src/lib.rt:115:1
 returns-2 : tie.Need-returns-2 Inv-loop μ-loop
 returns-2 c =
     let v = c .before .loop in
@@ -77,16 +45,5 @@ returns-2 c =
 pub right-keys-spec : {M : Type 1} → statement M
 right-keys-spec =
     tie.close
-    (tie.spec
-    Inv-loop
-    μ-loop
-    shared-slice-read-keys
-    cast-keys
-    loop-holds
-    right-key-requires
-    returns
-    key-at-requires
-    add-i
-    loop-less
-    loop-again
-    returns-2)
+    (tie.spec Inv-loop μ-loop (λ c. search needs) (λ c. search needs) loop-holds (λ c κs. search needs) returns (λ c κs. search needs)
+    (λ c. search needs) (λ c. search needs) loop-again returns-2)
