@@ -1,6 +1,6 @@
 -- What stands at a key's place on the words is what stands in the book, or nothing does.
 use mathlib.Core.Path.{_≡_, refl, sym, ap, _∙_}
-use mathlib.Core.Bool.{Bool, true, false, _&&_, false≢true}
+use mathlib.Core.Bool.{Bool, true, false, false≢true}
 use mathlib.Core.List.{List}
 use mathlib.Core.Option.{none, some}
 use Prim.Native.Nat.{ℕ, _-_, _<_}
@@ -11,13 +11,9 @@ use borrow.Author.Tests.{ltb-true, lt-ltb, eqb-true, eq-eqb}
 use Rattle.lists.proofs.Tests.{both, and-both}
 use Rattle.book.specs.Book.{standingAt}
 use Rattle.row.specs.Row.{keyIn, bookIn, ascending, stands}
-use Rattle.row.specs.Places.{wordOf, placeOf}
+use Rattle.row.specs.Places.{wordOf, placeOf, standsAt}
 use Rattle.row.proofs.Written.{read-length, read-at}
 use Rattle.row.proofs.Searching.{place-found, place-absent, stands-found, found}
-
--- the test that the code makes at place i
-abbrev pub standsAt : List ℕ → ℕ → ℕ → Bool
-standsAt ws i key = ltb i (getD ws 3 0) && eqb (getD ws (wordOf i) 0) key
 
 module _ (ws : List ℕ) (key : ℕ) where
   pub found-there : standsAt ws (placeOf key (bookIn ws .row)) key ≡ true → standingAt key (bookIn ws .row) ≡ some (keyIn ws (placeOf key (bookIn ws .row)))

@@ -1,12 +1,12 @@
 -- What each operation answers and leaves on words that are a row, by what the code finds on them.
 use mathlib.Core.Path.{_≡_, refl, sym, ap, _∙_}
-use mathlib.Core.Bool.{Bool, true, false, cond, not}
+use mathlib.Core.Bool.{Bool, true, false, not}
 use mathlib.Core.List.{List, _∷_, _++_}
 use mathlib.Core.Option.{none, some}
 use Prim.Native.Nat.{ℕ, suc, _+_, _-_, _≤_, _<_}
 use native.Mathlib.Numerals.{add-one}
 use native.Mathlib.Omega.{arith}
-use lib.Dec.{eqb, leb, ltb}
+use lib.Dec.{eqb, ltb}
 use lib.ListN.{length, getD, take, drop, set}
 use lib.Seq.{take-all}
 use borrow.Author.Tests.{not-true, not-false, ltb-true, lt-ltb, le-ltb, eqb-true, eq-eqb, ne-eqb}
@@ -18,10 +18,10 @@ use Rattle.answers.specs.declared.Operation.the-variants.{Insert, Find, Finish,
 use Rattle.answers.specs.Refusals.{Outcome, Meets, accepted, refused, outOfRange, wrongLength, notAList, badKey, keyLive, noFreeCell, nothingLive, keyNotLive, keyNotStanding}
 use Rattle.book.specs.Book.{standingKey, freshBook, withRow, lastIn, standingAt, onBookKey, putKey, marked, positionWith, insertBook, findBook, finishBook, deadBefore, liveOn, standingAbove, standingBetween, takeBook, lastOnly, sweepBook, operationBook}
 use Rattle.row.specs.Row.{rowLength, rowWords, keyIn, bookIn, ascending, isRow, rowSetUpOut, inWords, rowOut}
-use Rattle.row.specs.Places.{wordOf, placeOf}
+use Rattle.row.specs.Places.{wordOf, placeOf, standsAt, positionAfter}
 use Rattle.row.proofs.Written.{row-holds, read-length, read-at, read-from}
 use Rattle.row.proofs.Searching.{place-within, place-put, place-below, marked-at, last-before, last-kept, others-length, between-up-to, dead-taken, live-dropped, dead-within}
-use Rattle.row.proofs.Found.{standsAt, found-there, found-nowhere}
+use Rattle.row.proofs.Found.{found-there, found-nowhere}
 use Rattle.row.proofs.Turns.{keys-end}
 use Rattle.row.proofs.Checking.{held}
 
@@ -110,10 +110,7 @@ module _ (ws : List ℕ) (e : isRow ws ≡ true) where
         ap (λ x. x .key) (read-at ws i (keyIn ws i) within) ∙ eqb-true (getD ws (wordOf i) 0) key (t .1) in
         rw key-is at (marked-at 0 (getD ws 1 0) (bookIn ws .row) i value live (keyIn ws i) rise (omega (arith, read-length ws)))
 
-    abbrev pub positionAfter : ℕ
-    positionAfter = cond (leb key (getD ws 4 0)) (lastIn (take i (bookIn ws .row))) (getD ws 4 0)
-
-    position-is : positionWith key (bookIn ws) ≡ positionAfter
+    position-is : positionWith key (bookIn ws) ≡ positionAfter ws i key
     unfolding positionWith bookIn
     position-is = rw (is, place-below key 0 (getD ws 1 0) (bookIn ws .row) rise) refl
 
@@ -126,7 +123,7 @@ module _ (ws : List ℕ) (e : isRow ws ≡ true) where
     pub insert-dead :
         (value : ℕ) → standsAt ws i key ≡ true → (getD ws (wordOf i + 2) 0 ≡ 1 → ⊥) →
         rowOut (Insert key value) ws
-        ≡ inWords (getD ws 0 0) (accepted key 0 0 (withRow (bookIn ws) (set (bookIn ws .row) i (standingKey key value true)) positionAfter))
+        ≡ inWords (getD ws 0 0) (accepted key 0 0 (withRow (bookIn ws) (set (bookIn ws .row) i (standingKey key value true)) (positionAfter ws i key)))
     unfolding operationBook onBookKey bookIn insertBook
     insert-dead value there dead =
         on-row (Insert key value)
@@ -144,7 +141,7 @@ module _ (ws : List ℕ) (e : isRow ws ≡ true) where
         (value : ℕ) → standsAt ws i key ≡ false → getD ws 3 0 + 1 < getD ws 2 0 →
         rowOut (Insert key value) ws
         ≡ inWords (getD ws 0 0)
-        (accepted key 0 0 (withRow (bookIn ws) (take i (bookIn ws .row) ++ (standingKey key value true ∷ drop i (bookIn ws .row))) positionAfter))
+        (accepted key 0 0 (withRow (bookIn ws) (take i (bookIn ws .row) ++ (standingKey key value true ∷ drop i (bookIn ws .row))) (positionAfter ws i key)))
     unfolding operationBook onBookKey bookIn insertBook
     insert-new value other room =
         let some-left : suc (length (bookIn ws .row)) < getD ws 2 0 = omega (arith, read-length ws) in

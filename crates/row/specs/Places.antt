@@ -4,10 +4,10 @@ use mathlib.Core.Bool.{Bool, true, cond, _&&_}
 use mathlib.Core.List.{List, [], _∷_}
 use Prim.Native.Nat.{ℕ, zero, suc, _+_, _*_, _<_}
 use lib.Dec.{eqb, leb, ltb}
-use lib.ListN.{length, getD}
+use lib.ListN.{length, getD, take}
 use Rattle.settings.specs.Numbers.{inRange}
-use Rattle.book.specs.Book.{StandingKey}
-use Rattle.row.specs.Row.{wordsBefore, rowLength, isRow}
+use Rattle.book.specs.Book.{StandingKey, withRow, lastIn}
+use Rattle.row.specs.Row.{wordsBefore, rowLength, rowWords, bookIn, isRow}
 
 -- D, K and C in range, as many words as C asks for, and fewer keys than C
 pub record Shaped (ws : List ℕ) : Type 0 where
@@ -28,6 +28,18 @@ wordOf i = wordsBefore + 3 * i
 unfoldable pub placeOf : ℕ → List StandingKey → ℕ
 placeOf key [] = 0
 placeOf key (x ∷ row) = cond (leb key (x .key)) 0 (suc (placeOf key row))
+
+-- a key stands at place i
+abbrev pub standsAt : List ℕ → ℕ → ℕ → Bool
+standsAt ws i key = ltb i (getD ws 3 0) && eqb (getD ws (wordOf i) 0) key
+
+-- the position after an insert of a key whose place is i
+abbrev pub positionAfter : List ℕ → ℕ → ℕ → ℕ
+positionAfter ws i key = cond (leb key (getD ws 4 0)) (lastIn (take i (bookIn ws .row))) (getD ws 4 0)
+
+-- the words with other keys
+abbrev pub withKeys : List ℕ → List StandingKey → List ℕ
+withKeys ws row = rowWords (getD ws 0 0) (withRow (bookIn ws) row (bookIn ws .position))
 
 -- the key at place i is above `low` and at most K; it is live and above the position, or dead with the value 0
 unfoldable pub rightKey : List ℕ → ℕ → ℕ → Bool

@@ -2,19 +2,18 @@
 // value and mark, searched from the front. It shares the settings check with the list and no other code. No exported function has a `requires`, and
 // each contract is the whole outcome of the call: the four numbers and every word.
 ghost use mathlib.Core.Path.{_≡_};
-ghost use mathlib.Core.Bool.{true, cond, _&&_};
+ghost use mathlib.Core.Bool.{true};
 ghost use mathlib.Core.List.{[], _∷_, _++_};
 ghost use Prim.Native.Nat.{_+_, _*_, _-_, _^_, _≤_, _<_};
-ghost use lib.Dec.{eqb, leb, ltb};
-ghost use lib.ListN.{length, getD, take, drop, set, replicate};
+ghost use lib.ListN.{length, getD, take, drop, replicate};
 ghost use lib.Seq.{sets};
 ghost use Rattle.lists.specs.Zeros.{allZero};
-ghost use Rattle.settings.specs.Numbers.{inRange, isKey};
+ghost use Rattle.settings.specs.Numbers.{isKey};
 ghost use Rattle.answers.specs.Refusals.{Meets, answer};
 ghost use Rattle.answers.specs.declared.Operation.the-variants.{Insert, Find, Finish, Take, Sweep};
-ghost use Rattle.book.specs.Book.{standingKey, withRow, lastIn, deadBefore, standingAbove};
-ghost use Rattle.row.specs.Row.{rowLength, rowWords, bookIn, atPosition, ascending, isRow, rowSetUpOut, rowOut};
-ghost use Rattle.row.specs.Places.{Shaped, HasShape, wordOf, placeOf, rightKey, rightKeys};
+ghost use Rattle.book.specs.Book.{standingKey, deadBefore, standingAbove};
+ghost use Rattle.row.specs.Row.{bookIn, ascending, atPosition, isRow, rowSetUpOut, rowOut};
+ghost use Rattle.row.specs.Places.{Shaped, HasShape, wordOf, placeOf, standsAt, positionAfter, rightKey, rightKeys, withKeys};
 use answers::Answer;
 use settings::Settings;
 
@@ -48,8 +47,7 @@ fn reply(refusal: u32, key: u32, value: u32, count: u32) -> Answer
     }
 }
 
-// Words by place. Place i begins behind the places before it, of three words each.
-
+// Where place i begins: each place has three words, key, value and mark.
 fn word_of(i: usize) -> usize
     requires { ⌜ i < 2 ^ 60 ⌝ }
     ensures { λ r. ⌜ r ≡ wordOf i ⌝ }
@@ -87,8 +85,6 @@ fn put_at(row: &mut [u32], i: usize, key: u32, value: u32, mark: u32)
     row[at + 1] = value;
     row[at + 2] = mark;
 }
-
-// The check.
 
 // Whether the key at place i is above `low` and at most K, and its mark is right: live above the position, or dead with the value 0.
 fn right_key(row: &[u32], i: usize, low: u32) -> bool
@@ -199,8 +195,6 @@ fn is_key(row: &[u32], key: u32) -> bool
     key <= row[LARGEST]
 }
 
-// The search.
-
 // The place of the first key at or above a key, from the front.
 fn place_of(row: &[u32], key: u32) -> usize
     requires { ⌜ Shaped (now row) ⌝ }
@@ -220,7 +214,7 @@ fn place_of(row: &[u32], key: u32) -> usize
 // Whether a key stands at place i.
 fn stands_at(row: &[u32], i: usize, key: u32) -> bool
     requires { ⌜ Shaped (now row) ⌝ }
-    ensures { λ r. ⌜ r ≡ (ltb i (getD (now (row .entry)) 3 0) && eqb (getD (now (row .entry)) (wordOf i) 0) key) ⌝ }
+    ensures { λ r. ⌜ r ≡ standsAt (now (row .entry)) i key ⌝ }
 {
     if row[KEYS] as usize <= i {
         return false;
@@ -263,7 +257,7 @@ fn above_position(row: &[u32], end: usize) -> u32
 // The position after an insert of a key whose place is i: if the key is at or below the position, the next smaller standing key.
 fn position_with(row: &[u32], i: usize, key: u32) -> u32
     requires { ⌜ Shaped (now row) × (i ≤ getD (now row) 3 0) ⌝ }
-    ensures { λ r. ⌜ r ≡ cond (leb key (getD (now (row .entry)) 4 0)) (lastIn (take i (bookIn (now (row .entry)) .row))) (getD (now (row .entry)) 4 0) ⌝ }
+    ensures { λ r. ⌜ r ≡ positionAfter (now (row .entry)) i key ⌝ }
 {
     let position = row[POSITION];
     if position < key {
@@ -274,8 +268,6 @@ fn position_with(row: &[u32], i: usize, key: u32) -> u32
     }
     key_at(row, i - 1)
 }
-
-// Moving places.
 
 // Every word of a part moves up by three, from the last down; the first three are kept.
 fn move_up(part: &mut [u32])
@@ -300,7 +292,7 @@ fn clear(part: &mut [u32])
     }
 }
 
-// Every word of a part moves down by some words; the last words are kept.
+// Every word of a part moves down by some words; the last ones are kept.
 fn move_down(part: &mut [u32], by: usize)
     requires { ⌜ by ≤ length (now part) ⌝ }
     ensures { λ r. ⌜ now (part .exit) ≡ drop by (now (part .entry)) ++ drop (length (now (part .entry)) - by) (now (part .entry)) ⌝ }
@@ -312,7 +304,7 @@ fn move_down(part: &mut [u32], by: usize)
     }
 }
 
-// .. and become 0.
+// Every word of a part moves down by some words, and the last ones become 0.
 fn shift_down(part: &mut [u32], by: usize)
     requires { ⌜ by ≤ length (now part) ⌝ }
     ensures { λ r. ⌜ now (part .exit) ≡ drop by (now (part .entry)) ++ replicate by 0 ⌝ }
@@ -325,7 +317,7 @@ fn shift_down(part: &mut [u32], by: usize)
 // A new live key at place i: the places behind move up by one.
 fn add_at(row: &mut [u32], i: usize, key: u32, value: u32)
     requires { ⌜ (isRow (now row) ≡ true) × ((i ≤ getD (now row) 3 0) × (getD (now row) 3 0 + 1 < getD (now row) 2 0)) ⌝ }
-    ensures { λ r. ⌜ now (row .exit) ≡ rowWords (getD (now (row .entry)) 0 0) (withRow (bookIn (now (row .entry))) (take i (bookIn (now (row .entry)) .row) ++ (standingKey key value true ∷ drop i (bookIn (now (row .entry)) .row))) (bookIn (now (row .entry)) .position)) ⌝ }
+    ensures { λ r. ⌜ now (row .exit) ≡ withKeys (now (row .entry)) (take i (bookIn (now (row .entry)) .row) ++ (standingKey key value true ∷ drop i (bookIn (now (row .entry)) .row))) ⌝ }
 {
     let keys = row[KEYS];
     let start = word_of(i);
@@ -338,7 +330,7 @@ fn add_at(row: &mut [u32], i: usize, key: u32, value: u32)
 // The first keys are freed: the places behind move down, and the words that are unused then become 0.
 fn free_first(row: &mut [u32], freed: usize)
     requires { ⌜ (isRow (now row) ≡ true) × (freed ≤ getD (now row) 3 0) ⌝ }
-    ensures { λ r. ⌜ now (row .exit) ≡ rowWords (getD (now (row .entry)) 0 0) (withRow (bookIn (now (row .entry))) (drop freed (bookIn (now (row .entry)) .row)) (bookIn (now (row .entry)) .position)) ⌝ }
+    ensures { λ r. ⌜ now (row .exit) ≡ withKeys (now (row .entry)) (drop freed (bookIn (now (row .entry)) .row)) ⌝ }
 {
     let keys = row[KEYS];
     let end = word_of(keys as usize);
@@ -346,7 +338,7 @@ fn free_first(row: &mut [u32], freed: usize)
     row[KEYS] = keys - freed as u32;
 }
 
-// Set up.
+// Makes the lent words a fresh row for dimensions D, largest key K and C cells.
 #[no_mangle]
 pub extern "C" fn row_set_up(d: u32, k: u32, c: u32, row: &mut [u32]) -> Answer
     ensures { λ r. ⌜ Meets (rowSetUpOut d k c (now (row .entry))) r (now (row .exit)) ⌝ }

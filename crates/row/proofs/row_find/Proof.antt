@@ -4,8 +4,8 @@ use native.Mathlib.Omega.{arith}
 use borrow.Author.Needs.{needs}
 use Rattle.answers.specs.Refusals.{answer}
 use Rattle.answers.specs.declared.Operation.the-variants.{Find}
+use Rattle.row.specs.Places.{standsAt}
 use Rattle.row.proofs.Written.{row-written}
-use Rattle.row.proofs.Found.{standsAt}
 use Rattle.row.proofs.Checking.{row-shaped}
 use Rattle.row.proofs.Outcomes.{passed, failed, met, no-row, find-bad, find-none, find-dead, find-live, there-within}
 use Rattle.row.proofs.row_find.Statement.{statement}

@@ -2,8 +2,8 @@
 use mathlib.Core.Path.{refl}
 use borrow.Author.Needs.{needs}
 use Rattle.answers.specs.declared.Operation.the-variants.{Finish}
+use Rattle.row.specs.Places.{standsAt}
 use Rattle.row.proofs.Written.{row-written}
-use Rattle.row.proofs.Found.{standsAt}
 use Rattle.row.proofs.Checking.{row-shaped}
 use Rattle.row.proofs.Outcomes.{passed, failed, met, no-row, finish-bad, finish-none, finish-there}
 use Rattle.row.proofs.row_finish.Statement.{statement}

@@ -8,11 +8,11 @@ use borrow.Author.Needs.{needs}
 use Rattle.answers.specs.declared.Operation.the-variants.{Insert}
 use Rattle.book.specs.Book.{standingKey, withRow}
 use Rattle.row.specs.Row.{bookIn}
+use Rattle.row.specs.Places.{standsAt, positionAfter}
 use Rattle.row.proofs.Written.{row-written}
-use Rattle.row.proofs.Found.{standsAt}
 use Rattle.row.proofs.Checking.{row-shaped}
 use Rattle.row.proofs.Changed.{row-put-at, position-put}
-use Rattle.row.proofs.Outcomes.{passed, failed, same-held, same-not, there-within, place-fits, met, no-row, insert-bad, insert-live, insert-dead, insert-full, insert-new, positionAfter}
+use Rattle.row.proofs.Outcomes.{passed, failed, same-held, same-not, there-within, place-fits, met, no-row, insert-bad, insert-live, insert-dead, insert-full, insert-new}
 use Rattle.row.proofs.row_insert.Statement.{statement}
 use Rattle.row.proofs.row_insert.Tie as tie
 
@@ -123,7 +123,7 @@ returns-4 c =
     let is = placed .place-of .ensures in
     let there = same-held {t = standsAt ws i (a .key)} (c .before .before .before .before .before .before .before .before .before .stands-at .ensures) (c .before .before .before .before .before .before .before .before .if3 .taken) in
     let position = c .before .before .before .before .before .before .before .before .before .before .before .position-with .ensures in
-    let words = row-put-at ws yes i (standingKey (a .key) (a .value) true) (positionAfter ws yes (a .key) good i is) (there-within ws i (a .key) there) in
+    let words = row-put-at ws yes i (standingKey (a .key) (a .value) true) (positionAfter ws i (a .key)) (there-within ws i (a .key) there) in
     met (insert-dead ws yes (a .key) good i is (a .value) there (λ live. omega arith)) (c .reply4 .ensures) (rw (c .before .before .before .put-at .ensures, position) words)
 
 slice-read-if5 : tie.Need-slice-read-if5
@@ -201,7 +201,7 @@ returns-6 c =
     let other = same-not {t = standsAt ws i (a .key)} (c .before .before .before .before .before .before .before .before .before .stands-at .ensures) (c .before .before .before .before .before .before .before .before .if3 .left) in
     let position = c .before .before .before .before .before .before .before .before .before .before .before .position-with .ensures in
     let keys = take i (bookIn ws .row) ++ (standingKey (a .key) (a .value) true ∷ drop i (bookIn ws .row)) in
-    let words = position-put (getD ws 0 0) (withRow (bookIn ws) keys (bookIn ws .position)) (positionAfter ws yes (a .key) good i is) in
+    let words = position-put (getD ws 0 0) (withRow (bookIn ws) keys (bookIn ws .position)) (positionAfter ws i (a .key)) in
     met (insert-new ws yes (a .key) good i is (a .value) other (omega arith)) (c .reply6 .ensures) (rw (c .before .before .before .add-at .ensures, position) words)
 
 pub row-insert-spec : {M : Type 1} → statement M
