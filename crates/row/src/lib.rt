@@ -201,14 +201,14 @@ fn place_of(row: &[u32], key: u32) -> usize
     ensures { λ r. ⌜ r ≡ placeOf key (bookIn (now (row .entry)) .row) ⌝ }
 {
     let keys = row[KEYS] as usize;
-    let mut i: usize = 0;
-    while i < keys {
-        if key <= key_at(row, i) {
-            return i;
+    let mut place: usize = 0;
+    while place < keys {
+        if key <= key_at(row, place) {
+            return place;
         }
-        i += 1;
+        place += 1;
     }
-    i
+    place
 }
 
 // Whether a key stands at place i.
@@ -238,15 +238,15 @@ fn first_live(row: &[u32]) -> usize
     i
 }
 
-// How many of the keys before place `end` are above the position.
-fn above_position(row: &[u32], end: usize) -> u32
+// How many of the keys before place `end` are above `low`.
+fn count_above(row: &[u32], low: u32, end: usize) -> u32
     requires { ⌜ Shaped (now row) × (end ≤ getD (now row) 3 0) ⌝ }
-    ensures { λ r. ⌜ r ≡ standingAbove (getD (now (row .entry)) 4 0) (take end (bookIn (now (row .entry)) .row)) ⌝ }
+    ensures { λ r. ⌜ r ≡ standingAbove low (take end (bookIn (now (row .entry)) .row)) ⌝ }
 {
     let mut count: u32 = 0;
     let mut i: usize = 0;
     while i < end {
-        if row[POSITION] < key_at(row, i) {
+        if low < key_at(row, i) {
             count += 1;
         }
         i += 1;
@@ -367,20 +367,20 @@ pub extern "C" fn row_insert(row: &mut [u32], key: u32, value: u32) -> Answer
     if !is_key(row, key) {
         return reply(answers::BAD_KEY, 0, 0, 0);
     }
-    let i = place_of(row, key);
-    let position = position_with(row, i, key);
-    if stands_at(row, i, key) {
-        if mark_at(row, i) == LIVE {
+    let place = place_of(row, key);
+    let position = position_with(row, place, key);
+    if stands_at(row, place, key) {
+        if mark_at(row, place) == LIVE {
             return reply(answers::KEY_LIVE, key, 0, 0);
         }
-        put_at(row, i, key, value, LIVE);
+        put_at(row, place, key, value, LIVE);
         row[POSITION] = position;
         return reply(0, key, 0, 0);
     }
     if row[CELLS] <= row[KEYS] + 1 {
         return reply(answers::NO_FREE_CELL, key, 0, 0);
     }
-    add_at(row, i, key, value);
+    add_at(row, place, key, value);
     row[POSITION] = position;
     reply(0, key, 0, 0)
 }
@@ -396,14 +396,14 @@ pub extern "C" fn row_find(row: &[u32], key: u32) -> Answer
     if !is_key(row, key) {
         return reply(answers::BAD_KEY, 0, 0, 0);
     }
-    let i = place_of(row, key);
-    if !stands_at(row, i, key) {
+    let place = place_of(row, key);
+    if !stands_at(row, place, key) {
         return reply(answers::KEY_NOT_LIVE, key, 0, 0);
     }
-    if mark_at(row, i) != LIVE {
+    if mark_at(row, place) != LIVE {
         return reply(answers::KEY_NOT_LIVE, key, 0, 0);
     }
-    reply(0, key, value_at(row, i), 0)
+    reply(0, key, value_at(row, place), 0)
 }
 
 // Tells whether a key stands: a row owes nothing.
@@ -417,8 +417,8 @@ pub extern "C" fn row_finish(row: &[u32], key: u32) -> Answer
     if !is_key(row, key) {
         return reply(answers::BAD_KEY, 0, 0, 0);
     }
-    let i = place_of(row, key);
-    if !stands_at(row, i, key) {
+    let place = place_of(row, key);
+    if !stands_at(row, place, key) {
         return reply(answers::KEY_NOT_STANDING, key, 0, 0);
     }
     reply(0, key, 0, 0)
@@ -433,12 +433,13 @@ pub extern "C" fn row_take(row: &mut [u32]) -> Answer
         return reply(answers::NOT_A_LIST, 0, 0, 0);
     }
     let i = first_live(row);
+    let position = row[POSITION];
     if row[KEYS] as usize <= i {
-        return reply(answers::NOTHING_LIVE, 0, 0, above_position(row, i));
+        return reply(answers::NOTHING_LIVE, 0, 0, count_above(row, position, i));
     }
     let key = key_at(row, i);
     let value = value_at(row, i);
-    let passed = above_position(row, i + 1);
+    let passed = count_above(row, position, i + 1);
     put_at(row, i, key, 0, DEAD);
     row[POSITION] = key;
     reply(0, key, value, passed)

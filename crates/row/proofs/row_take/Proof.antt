@@ -28,9 +28,18 @@ first-live-requires c κs =
     let yes = passed (c .before .before .is-row .ensures) (c .before .if1 .left) in
     row-shaped ws yes
 
+slice-read-position : tie.Need-slice-read-position
+slice-read-position c =
+    let checked = c .before .before .before in
+    let a = checked .before .before .before .before .args in
+    let ws = a .row .now in
+    let yes = passed (checked .before .is-row .ensures) (checked .if1 .left) in
+    let shape = row-shaped ws yes in
+    omega arith
+
 slice-read-if2 : tie.Need-slice-read-if2
 slice-read-if2 c =
-    let checked = c .before .before .before in
+    let checked = c .before .before .before .before in
     let a = checked .before .before .before .before .args in
     let ws = a .row .now in
     let yes = passed (checked .before .is-row .ensures) (checked .if1 .left) in
@@ -39,11 +48,11 @@ slice-read-if2 c =
 
 cast-if2 : tie.Need-cast-if2
 cast-if2 c =
-    omega (arith, c .slice-known2 .given 3)
+    omega (arith, c .slice-known3 .given 3)
 
-above-position-requires : tie.Need-above-position-requires
-above-position-requires c κs =
-    let seen = c .before .before .before in
+count-above-requires : tie.Need-count-above-requires
+count-above-requires c κs =
+    let seen = c .before .before .before .before in
     let checked = seen .before .before in
     let a = checked .before .before .before .before .args in
     let ws = a .row .now in
@@ -54,18 +63,18 @@ above-position-requires c κs =
 
 returns-2 : tie.Need-returns-2
 returns-2 c =
-    let seen = c .before .before .before .before .before in
+    let seen = c .before .before .before .before .before .before in
     let checked = seen .before .before in
     let a = checked .before .before .before .before .args in
     let ws = a .row .now in
     let yes = passed (checked .before .is-row .ensures) (checked .if1 .left) in
     let i = seen .first-live .result in
     let is = seen .first-live .ensures in
-    met (take-none ws yes i is (omega arith)) (c .reply2 .ensures ∙ ap (λ n. answer 7 0 0 n) (c .before .above-position .ensures)) (row-written ws yes)
+    met (take-none ws yes i is (omega arith)) (c .reply2 .ensures ∙ ap (λ n. answer 7 0 0 n) (c .before .count-above .ensures)) (row-written ws yes)
 
 key-at-requires : tie.Need-key-at-requires
 key-at-requires c κs =
-    let seen = c .before .before .before in
+    let seen = c .before .before .before .before in
     let checked = seen .before .before in
     let a = checked .before .before .before .before .args in
     let ws = a .row .now in
@@ -75,7 +84,7 @@ key-at-requires c κs =
 
 value-at-requires : tie.Need-value-at-requires
 value-at-requires c κs =
-    let seen = c .before .before .before .before .before in
+    let seen = c .before .before .before .before .before .before in
     let checked = seen .before .before in
     let a = checked .before .before .before .before .args in
     let ws = a .row .now in
@@ -83,19 +92,13 @@ value-at-requires c κs =
     let shape = row-shaped ws yes in
     omega arith
 
-add-above-position : tie.Need-add-above-position
-add-above-position c =
-    let seen = c .before .before .before .before .before .before .before in
-    let checked = seen .before .before in
-    let a = checked .before .before .before .before .args in
-    let ws = a .row .now in
-    let yes = passed (checked .before .is-row .ensures) (checked .if1 .left) in
-    let shape = row-shaped ws yes in
-    omega (arith, c .before .before .before .before .before .before .slice-known2 .given 3)
+add-count-above : tie.Need-add-count-above
+add-count-above c =
+    omega (arith, c .before .before .before .before .before .before .slice-known3 .given 3)
 
-above-position-requires-2 : tie.Need-above-position-requires-2
-above-position-requires-2 c κs =
-    let seen = c .before .before .before .before .before .before .before in
+count-above-requires-2 : tie.Need-count-above-requires-2
+count-above-requires-2 c κs =
+    let seen = c .before .before .before .before .before .before .before .before in
     let checked = seen .before .before in
     let a = checked .before .before .before .before .args in
     let ws = a .row .now in
@@ -104,7 +107,7 @@ above-position-requires-2 c κs =
 
 put-at-requires : tie.Need-put-at-requires
 put-at-requires c κs =
-    let seen = c .before .before .before .before .before .before .before .before .before in
+    let seen = c .before .before .before .before .before .before .before .before .before .before in
     let checked = seen .before .before in
     let a = checked .before .before .before .before .args in
     let ws = a .row .now in
@@ -114,7 +117,7 @@ put-at-requires c κs =
 
 slice-write-row : tie.Need-slice-write-row
 slice-write-row c =
-    let seen = c .before .before .before .before .before .before .before .before .before .before .before .before in
+    let seen = c .before .before .before .before .before .before .before .before .before .before .before .before .before in
     let checked = seen .before .before in
     let a = checked .before .before .before .before .args in
     let ws = a .row .now in
@@ -124,7 +127,7 @@ slice-write-row c =
 
 returns-3 : tie.Need-returns-3
 returns-3 c =
-    let seen = c .before .before .before .before .before .before .before .before .before .before .before .before .before in
+    let seen = c .before .before .before .before .before .before .before .before .before .before .before .before .before .before in
     let checked = seen .before .before in
     let a = checked .before .before .before .before .args in
     let ws = a .row .now in
@@ -133,13 +136,13 @@ returns-3 c =
     let is = seen .first-live .ensures in
     let key = c .before .before .before .before .before .before .before .before .before .key-at .ensures in
     let value = c .before .before .before .before .before .before .before .value-at .ensures in
-    let passed = c .before .before .before .before .before .above-position2 .ensures in
+    let count = c .before .before .before .before .before .count-above2 .ensures in
     let words = row-put-at ws yes i (standingKey (getD ws (wordOf i) 0) 0 false) (getD ws (wordOf i) 0) (omega arith) in
-    met (take-live ws yes i is (omega arith)) (c .reply3 .ensures ∙ (λ t. answer 0 (key t) (value t) (passed t))) (rw (c .before .before .before .put-at .ensures, key) words)
+    met (take-live ws yes i is (omega arith)) (c .reply3 .ensures ∙ (λ t. answer 0 (key t) (value t) (count t))) (rw (c .before .before .before .put-at .ensures, key) words)
 
 pub row-take-spec : {M : Type 1} → statement M
 row-take-spec =
     tie.close
-    (tie.spec (λ c κs. search needs) (λ c κs. search needs) (λ c. search needs) returns first-live-requires slice-read-if2 cast-if2
-    above-position-requires (λ c κs. search needs) (λ c. search needs) returns-2 key-at-requires value-at-requires add-above-position
-    above-position-requires-2 put-at-requires slice-write-row (λ c κs. search needs) (λ c. search needs) returns-3)
+    (tie.spec (λ c κs. search needs) (λ c κs. search needs) (λ c. search needs) returns first-live-requires slice-read-position slice-read-if2
+    cast-if2 count-above-requires (λ c κs. search needs) (λ c. search needs) returns-2 key-at-requires value-at-requires add-count-above
+    count-above-requires-2 put-at-requires slice-write-row (λ c κs. search needs) (λ c. search needs) returns-3)
