@@ -1,10 +1,11 @@
-//! Links the archive that `rt staticlib mdlist` writes: from the folder that the environment variable `MDLIST_LIB_DIR` names, or else from
-//! this repository's target folder.
+//! Links the archives that `rt staticlib mdlist` and `rt staticlib counted` write: from the folder that the environment variable
+//! `MDLIST_LIB_DIR` names, or else from this repository's target folder.
 
 use std::env;
 use std::path::PathBuf;
 
 const FOLDER: &str = "MDLIST_LIB_DIR";
+const ARCHIVES: [&str; 2] = ["mdlist", "counted"];
 
 fn folder() -> PathBuf {
     match env::var_os(FOLDER) {
@@ -17,13 +18,15 @@ fn main() {
     let folder = folder();
     // a relative one would be read from this package's folder, not from where cargo was called
     assert!(folder.is_absolute(), "{FOLDER} has to be an absolute path, not {}", folder.display());
-    let archive = folder.join("libmdlist.a");
-    if !archive.exists() {
-        // no failure: `cargo check` and `cargo doc` need no archive
-        println!("cargo:warning={} is not there: `rt staticlib mdlist` writes it, {FOLDER} names its folder", archive.display());
-    }
     println!("cargo:rustc-link-search=native={}", folder.display());
-    println!("cargo:rustc-link-lib=static=mdlist");
-    println!("cargo:rerun-if-changed={}", archive.display());
+    for name in ARCHIVES {
+        let archive = folder.join(format!("lib{name}.a"));
+        if !archive.exists() {
+            // no failure: `cargo check` and `cargo doc` need no archive
+            println!("cargo:warning={} is not there: `rt staticlib {name}` writes it, {FOLDER} names its folder", archive.display());
+        }
+        println!("cargo:rustc-link-lib=static={name}");
+        println!("cargo:rerun-if-changed={}", archive.display());
+    }
     println!("cargo:rerun-if-env-changed={FOLDER}");
 }

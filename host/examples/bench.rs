@@ -8,7 +8,9 @@
 //!
 //! Then full lists by their cells, up to as many as there can be: what the calls cost for each word, and what a find in a batch costs.
 //!
-//! Names as arguments (`operations`, `keys`, `batches`, `files`, `cells`) ask for those tables alone.
+//! Then calls with a class record beside the same calls on the list alone, and the question about one class.
+//!
+//! Names as arguments (`operations`, `keys`, `batches`, `files`, `cells`, `classes`) ask for those tables alone.
 
 use mdlist_host::*;
 use std::cell::RefCell;
@@ -298,14 +300,109 @@ fn by_the_cells() {
     }
 }
 
+/// A list with its class record.
+type Pair = (Vec<u32>, [u32; CLASS_WORDS]);
+
+/// The lower quartiles of a call on the list alone and of the same with its class record, made in turns.
+fn in_turns(rounds: usize, pair: &Pair, mut alone: impl FnMut(&mut [u32]), mut counted: impl FnMut(&mut [u32], &mut [u32])) -> [f64; 2] {
+    let (mut list, mut classes) = pair.clone();
+    let mut times = [vec![], vec![]];
+    for round in 0..2 * rounds {
+        list.copy_from_slice(&pair.0);
+        classes.copy_from_slice(&pair.1);
+        let start = Instant::now();
+        if round % 2 == 0 {
+            alone(&mut list);
+        } else {
+            counted(&mut list, &mut classes);
+        }
+        times[round % 2].push(start.elapsed().as_nanos() as f64);
+    }
+    times.map(|mut times| {
+        times.sort_by(f64::total_cmp);
+        times[rounds / 4]
+    })
+}
+
+/// A list with so many random keys, and its record.
+fn filled_pair(d: u32, c: u32, keys: &[u32]) -> Pair {
+    let mut pair = (vec![0; words_needed(d, c)], [0; CLASS_WORDS]);
+    counted::set_up(d, u32::MAX, c, &mut pair.0, &mut pair.1).expect("settings in range");
+    let calls: Vec<Call> = keys.iter().map(|key| Call::insert(*key, *key)).collect();
+    let mut answers = vec![Answered::NONE; calls.len()];
+    assert_eq!(counted::batch(&mut pair.0, &mut pair.1, &calls, &mut answers), Ok(calls.len()));
+    assert!(answers.iter().all(|answer| answer.inserted().is_ok()));
+    pair
+}
+
+fn with_a_record() {
+    println!("calls with a class record beside the same on the list alone, K 4294967295: ns, made in turns, lower quartiles");
+    println!("{:>3} {:>7} {:>6}  {:<22} {:>10} {:>10} {:>6}", "D", "C", "keys", "call", "alone", "counted", "x");
+    let c = 4_096;
+    for d in [8, 16] {
+        let mut seen = BTreeSet::new();
+        let all: Vec<u32> = numbers(7, u32::MAX).filter(|key| seen.insert(*key)).take(2 * c as usize).collect();
+        // half full and full; an insert into a full list takes its last cell, and a batch of inserts its last cells
+        for keys in [c as usize / 2, c as usize - 1] {
+            let room = |count: usize| keys.min(c as usize - 1 - count);
+            let row = |call: &str, keys: usize, [alone, counted]: [f64; 2]| {
+                println!("{d:>3} {c:>7} {keys:>6}  {call:<22} {alone:>10.0} {counted:>10.0} {:>6.2}", counted / alone);
+            };
+            let pair = filled_pair(d, c, &all[..keys]);
+            let (found, new) = (all[keys / 2], all[keys]);
+            row(
+                "find",
+                keys,
+                in_turns(ROUNDS, &pair, |l| assert!(find(l, found).is_ok()), |l, r| assert!(counted::find(l, r, found).is_ok())),
+            );
+            row("take", keys, in_turns(ROUNDS, &pair, |l| assert!(take(l).is_ok()), |l, r| assert!(counted::take(l, r).is_ok())));
+            let less = filled_pair(d, c, &all[..room(1)]);
+            row(
+                "insert",
+                room(1),
+                in_turns(ROUNDS, &less, |l| assert!(insert(l, new, 1).is_ok()), |l, r| assert!(counted::insert(l, r, new, 1).is_ok())),
+            );
+            let less = filled_pair(d, c, &all[..room(CALLS as usize)]);
+            let finds = all[..keys].iter().cycle().step_by(7).take(CALLS as usize).map(|key| Call::find(*key)).collect();
+            let inserts = all[keys..].iter().take(CALLS as usize).map(|key| Call::insert(*key, 1)).collect();
+            let batches: [(&str, &Pair, usize, Vec<Call>); 3] = [
+                ("batch of 1000 finds", &pair, keys, finds),
+                ("batch of 1000 inserts", &less, room(CALLS as usize), inserts),
+                ("batch of 1000 takes", &pair, keys, vec![Call::take(); CALLS as usize]),
+            ];
+            for (name, pair, keys, calls) in batches {
+                let answers = RefCell::new(vec![Answered::NONE; calls.len()]);
+                let times = in_turns(
+                    ROUNDS,
+                    pair,
+                    |l| assert!(batch(l, &calls, &mut answers.borrow_mut()).is_ok()),
+                    |l, r| assert!(counted::batch(l, r, &calls, &mut answers.borrow_mut()).is_ok()),
+                );
+                assert!(answers.borrow().iter().all(|answer| answer.taken().is_ok()));
+                row(name, keys, times);
+            }
+        }
+    }
+    println!("the question about one class, on the record of a half-full list, D 8: ns for each");
+    for c in [512, 4_096, MOST_CELLS] {
+        let mut seen = BTreeSet::new();
+        let keys: Vec<u32> = numbers(7, u32::MAX).filter(|key| seen.insert(*key)).take(c as usize / 2).collect();
+        let (_, classes) = filled_pair(8, c, &keys);
+        let ask = |i: u32| assert!(black_box(counted::class(black_box(&classes), black_box(i % 16))).is_ok());
+        let ns = times(ROUNDS, || (), || (0..CALLS).for_each(ask))[ROUNDS / 4];
+        println!("{:>11} {:>10.1}", c, ns / f64::from(CALLS));
+    }
+}
+
 fn main() {
     let wanted: Vec<String> = env::args().skip(1).collect();
-    let tables: [(&str, fn()); 5] = [
+    let tables: [(&str, fn()); 6] = [
         ("operations", each_operation),
         ("keys", find_by_standing_keys),
         ("batches", many_calls),
         ("files", files),
         ("cells", by_the_cells),
+        ("classes", with_a_record),
     ];
     for (name, print_table) in tables {
         if wanted.is_empty() || wanted.iter().any(|wanted| wanted == name) {

@@ -100,7 +100,13 @@ fn cell_words(words: &[u32], d: usize, x: u32) -> &[u32] {
 
 /// The coordinates of a key: its d digits in base b, the most significant first.
 fn digits(key: u32, b: u32, d: usize) -> Vec<u32> {
-    let mut digits: Vec<u32> = (0..d as u32).scan(key, |rest, _| { let digit = *rest % b; *rest /= b; Some(digit) }).collect();
+    let mut digits: Vec<u32> = (0..d as u32)
+        .scan(key, |rest, _| {
+            let digit = *rest % b;
+            *rest /= b;
+            Some(digit)
+        })
+        .collect();
     digits.reverse();
     digits
 }

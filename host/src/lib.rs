@@ -84,11 +84,28 @@
 //! assert_eq!(list.take()?.value, 50);
 //! # Ok::<(), Refusal>(())
 //! ```
+//!
+//! A screen that must not read the list has beside it a class record, which says how many keys of each class wait and which is the least:
+//! [`Counted`] holds both and keeps the record as the list is, and [`counted::class`] asks the record alone:
+//!
+//! ```
+//! use mdlist_host::{counted, words_needed, Counted, Refusal, CLASS_WORDS};
+//!
+//! let (mut words, mut classes) = ([0u32; words_needed(8, 512)], [0u32; CLASS_WORDS]);
+//! let mut list = Counted::set_up(8, u32::MAX, 512, &mut words, &mut classes)?;
+//! list.insert(268_914_688, 41)?;
+//! assert_eq!(counted::class(&classes, 1)?.count, 1);
+//! # Ok::<(), Refusal>(())
+//! ```
 #![no_std]
 #![deny(missing_docs)]
 
 use core::fmt;
 use core::mem::{align_of, size_of, size_of_val};
+
+pub mod counted;
+
+pub use counted::{Counted, InClass, CLASS_WORDS};
 
 mod sys {
     #[repr(C)]
@@ -139,11 +156,11 @@ mod sys {
 pub enum Refusal {
     /// 1, set up: D, K or C is out of range.
     OutOfRange,
-    /// 2, set up, read: the slice has not exactly [`words_needed`] words.
+    /// 2, set up, read: the slice has not exactly [`words_needed`] words; counted set up: or the class record has not [`CLASS_WORDS`].
     WrongLength,
     /// 3: the words are not a list.
     NotAList,
-    /// 4: the key is 0 or above K.
+    /// 4: the key is 0 or above K; the question about a class: it is above 15.
     BadKey,
     /// 5, insert, record: the key is live already.
     KeyLive {
@@ -173,6 +190,9 @@ pub enum Refusal {
     BadRecord,
     /// 14, record: the full number is below 0 or above 4,294,967,295.
     NumberOutside,
+    /// 15, counted calls: the class record has not [`CLASS_WORDS`] words, or is not what a full reading of the list gives. A read and the
+    /// question about a class are refused by it for the length alone.
+    BadClasses,
     /// 19, batch: fewer answers are lent than there are calls, or there are more than 4,294,967,295 calls. Words that are no calls are
     /// refused by it too, but no [`Call`] is such.
     BadBatch,
@@ -200,6 +220,7 @@ impl Refusal {
             Refusal::NoRoom => 12,
             Refusal::BadRecord => 13,
             Refusal::NumberOutside => 14,
+            Refusal::BadClasses => 15,
             Refusal::BadBatch => 19,
             Refusal::Unknown(number) => number,
         }
@@ -213,7 +234,7 @@ impl fmt::Display for Refusal {
             Refusal::OutOfRange => f.write_str("D, K or C is out of range"),
             Refusal::WrongLength => f.write_str("the slice has not the exact length"),
             Refusal::NotAList => f.write_str("the words are not a list"),
-            Refusal::BadKey => f.write_str("the key is 0 or above K"),
+            Refusal::BadKey => f.write_str("the key is 0 or above K, or the class above 15"),
             Refusal::KeyLive { looked } => write!(f, "the key is live already; cells looked at: {looked}"),
             Refusal::NoFreeCell { looked } => write!(f, "no cell is free; cells looked at: {looked}"),
             Refusal::NothingLive { above } => write!(f, "nothing is live; standing keys above the position: {above}"),
@@ -222,6 +243,7 @@ impl fmt::Display for Refusal {
             Refusal::NoRoom => f.write_str("there is no room for the file"),
             Refusal::BadRecord => f.write_str("the record breaks the grammar or a field's range"),
             Refusal::NumberOutside => f.write_str("the full number does not fit in 32 bits"),
+            Refusal::BadClasses => f.write_str("the class record is not the list's, or has not 32 words"),
             Refusal::BadBatch => f.write_str("the words are no batch of calls, or there is no room for the answers"),
             Refusal::Unknown(_) => f.write_str("no call answers it; the archive and the package do not belong together"),
         }
@@ -329,6 +351,7 @@ fn checked(a: sys::Answer) -> Result<sys::Answer, Refusal> {
         12 => Err(Refusal::NoRoom),
         13 => Err(Refusal::BadRecord),
         14 => Err(Refusal::NumberOutside),
+        15 => Err(Refusal::BadClasses),
         19 => Err(Refusal::BadBatch),
         number => Err(Refusal::Unknown(number)),
     }

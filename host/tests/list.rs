@@ -158,7 +158,7 @@ fn refusals_as_texts() {
         (set_up(2, 0, 8, short).unwrap_err(), "refusal 1: D, K or C is out of range"),
         (set_up(2, 15, 8, short).unwrap_err(), "refusal 2: the slice has not the exact length"),
         (sweep(short).unwrap_err(), "refusal 3: the words are not a list"),
-        (find(&l, 16).unwrap_err(), "refusal 4: the key is 0 or above K"),
+        (find(&l, 16).unwrap_err(), "refusal 4: the key is 0 or above K, or the class above 15"),
         (insert(&mut l, 7, 0).unwrap_err(), "refusal 5: the key is live already; cells looked at: 1"),
         (insert(&mut l, 5, 0).unwrap_err(), "refusal 6: no cell is free; cells looked at: 1"),
         (take(&mut fresh(2, 15, 4)).unwrap_err(), "refusal 7: nothing is live; standing keys above the position: 0"),
@@ -167,6 +167,7 @@ fn refusals_as_texts() {
         (write(&l, &mut []).unwrap_err(), "refusal 12: there is no room for the file"),
         (record(&mut l, b"", &mut 0).unwrap_err(), "refusal 13: the record breaks the grammar or a field's range"),
         (record(&mut l, b"0,1,0,,65535", &mut 0).unwrap_err(), "refusal 14: the full number does not fit in 32 bits"),
+        (counted::take(&mut l, &mut []).unwrap_err(), "refusal 15: the class record is not the list's, or has not 32 words"),
         (
             batch(&mut l, &[Call::take()], &mut []).unwrap_err(),
             "refusal 19: the words are no batch of calls, or there is no room for the answers",

@@ -1,5 +1,5 @@
-//! The stack of every exported call: each is made on 8 KiB of its own, painted before and read afterwards, and may need 2 KiB at most. The
-//! table of the bytes is shown by `host/test --test stack -- --nocapture`.
+//! The stack of every exported call, alone and with a class record: each is made on 8 KiB of its own, painted before and read afterwards, and
+//! may need 2 KiB at most. The table of the bytes is shown by `host/test --test stack -- --nocapture`.
 #![cfg(target_arch = "x86_64")]
 
 mod common;
@@ -41,6 +41,17 @@ mod sys {
         pub fn mdlist_batch();
         pub fn mdlist_write();
         pub fn mdlist_read();
+        pub fn counted_set_up();
+        pub fn counted_insert();
+        pub fn counted_find();
+        pub fn counted_finish();
+        pub fn counted_take();
+        pub fn counted_sweep();
+        pub fn counted_record();
+        pub fn counted_batch();
+        pub fn counted_write();
+        pub fn counted_read();
+        pub fn counted_class();
     }
 }
 
@@ -77,23 +88,26 @@ impl Stack {
     }
 
     /// Paints the stack and calls a C function on it; answers the first word of its result, and the bytes that it needed. They count from
-    /// the lowest word that was written up to the top, with the return address; what was set aside below and not written is not seen.
+    /// the lowest word that was written up to the top, with the return address; what was set aside below and not written is not seen. The
+    /// arguments past the sixth lie above the top, as the caller has put them there, and are not counted.
     ///
     /// # Safety
     ///
     /// The function does not unwind, answers two words at most, and may be called with the first of the arguments, as many as it has.
-    unsafe fn call(&mut self, function: unsafe extern "C" fn(), arguments: [usize; 6]) -> (u64, usize) {
-        self.0.fill(PAINT);
-        let [a, b, c, d, e, f] = arguments;
+    unsafe fn call(&mut self, function: unsafe extern "C" fn(), arguments: [usize; 8]) -> (u64, usize) {
+        let [a, b, c, d, e, f, above @ ..] = arguments;
+        let top = self.0.len() - above.len();
+        self.0[..top].fill(PAINT);
+        self.0[top..].copy_from_slice(&above.map(|argument| argument as u64));
         let result;
-        // SAFETY: the caller vouches for the call. The top is the end of a page, so it is aligned as a call has to find it. The old stack
-        // pointer waits in r12, which a C function leaves as it was; a second word of the result is in rdx, clobbered with the others
+        // SAFETY: the caller vouches for the call. The top is two words below the end of a page, so it is aligned as a call has to find it.
+        // The old stack pointer waits in r12, which a C function leaves as it was; a second word of the result is in rdx, clobbered with the others
         unsafe {
             asm!(
                 "xchg rsp, r12",
                 "call r13",
                 "mov rsp, r12",
-                inout("r12") self.0.as_mut_ptr_range().end => _,
+                inout("r12") self.0.as_mut_ptr().add(top) => _,
                 in("r13") function,
                 in("rdi") a,
                 in("rsi") b,
@@ -106,7 +120,7 @@ impl Stack {
             );
         }
         let untouched = self.0.iter().take_while(|word| **word == PAINT).count();
-        (result, size_of_val(&self.0[untouched..]))
+        (result, size_of_val(&self.0[untouched..top]))
     }
 }
 
@@ -122,68 +136,128 @@ enum Asked<'a> {
     Batch(&'a [Call], &'a mut [Answered]),
     Write(&'a mut [u8]),
     Read(&'a [u8]),
+    /// The question about one class, which takes the record alone.
+    Class(u32),
 }
 
-/// Makes a call; answers its refusal and the bytes of stack that it needed.
-fn measured(stack: &mut Stack, list: &mut [u32], asked: Asked<'_>) -> (u32, usize) {
-    let (words, len, value) = (list.as_mut_ptr() as usize, list.len(), 1);
-    let (function, arguments): (unsafe extern "C" fn(), _) = match asked {
-        Asked::SetUp(d, c) => (sys::mdlist_set_up, [d as usize, K as usize, c as usize, words, len, 0]),
-        Asked::Insert(key) => (sys::mdlist_insert, [words, len, key as usize, value, 0, 0]),
-        Asked::Find(key) => (sys::mdlist_find, [words, len, key as usize, 0, 0, 0]),
-        Asked::Finish(key) => (sys::mdlist_finish, [words, len, key as usize, 0, 0, 0]),
-        Asked::Take => (sys::mdlist_take, [words, len, 0, 0, 0, 0]),
-        Asked::Sweep => (sys::mdlist_sweep, [words, len, 0, 0, 0, 0]),
+/// The arguments of a call in order, those that it does not have 0.
+fn arguments(given: &[&[usize]]) -> [usize; 8] {
+    let mut all = [0; 8];
+    all.iter_mut().zip(given.concat()).for_each(|(to, argument)| *to = argument);
+    all
+}
+
+/// Makes a call, with a class record or without; answers its refusal and the bytes of stack that it needed.
+fn measured(stack: &mut Stack, list: &mut [u32], classes: Option<&mut [u32]>, asked: &mut Asked<'_>) -> (u32, usize) {
+    let list = [list.as_mut_ptr() as usize, list.len()];
+    // the functions of both archives
+    type Both = [unsafe extern "C" fn(); 2];
+    let is_counted = classes.is_some();
+    let record: Vec<usize> = classes.map_or(vec![], |classes| vec![classes.as_mut_ptr() as usize, classes.len()]);
+    let (functions, given): (Both, [usize; 8]) = match asked {
+        Asked::SetUp(d, c) => {
+            ([sys::mdlist_set_up, sys::counted_set_up], arguments(&[&[*d as usize, K as usize, *c as usize], &list, &record]))
+        }
+        Asked::Insert(key) => ([sys::mdlist_insert, sys::counted_insert], arguments(&[&list, &record, &[*key as usize, 1]])),
+        Asked::Find(key) => ([sys::mdlist_find, sys::counted_find], arguments(&[&list, &record, &[*key as usize]])),
+        Asked::Finish(key) => ([sys::mdlist_finish, sys::counted_finish], arguments(&[&list, &record, &[*key as usize]])),
+        Asked::Take => ([sys::mdlist_take, sys::counted_take], arguments(&[&list, &record])),
+        Asked::Sweep => ([sys::mdlist_sweep, sys::counted_sweep], arguments(&[&list, &record])),
         Asked::Record(bytes, last) => {
-            (sys::mdlist_record, [words, len, bytes.as_ptr() as usize, bytes.len(), ptr::from_mut(last) as usize, 0])
+            let more = [bytes.as_ptr() as usize, bytes.len(), ptr::from_mut(*last) as usize];
+            ([sys::mdlist_record, sys::counted_record], arguments(&[&list, &record, &more]))
         }
         Asked::Batch(calls, answers) => {
-            let (calls_len, answers_len) = (size_of_val(calls) / size_of::<u32>(), size_of_val(answers) / size_of::<u32>());
-            (sys::mdlist_batch, [words, len, calls.as_ptr() as usize, calls_len, answers.as_mut_ptr() as usize, answers_len])
+            let (calls_len, answers_len) = (size_of_val(*calls) / size_of::<u32>(), size_of_val(*answers) / size_of::<u32>());
+            let more = [calls.as_ptr() as usize, calls_len, answers.as_mut_ptr() as usize, answers_len];
+            ([sys::mdlist_batch, sys::counted_batch], arguments(&[&list, &record, &more]))
         }
-        Asked::Write(file) => (sys::mdlist_write, [words, len, file.as_mut_ptr() as usize, file.len(), 0, 0]),
-        Asked::Read(file) => (sys::mdlist_read, [file.as_ptr() as usize, file.len(), words, len, 0, 0]),
+        Asked::Write(file) => {
+            ([sys::mdlist_write, sys::counted_write], arguments(&[&list, &record, &[file.as_mut_ptr() as usize, file.len()]]))
+        }
+        Asked::Read(file) => ([sys::mdlist_read, sys::counted_read], arguments(&[&[file.as_ptr() as usize, file.len()], &list, &record])),
+        Asked::Class(class) => ([sys::counted_class; 2], arguments(&[&record, &[*class as usize]])),
     };
-    // SAFETY: each function gets its own arguments in order, each pointer with the length of what is borrowed in `list` or `asked`. None
-    // unwinds, and an answer of four 32-bit words comes back in two, the refusal lowest
-    let (result, bytes) = unsafe { stack.call(function, arguments) };
+    // SAFETY: each function gets its own arguments in order, each pointer with the length of what is borrowed in `list`, `classes` or
+    // `asked`. None unwinds, and an answer of four 32-bit words comes back in two, the refusal lowest
+    let (result, bytes) = unsafe { stack.call(functions[usize::from(is_counted)], given) };
     (result as u32, bytes)
+}
+
+/// What a full reading of a list gives, or of what whole cells there are.
+fn classes_of(list: &[u32]) -> Vec<u32> {
+    let d = list[0] as usize;
+    let mut classes = vec![0; CLASS_WORDS];
+    for cell in list[5 + d..].chunks_exact(6 + d).filter(|cell| cell[2] == 1) {
+        let at = 2 * (cell[0] / 268_435_456) as usize;
+        classes[at + 1] = if classes[at] == 0 { cell[0] } else { cell[0].min(classes[at + 1]) };
+        classes[at] += 1;
+    }
+    classes
 }
 
 /// The calls that were made, each with the D and C of its list and the bytes of stack that it needed.
 struct Measure {
     stack: Stack,
-    made: Vec<(&'static str, [u32; 2], usize)>,
+    made: Vec<(String, [u32; 2], usize)>,
 }
 
 impl Measure {
-    /// Makes a call on a copy of the list, and looks that the refusal is the expected one, so that the call goes the way that is meant.
-    fn make(&mut self, name: &'static str, list: &[u32], asked: Asked<'_>, expected: u32) {
+    /// Makes a call on a copy of the list, and then the same with a class record on another copy. It looks that the refusal is the expected
+    /// one, so that the call goes the way that is meant.
+    fn make(&mut self, name: &str, list: &[u32], mut asked: Asked<'_>, expected: u32) {
+        let last = if let Asked::Record(_, last) = &asked { **last } else { NONE_YET };
+        self.make_one(name, list, None, &mut asked, expected);
+        if let Asked::Record(_, again) = &mut asked {
+            **again = last;
+        }
+        self.make_one(&format!("counted {name}"), list, Some(&classes_of(list)), &mut asked, expected);
+    }
+
+    fn make_one(&mut self, name: &str, list: &[u32], classes: Option<&[u32]>, asked: &mut Asked<'_>, expected: u32) {
         let (d, c) = (list[0], list[2]);
-        let (refusal, bytes) = measured(&mut self.stack, &mut list.to_vec(), asked);
+        let mut classes = classes.map(<[u32]>::to_vec);
+        let (refusal, bytes) = measured(&mut self.stack, &mut list.to_vec(), classes.as_deref_mut(), asked);
         assert_eq!(refusal, expected, "{name}, D = {d}, C = {c}");
-        self.made.push((name, [d, c], bytes));
+        self.made.push((name.to_string(), [d, c], bytes));
+    }
+
+    /// Makes calls that the record refuses, each on a copy of the list, and the question about a class.
+    fn make_with_other_records(&mut self, list: &[u32], key: u32) {
+        let mut differs = classes_of(list);
+        differs[31] = differs[31].wrapping_add(1);
+        for classes in [&differs[..], &differs[1..]] {
+            self.make_one("counted find, record that differs", list, Some(classes), &mut Asked::Find(key), 15);
+            self.make_one("counted batch, record that differs", list, Some(classes), &mut Asked::Batch(&[], &mut []), 15);
+        }
+        let file = written(list);
+        self.make_one("counted read, record of another length", list, Some(&differs[1..]), &mut Asked::Read(&file), 15);
+        for (classes, class, expected) in [(&differs[..], 15, 0), (&differs, 16, 4), (&differs[1..], 0, 15)] {
+            self.make_one("class", list, Some(classes), &mut Asked::Class(class), expected);
+        }
     }
 
     /// Makes a batch in the same way, with the expected refusal of each of its calls.
-    fn make_batch(&mut self, name: &'static str, list: &[u32], calls: &[(Call, u32)]) {
+    fn make_batch(&mut self, name: &str, list: &[u32], calls: &[(Call, u32)]) {
         let (calls, expected): (Vec<Call>, Vec<u32>) = calls.iter().copied().unzip();
-        let mut answers = vec![Answered::NONE; calls.len()];
-        self.make(name, list, Asked::Batch(&calls, &mut answers), 0);
-        // the refusal is read alike whatever the call
-        let refusals: Vec<u32> = answers.iter().map(|answer| answer.found().map_or_else(Refusal::number, |_| 0)).collect();
-        assert_eq!(refusals, expected, "{name}, D = {}", list[0]);
+        for (name, classes) in [(name.to_string(), None), (format!("counted {name}"), Some(classes_of(list)))] {
+            let mut answers = vec![Answered::NONE; calls.len()];
+            self.make_one(&name, list, classes.as_deref(), &mut Asked::Batch(&calls, &mut answers), 0);
+            // the refusal is read alike whatever the call
+            let refusals: Vec<u32> = answers.iter().map(|answer| answer.found().map_or_else(Refusal::number, |_| 0)).collect();
+            assert_eq!(refusals, expected, "{name}, D = {}", list[0]);
+        }
     }
 
     /// The most bytes that a call of that name needed on a list of that D and C.
     fn most(&self, name: &str, sizes: [u32; 2]) -> usize {
-        self.made.iter().filter(|made| (made.0, made.1) == (name, sizes)).map(|made| made.2).max().unwrap_or(0)
+        self.made.iter().filter(|made| (&made.0[..], made.1) == (name, sizes)).map(|made| made.2).max().unwrap_or(0)
     }
 
     /// The bytes by call, D and C, as the documents have tables.
     fn table(&self) -> String {
         let mut seen = BTreeSet::new();
-        let names = self.made.iter().map(|made| made.0).filter(|name| seen.insert(*name));
+        let names = self.made.iter().map(|made| &made.0).filter(|name| seen.insert(*name));
         let sizes: Vec<[u32; 2]> = [C, MOST_CELLS].iter().flat_map(|c| DIMENSIONS.map(|d| [d, *c])).collect();
         let cells = |cell: &dyn Fn([u32; 2]) -> String| sizes.iter().map(|sizes| format!(" {} |", cell(*sizes))).collect::<String>();
         let rows = names.map(|name| format!("| {name} |{}\n", cells(&|sizes| self.most(name, sizes).to_string())));
@@ -345,6 +419,9 @@ impl Lists {
             measure.make("write, words that are no list", &damaged(all, x), Asked::Write(&mut [0; 32]), 3);
             measure.make("find, words that are no list", &damaged(all, x), Asked::Find(*live), 3);
         }
+        for list in [&self.empty, all, all_taken] {
+            measure.make_with_other_records(list, *live);
+        }
     }
 }
 
@@ -386,7 +463,7 @@ fn what_is_written_is_counted() {
     let mut stack = Stack::new();
     for (function, least, most) in [(does_nothing as extern "C" fn(), 8, 128), (fills_1_kib, 8 + 1_024, USABLE)] {
         // SAFETY: a function without arguments or answer that does not unwind
-        let (_, bytes) = unsafe { stack.call(function, [0; 6]) };
+        let (_, bytes) = unsafe { stack.call(function, [0; 8]) };
         assert!((least..=most).contains(&bytes), "{bytes}");
     }
 }

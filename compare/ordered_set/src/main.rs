@@ -1,5 +1,7 @@
 //! An ordered-set reading of docs/REFERENCE.md, to compare the proved list with.
 
+mod classes;
+mod counted;
 mod files;
 mod generators;
 mod lines;
@@ -23,6 +25,7 @@ use std::process::ExitCode;
 
 const USAGE: &str = "\
 ordered_set replay              calls on standard input, answers and checksums
+ordered_set counted_replay      the same, each call with a class record beside the list
 ordered_set order               the order program
 ordered_set logger              the logger program
 ordered_set gen-calls SEED COUNT
@@ -33,8 +36,10 @@ ordered_set gen-order SEED COUNT
 ordered_set gen-records SEED COUNT
 ordered_set gen-files SEED COUNT
 ordered_set gen-export SEED COUNT
+ordered_set gen-counted SEED COUNT
 ordered_set gen-edges
-ordered_set gen-logger-edges";
+ordered_set gen-logger-edges
+ordered_set gen-counted-edges";
 
 fn main() -> ExitCode {
     let words: Vec<String> = std::env::args().skip(1).collect();
@@ -42,6 +47,7 @@ fn main() -> ExitCode {
     let output = BufWriter::new(stdout().lock());
     let done = match words[..] {
         ["replay"] => replay::replay(stdin().lock(), output),
+        ["counted_replay"] => counted::counted_replay(stdin().lock(), output),
         ["order"] => order::order(stdin().lock(), output),
         ["logger"] => logger::logger(stdin().lock(), output),
         [name] => match generators::whole(name) {

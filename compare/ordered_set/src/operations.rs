@@ -42,6 +42,10 @@ pub const FILE_BREAKS_RULES: u32 = 11;
 pub const NO_ROOM_FOR_FILE: u32 = 12;
 pub const RECORD_BREAKS_RULES: u32 = 13;
 pub const FULL_NUMBER_DOES_NOT_FIT: u32 = 14;
+pub const CLASSES_DIFFER: u32 = 15;
+
+/// A class is refused by the number that a key is.
+pub const CLASS_OUT_OF_RANGE: u32 = KEY_OUT_OF_RANGE;
 
 impl Answer {
     pub fn refused(refusal: u32) -> Answer {

@@ -48,6 +48,7 @@ pub enum BytesLine {
 }
 
 /// What a replay holds between two lines.
+#[derive(Clone)]
 pub struct State {
     pub words: Vec<u32>,
     pub bytes: Vec<u8>,
@@ -79,13 +80,22 @@ pub fn replay(input: impl BufRead, output: impl Write) -> std::io::Result<()> {
     })
 }
 
-fn told(state: &State, line: &Line, answer: Option<Answer>) -> String {
-    let answer = answer.map_or("- - - -".to_string(), |answer| answer.to_string());
-    let told = format!("{answer} {}", checksum(&state.words));
+pub fn told(state: &State, line: &Line, answer: Option<Answer>) -> String {
+    let told = told_of_words(&state.words, answer);
     match line {
         Line::Bytes(_) => format!("{told} {} {}", checksum(&state.bytes), state.last),
         _ => told,
     }
+}
+
+pub fn told_of_words(words: &[u32], answer: Option<Answer>) -> String {
+    let answer = answer.map_or("- - - -".to_string(), |answer| answer.to_string());
+    format!("{answer} {}", checksum(words))
+}
+
+/// The words of a buffer before set up.
+pub fn new_words(length: u32) -> Vec<u32> {
+    vec![WORD_BEFORE_SET_UP; length as usize]
 }
 
 /// Does what the line says. A line that is no call has no answer.
@@ -93,7 +103,7 @@ pub fn run(state: &mut State, line: &Line) -> Option<Answer> {
     let words = &mut state.words;
     match *line {
         Line::Make { d, k, c, length } => {
-            *words = vec![WORD_BEFORE_SET_UP; length as usize];
+            *words = new_words(length);
             Some(perform(words, &Call::SetUp { d, k, c }))
         }
         Line::Call(ref call) => Some(perform(words, call)),

@@ -1,5 +1,6 @@
 //! The fourteen steps and the printed example, and second statements of what the program does, by the words.
 
+mod classes;
 mod files;
 mod records;
 mod runs;

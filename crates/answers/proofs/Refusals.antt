@@ -2,7 +2,8 @@
 use mathlib.Core.Path.{_≡_}
 use native.Mathlib.Omega.{arith}
 use Rattle.answers.specs.Refusals.{Refusal, outOfRange, wrongLength, notAList, badKey, keyLive, noFreeCell, nothingLive}
-use Rattle.answers.specs.Refusals.{keyNotLive, keyNotStanding, lineNotReadable, badFile, noRoom, badRecord, numberOutside, badBatch, answerOf}
+use Rattle.answers.specs.Refusals.{keyNotLive, keyNotStanding, lineNotReadable, badFile, noRoom, badRecord, numberOutside, badClasses, badBatch}
+use Rattle.answers.specs.Refusals.{answerOf}
 
 pub table : (r : Refusal) → (answerOf r .refusal ≡ 0 → ⊥) × (answerOf r .refusal ≡ 9 → ⊥)
 table outOfRange = (λ e. omega arith, λ e. omega arith)
@@ -19,4 +20,5 @@ table badFile = (λ e. omega arith, λ e. omega arith)
 table noRoom = (λ e. omega arith, λ e. omega arith)
 table badRecord = (λ e. omega arith, λ e. omega arith)
 table numberOutside = (λ e. omega arith, λ e. omega arith)
+table badClasses = (λ e. omega arith, λ e. omega arith)
 table badBatch = (λ e. omega arith, λ e. omega arith)

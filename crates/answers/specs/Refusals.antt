@@ -50,6 +50,8 @@ pub data Refusal : Type 0 where
   badRecord : Refusal
   -- record: the full number does not fit into 32 bits
   numberOutside : Refusal
+  -- with a class record: it is not what a full reading of the list gives; where it is not compared, its length is wrong
+  badClasses : Refusal
   -- batch: the words are no calls, or there is no room for the answers
   badBatch : Refusal
 
@@ -69,6 +71,7 @@ answerOf badFile = answer 11 0 0 0
 answerOf noRoom = answer 12 0 0 0
 answerOf badRecord = answer 13 0 0 0
 answerOf numberOutside = answer 14 0 0 0
+answerOf badClasses = answer 15 0 0 0
 answerOf badBatch = answer 19 0 0 0
 
 -- Refusals: a refused call alters nothing of what was lent.

@@ -52,6 +52,8 @@ pub const BAD_RECORD: u32 = 13;
 
 pub const NUMBER_OUTSIDE: u32 = 14;
 
+pub const BAD_CLASSES: u32 = 15;
+
 pub const BAD_BATCH: u32 = 19;
 
 // A refusal that answers its number alone.

@@ -12,6 +12,7 @@ use lib.Dec.{eqb, leb, ltb}
 use lib.ListN.{length}
 use borrow.Author.Tests.{eq-eqb, ne-eqb, lt-ltb, le-ltb, le-leb, lt-leb}
 use Rattle.settings.specs.Numbers.{inRange, lengthOf}
+use Rattle.lists.proofs.Those.{those-most}
 use Rattle.lists.specs.Lists.{those}
 use Rattle.files.specs.Files.{settingsIn, pairsIn, contentsOf}
 use Rattle.lists.proofs.All.{All, all-at}
@@ -99,15 +100,6 @@ counts-first test key keys = at (test key)
     at : (t : Bool) → length (cond t (key ∷ those test keys) (those test keys)) ≡ cond t 1 0 + length (those test keys)
     at true = omega arith
     at false = omega arith
-
-counts-most : (test : ℕ → Bool) (keys : List ℕ) → length (those test keys) ≤ length keys
-unfolding those
-counts-most test [] = omega arith
-counts-most test (key ∷ keys) = at (test key) (counts-most test keys)
-  where
-    at : (t : Bool) → length (those test keys) ≤ length keys → length (cond t (key ∷ those test keys) (those test keys)) ≤ suc (length keys)
-    at true more = omega arith
-    at false more = omega arith
 
 -- .. wherever it is put
 counts-put : (test : ℕ → Bool) (key : ℕ) (keys : List ℕ) → length (those test (putKey key keys)) ≡ cond (test key) 1 0 + length (those test keys)
@@ -357,7 +349,7 @@ run-passes-at-most calls ws list ok =
     omega (
       arith,
       run-passes calls ws list ok,
-      counts-most (λ key. ltb (positionKeyAt ws) key && leb key (positionKeyAt (afterCalls calls ws))) (standingKeys ws),
+      those-most (λ key. ltb (positionKeyAt ws) key && leb key (positionKeyAt (afterCalls calls ws))) (standingKeys ws),
     )
 
 -- With inserts

@@ -67,3 +67,11 @@ keepsSettings (inserting key value) = true
 keepsSettings taking = true
 keepsSettings sweeping = true
 keepsSettings (renewing largest cells pairs) = false
+
+-- .. and so do the live pairs, unless a key is inserted or taken
+abbrev pub keepsPairs : Effect → Bool
+keepsPairs keeping = true
+keepsPairs (inserting key value) = false
+keepsPairs taking = false
+keepsPairs sweeping = true
+keepsPairs (renewing largest cells pairs) = false

@@ -23,7 +23,8 @@ pub const MOST_SERIAL: u32 = 4095;
 
 const KEYS_PER_UNIT: u32 = 4096;
 
-const KEYS_PER_CLASS: u32 = 268435456;
+// A class has as many keys.
+pub const KEYS_PER_CLASS: u32 = 268435456;
 
 pub fn entry_of(class: u32, unit: u32, serial: u32) -> Entry
     ensures { λ r. ⌜ r ≡ entryOf class unit serial ⌝ }

@@ -2,7 +2,9 @@
 use mathlib.Core.Path.{_≡_, refl, ap}
 use mathlib.Core.Bool.{Bool, true, false, cond}
 use mathlib.Core.List.{List, [], _∷_, _++_}
-use Prim.Native.Nat.{_+_, _-_}
+use Prim.Native.Nat.{suc, _+_, _-_, _≤_}
+use native.Mathlib.Omega.{arith}
+use lib.ListN.{length}
 use Rattle.lists.specs.Lists.{those}
 use Rattle.lists.proofs.All.{All}
 
@@ -40,3 +42,12 @@ module _ {A : Type 0} where
           cond t (x ∷ those test (xs ++ ys)) (those test (xs ++ ys)) ≡ cond t (x ∷ those test xs) (those test xs) ++ those test ys
       at true e = ap {B = List A} (λ r. x ∷ r) e
       at false e = e
+
+  pub those-most : (test : A → Bool) (xs : List A) → length (those test xs) ≤ length xs
+  unfolding those
+  those-most test [] = omega arith
+  those-most test (x ∷ xs) = at (test x) (those-most test xs)
+    where
+      at : (t : Bool) → length (those test xs) ≤ length xs → length (cond t (x ∷ those test xs) (those test xs)) ≤ suc (length xs)
+      at true h = omega arith
+      at false h = omega arith

@@ -4,3 +4,4 @@ pub mod WalkRead
 pub mod Stores
 pub mod Changed
 pub mod CellsWithin
+pub mod Folded

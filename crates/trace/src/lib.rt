@@ -38,10 +38,10 @@ pub enum Kind {
 
 // The numbers of a line, the fields after its first: `count` of them, first in `values`. They are not readable where a field is no number,
 // or where there are more than 4.
-struct Numbers {
-    readable: bool,
-    count: usize,
-    values: [u32; MOST_NUMBERS],
+pub struct Numbers {
+    pub readable: bool,
+    pub count: usize,
+    pub values: [u32; MOST_NUMBERS],
 }
 
 fn unreadable() -> Numbers {
@@ -53,7 +53,7 @@ fn unreadable() -> Numbers {
 }
 
 // The numbers after a field that ends at `from`.
-fn numbers_after(line: &[u8], from: usize) -> Numbers
+pub fn numbers_after(line: &[u8], from: usize) -> Numbers
     requires { ⌜ from ≤ length (now line) ⌝ }
 {
     let mut values = [0u32; MOST_NUMBERS];

@@ -12,6 +12,10 @@ use Rattle.trace_held.specs.Held.{cutTo, Held, Holds}
 pub kept : {most : ℕ} {array : List ℕ} {used : ℕ} → Held most array used → Holds most array used (take used array)
 kept h = record { held = h; is = refl }
 
+-- an array with room for the most that is held is as long as that
+pub as-long : {most : ℕ} {array after : List ℕ} {used r : ℕ} {what : List ℕ} → Held most array used → Holds (length array) after r what → Holds most after r what
+as-long h holds = record { held = record { room = holds .held .room ∙ h .room; within = omega (arith, holds .held .within, h .room) }; is = holds .is }
+
 -- n elements of one value, and what stands behind them
 pub made-front : (n v : ℕ) (post : List ℕ) → take n (replicate n v ++ post) ≡ replicate n v
 made-front n v post = take-at (replicate n v) post n (length-replicate {A = ℕ} n v)
@@ -25,10 +29,8 @@ made-is array post n v h e =
     ap (λ ys. take n (ys ++ post)) (e ∙ ap (λ m. replicate m v) long) ∙ made-front n v post
 
 -- an element put past the end is not put
-pub put-out :
-    {most : ℕ} {array : List ℕ} {used : ℕ} → Held most array used → (i v : ℕ) → used ≤ i → take used array ≡ set (take used array) i v
-put-out {most} {array} {used} h i v past =
-    sym (set-out (take used array) i v (omega (arith, length-take-le used array (omega (arith, h .room, h .within)))))
+pub put-out : (array : List ℕ) {used : ℕ} → used ≤ length array → (i v : ℕ) → used ≤ i → take used array ≡ set (take used array) i v
+put-out array {used} h i v past = sym (set-out (take used array) i v (omega (arith, length-take-le used array h)))
 
 -- words extended
 pub extended :

@@ -1,6 +1,6 @@
 // The words held, the first `used` of an array's: what a line does to them apart from its call.
 ghost use Prim.Native.Nat.{_≤_};
-ghost use lib.ListN.{take, set, replicate};
+ghost use lib.ListN.{length, take, set, replicate};
 ghost use Rattle.trace.specs.Lines.{mostWords, Fits};
 ghost use Rattle.trace_held.specs.Held.{Held, Holds, bufferAfter, left, cutTo};
 use trace::Kind;
@@ -18,9 +18,9 @@ fn made(words: &mut [u32], n: usize) -> usize
 }
 
 // One word of the buffer; nothing where the index is past its end.
-fn put(words: &mut [u32], used: usize, index: usize, value: u32) -> usize
-    requires { ⌜ Held mostWords (now words) used ⌝ }
-    ensures { λ r. ⌜ Holds mostWords (now (words .exit)) r (set (take used (now (words .entry))) index value) ⌝ }
+pub fn put(words: &mut [u32], used: usize, index: usize, value: u32) -> usize
+    requires { ⌜ used ≤ length (now words) ⌝ }
+    ensures { λ r. ⌜ Holds (length (now (words .entry))) (now (words .exit)) r (set (take used (now (words .entry))) index value) ⌝ }
 {
     if index < used {
         words[index] = value;
@@ -29,9 +29,9 @@ fn put(words: &mut [u32], used: usize, index: usize, value: u32) -> usize
 }
 
 // The buffer cut to n words, or extended with words 0.
-fn resized(words: &mut [u32], used: usize, n: usize) -> usize
-    requires { ⌜ Held mostWords (now words) used × (n ≤ mostWords) ⌝ }
-    ensures { λ r. ⌜ Holds mostWords (now (words .exit)) r (cutTo n (take used (now (words .entry)))) ⌝ }
+pub fn resized(words: &mut [u32], used: usize, n: usize) -> usize
+    requires { ⌜ (used ≤ length (now words)) × (n ≤ length (now words)) ⌝ }
+    ensures { λ r. ⌜ Holds (length (now (words .entry))) (now (words .exit)) r (cutTo n (take used (now (words .entry)))) ⌝ }
 {
     if used < n {
         lists::fill(&mut words[used..n], 0);

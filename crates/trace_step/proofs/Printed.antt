@@ -6,6 +6,7 @@ use Prim.Native.Nat.{ℕ, _-_, _≤_}
 use native.Mathlib.Nat.{sub-zero}
 use lib.ListN.{length, take}
 use Rattle.calls.specs.Records.{Lent, lentOf}
+use Rattle.text.specs.Lines.{lineFeed}
 use Rattle.report.specs.Report.{Put}
 use Rattle.report.proofs.Puts.{put-more, put-start}
 use Rattle.trace.specs.Lines.{mostWords, mostHeld}
@@ -44,7 +45,7 @@ module _
 
     pub line-answered :
         {room middle out : List ℕ} {at end : ℕ} {told : Bool} → told ≡ tells kind → Put room 0 (headText reply) middle at →
-        Put middle at (tailText told (lentOf (take (n - 0) after) (take (m - 0) after-bytes) now-last)) out end → end ≤ length room →
+        Put middle at (tailText told (lentOf (take (n - 0) after) (take (m - 0) after-bytes) now-last) lineFeed) out end → end ≤ length room →
         LineAnswered kind line before after after-bytes now-last out (record { used = n; filled = m; text = end })
     unfolding lineText
     line-answered tell head tail fits =
@@ -55,7 +56,7 @@ module _
           last-is = ap (λ (l : Lent). l .last) left-is;
           is =
               put .0 ∙
-              ap₂ (λ (xs ys : List ℕ). xs ++ ys) (ap headText (made .reply ∙ ap (replyOf kind) altered-is)) (ap₂ tailText tell told-is);
+              ap₂ (λ (xs ys : List ℕ). xs ++ ys) (ap headText (made .reply ∙ ap (replyOf kind) altered-is)) (ap₂ (λ (t : Bool) (l : Lent). tailText t l lineFeed) tell told-is);
           within = put .1;
         }
 

@@ -12,7 +12,7 @@ use Rattle.text.specs.declared.feed.Told.the-variants.{NoLine, Line, LongLine}
 use Rattle.calls.specs.Records.{Lent}
 use Rattle.calls.specs.declared.Call.{Call}
 use Rattle.calls.specs.declared.Call.the-variants.{SetUp, Operate, Record, Write, Read}
-use Rattle.report.specs.Report.{decimal, answerText, checksumOf, checksumText, fieldBytes, answerBytes}
+use Rattle.report.specs.Report.{decimal, answerText, checksumOf, fieldBytes, answerBytes}
 use Rattle.trace.specs.Lines.{mostWords, mostHeld}
 use Rattle.trace.specs.declared.Kind.{Kind}
 use Rattle.trace.specs.declared.Kind.the-variants.{Fresh, Make, Put, Length, Bytes, Add, PutByte, Last, Unreadable}
@@ -30,10 +30,10 @@ unfoldable pub headText : Reply → List ℕ
 headText (Four a) = answerText a space
 headText NoCall = dash ∷ space ∷ dash ∷ space ∷ dash ∷ space ∷ dash ∷ space ∷ []
 
--- the checksum of the words and that of the bytes, and the last number
-unfoldable pub lentText : Lent → List ℕ
-lentText lent =
-    decimal (checksumOf (lent .words)) ++ (space ∷ (decimal (checksumOf (lent .bytes)) ++ (space ∷ (decimal (lent .last) ++ (lineFeed ∷ [])))))
+-- the checksum of the words and that of the bytes, and the last number, with a byte after it
+unfoldable pub lentText : Lent → ℕ → List ℕ
+lentText lent after =
+    decimal (checksumOf (lent .words)) ++ (space ∷ (decimal (checksumOf (lent .bytes)) ++ (space ∷ (decimal (lent .last) ++ (after ∷ [])))))
 
 -- B, H, Q, O, G, W and R tell of the bytes and the last number
 abbrev pub onBytes : Call → Bool
@@ -54,9 +54,9 @@ tells (PutByte index value) = true
 tells (Last number) = true
 tells Unreadable = false
 
--- the fields after the first four
-abbrev pub tailText : Bool → Lent → List ℕ
-tailText told lent = cond told (lentText lent) (checksumText (lent .words))
+-- the fields after the first four, with a byte after them
+abbrev pub tailText : Bool → Lent → ℕ → List ℕ
+tailText told lent after = cond told (lentText lent after) (decimal (checksumOf (lent .words)) ++ (after ∷ []))
 
 -- what is held after a line: what the line itself does to it, and then its call
 unfoldable pub leftBy : Kind → List ℕ → Lent → Lent
@@ -64,7 +64,7 @@ leftBy kind line lent = afterCall kind (alteredBy kind line lent)
 
 -- the bytes printed for a line, on what is held before it
 unfoldable pub lineText : Kind → List ℕ → Lent → List ℕ
-lineText kind line lent = headText (replyOf kind (alteredBy kind line lent)) ++ tailText (tells kind) (leftBy kind line lent)
+lineText kind line lent = headText (replyOf kind (alteredBy kind line lent)) ++ tailText (tells kind) (leftBy kind line lent) lineFeed
 
 -- the room for a line
 abbrev pub lineBytes : ℕ

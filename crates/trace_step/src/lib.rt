@@ -10,7 +10,7 @@ ghost use Rattle.trace_step.specs.Printed.{leftBy, lineBytes, LineAnswer
 use text::feed::Told;
 use trace::Kind;
 
-mod put; // put.rt: the line printed
+pub mod put; // put.rt: the line printed
 
 // The room for a line: an answer, two checksums and the last number.
 const LINE_BYTES: usize = report::ANSWER_BYTES + 3 * report::FIELD_BYTES;
@@ -55,6 +55,7 @@ fn line_text(
         &words[0..n],
         &bytes[0..m],
         after,
+        b'\n',
     );
     Answered {
         used: n,

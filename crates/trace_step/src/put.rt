@@ -20,14 +20,14 @@ pub fn put_head(out: &mut [u8], reply: Reply) -> usize
     }
 }
 
-// Puts the checksum of the words and that of the bytes, and the last number.
-fn put_lent(out: &mut [u8], at: usize, list: &[u32], bytes: &[u8], last: u64) -> usize
+// Puts the checksum of the words and that of the bytes, and the last number, with a byte after it.
+fn put_lent(out: &mut [u8], at: usize, list: &[u32], bytes: &[u8], last: u64, byte: u8) -> usize
     requires { ⌜ at + 3 * fieldBytes ≤ length (now out) ⌝ }
-    ensures { λ r. ⌜ Put (now (out .entry)) at (lentText (lentOf (now (list .entry)) (now (bytes .entry)) last)) (now (out .exit)) r × (r ≤ at + 3 * fieldBytes) ⌝ }
+    ensures { λ r. ⌜ Put (now (out .entry)) at (lentText (lentOf (now (list .entry)) (now (bytes .entry)) last) byte) (now (out .exit)) r × (r ≤ at + 3 * fieldBytes) ⌝ }
 {
     let second = report::put_number(out, at, report::checksum(list), b' ');
     let third = report::put_number(out, second, report::checksum_of_bytes(bytes), b' ');
-    report::put_number(out, third, last, b'\n')
+    report::put_number(out, third, last, byte)
 }
 
 fn call_tells(call: Call) -> bool
@@ -59,7 +59,7 @@ pub fn kind_tells(kind: Kind) -> bool
     }
 }
 
-// Puts the fields after the first four.
+// Puts the fields after the first four, with a byte after them.
 pub fn put_tail(
     out: &mut [u8],
     at: usize,
@@ -67,12 +67,13 @@ pub fn put_tail(
     list: &[u32],
     bytes: &[u8],
     last: u64,
+    byte: u8,
 ) -> usize
     requires { ⌜ at + 3 * fieldBytes ≤ length (now out) ⌝ }
-    ensures { λ r. ⌜ Put (now (out .entry)) at (tailText told (lentOf (now (list .entry)) (now (bytes .entry)) last)) (now (out .exit)) r × (r ≤ at + 3 * fieldBytes) ⌝ }
+    ensures { λ r. ⌜ Put (now (out .entry)) at (tailText told (lentOf (now (list .entry)) (now (bytes .entry)) last) byte) (now (out .exit)) r × (r ≤ at + 3 * fieldBytes) ⌝ }
 {
     if told {
-        return put_lent(out, at, list, bytes, last);
+        return put_lent(out, at, list, bytes, last, byte);
     }
-    report::put_checksum(out, at, list)
+    report::put_number(out, at, report::checksum(list), byte)
 }

@@ -198,7 +198,7 @@ fn change_length(trace: &mut Trace, model: &Model) {
 /// An altered model is drawn: a list, or a buffer that breaks a single sentence. At times
 /// words of the drawing are forgotten: one, about half of them, or all links, so that a debt
 /// is faked or cleared and nothing moved.
-fn draw_another(trace: &mut Trace, mut model: Model) {
+pub fn draw_another(trace: &mut Trace, mut model: Model) {
     for _ in 0..trace.dice.pick(&[1, 1, 2]) {
         retell(trace, &mut model);
     }

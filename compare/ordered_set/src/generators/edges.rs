@@ -77,7 +77,7 @@ pub fn edges(trace: &mut Trace) {
     trace.write(b"T", b""); // A last line without line feed.
 }
 
-fn say_all(trace: &mut Trace, lines: &str) {
+pub fn say_all(trace: &mut Trace, lines: &str) {
     lines.split('|').for_each(|line| trace.say(line));
 }
 

@@ -69,7 +69,7 @@ fn write_exactly(trace: &mut Trace, model: &Model) {
 
 /// Enough, exactly enough, one too few, none; and bytes that hold a file, which a shorter one is
 /// then written over.
-fn write_into_rooms(trace: &mut Trace, model: &Model) {
+pub fn write_into_rooms(trace: &mut Trace, model: &Model) {
     let exact = file_length(model);
     for _ in 0..trace.dice.between(1, 4) {
         let more = trace.dice.below(60);
@@ -91,7 +91,7 @@ fn write_into_rooms(trace: &mut Trace, model: &Model) {
 }
 
 /// The list is written, the words become others, and the file is read into them.
-fn over_a_restart(trace: &mut Trace, model: &Model) {
+pub fn over_a_restart(trace: &mut Trace, model: &Model) {
     write_exactly(trace, model);
     let exact = model.settings.length();
     match trace.dice.below(8) {
@@ -156,7 +156,7 @@ fn altered_bytes(trace: &mut Trace, model: &Model) {
 
 /// A file for this list or one like it, with something altered; mostly the words have the length
 /// that it asks for.
-fn altered_form(trace: &mut Trace, model: &Model, keys: &[u32]) {
+pub fn altered_form(trace: &mut Trace, model: &Model, keys: &[u32]) {
     let form = some_form(trace, &model.settings, keys);
     for _ in 0..trace.dice.between(1, 3) {
         let bytes = altered(&mut trace.dice, &form);

@@ -2,6 +2,8 @@
 //! it, so that the next line can be chosen for the buffer at hand.
 
 mod calls;
+mod counted;
+mod counted_edges;
 mod damage;
 mod dice;
 pub mod edges;
@@ -17,6 +19,7 @@ pub mod record_forms;
 mod records;
 mod retell;
 
+use crate::counted as beside;
 use crate::model::Model;
 use crate::reading::list;
 use crate::replay::{parse, run, State};
@@ -36,6 +39,7 @@ pub fn named(name: &str) -> Option<Generator> {
         "gen-records" => records::records,
         "gen-files" => files::files,
         "gen-export" => exports::export,
+        "gen-counted" => counted::counted,
         _ => return None,
     })
 }
@@ -45,6 +49,7 @@ pub fn whole(name: &str) -> Option<Generator> {
     Some(match name {
         "gen-edges" => edges::edges,
         "gen-logger-edges" => logger_edges::logger_edges,
+        "gen-counted-edges" => counted_edges::counted_edges,
         _ => return None,
     })
 }
@@ -53,6 +58,7 @@ pub fn write(generator: Generator, seed: u64, count: usize, mut output: impl Wri
     let mut trace = Trace {
         dice: Dice::new(seed),
         state: State::at_first(),
+        classes: None,
         left: count,
         output: &mut output,
         failed: None,
@@ -65,6 +71,8 @@ pub fn write(generator: Generator, seed: u64, count: usize, mut output: impl Wri
 pub struct Trace<'a> {
     dice: Dice,
     state: State,
+    /// The class record, where the calls are made with one.
+    classes: Option<Vec<u32>>,
     /// Lines still to be written, or records of an export; those said after the last one are
     /// dropped.
     left: usize,
@@ -81,10 +89,20 @@ impl Trace<'_> {
     fn say(&mut self, line: impl AsRef<str>) {
         if self.goes_on() {
             let fields: Vec<&str> = line.as_ref().split(' ').collect();
-            let said = parse(&fields).expect("a readable line");
-            run(&mut self.state, &said);
+            self.run(&fields).expect("a readable line");
             self.write(line.as_ref().as_bytes(), b"\n");
         }
+    }
+
+    /// Does what a line says; None if it is not readable.
+    fn run(&mut self, fields: &[&str]) -> Option<()> {
+        match &mut self.classes {
+            None => _ = run(&mut self.state, &parse(fields)?),
+            Some(classes) => {
+                _ = beside::run(&mut self.state, classes, &beside::parse(fields)?);
+            }
+        }
+        Some(())
     }
 
     fn make(&mut self, settings: &Settings) {

@@ -95,7 +95,7 @@ fn some_own(trace: &mut Trace) -> u32 {
 }
 
 /// A record once, at times twice: an accepted one is live then.
-fn hand_over(trace: &mut Trace, entry: &str, is_good: bool) {
+pub fn hand_over(trace: &mut Trace, entry: &str, is_good: bool) {
     let own = some_own(trace);
     let dice = &mut trace.dice;
     let mut record = if is_good { good(dice, entry, own, 3000) } else { broken(dice, entry, own) };

@@ -2,7 +2,7 @@
 -- call does to a state in order (BookCalls.antt) it does to a list. Takes hand out the first live pair each time, as long as there is
 -- one; and a key is live on the words exactly if the node with that key is.
 use mathlib.Core.Path.{_≡_, refl, sym, _∙_, ap, ap₂}
-use mathlib.Core.Bool.{Bool, true, false}
+use mathlib.Core.Bool.{Bool, true, false, false≢true}
 use mathlib.Core.List.{List, [], _∷_, cons≢nil}
 use mathlib.Core.Logic.{_↔_}
 use Prim.Native.Nat.{ℕ, zero, suc}
@@ -20,8 +20,8 @@ use Rattle.meaning.specs.Operations.{fresh, setUpOut, fromLive, keysAbove, keys
 use Rattle.calls.specs.Calls.{Made, madeOn, afterCalls}
 use Rattle.files.specs.Files.{Pair}
 use Rattle.calls.specs.Pairs.{pair, livePairs}
-use Rattle.calls.specs.Effects.{effect, keepsSettings}
-use Rattle.calls.specs.Book.{bookOf, bookedAll}
+use Rattle.calls.specs.Effects.{Effect, keeping, inserting, taking, sweeping, renewing, effect, keepsSettings, keepsPairs}
+use Rattle.calls.specs.Book.{Book, bookOf, bookedBy, bookedAll}
 use Rattle.calls.specs.Promises.{ListsStayLists, CallsKeepLists, CallsKeepSettings, takes, TakesInTurn, TakesEnd, CallsAreBooked}
 use Rattle.meaning.proofs.Pictures.State.{Sound}
 use Rattle.meaning.proofs.Pictures.Picture.{picture-largest, picture-cells}
@@ -83,6 +83,20 @@ pub calls-are-booked : CallsAreBooked
 calls-are-booked calls =
     on-lists (λ ws. bookOf (afterCalls calls ws) ≡ bookedAll calls (length ws) (bookOf ws)) (λ s v.
     calls-booked calls s v ∙ ap (bookedAll calls (length (picture s))) (sym (book-of-picture s v)))
+
+-- a call that keeps the live pairs
+book-kept : (effect : Effect) (k : Book) → keepsPairs effect ≡ true → bookedBy effect k .pairs ≡ k .pairs
+unfolding bookedBy
+book-kept keeping k e = refl
+book-kept (inserting key value) k e = absurd (false≢true e)
+book-kept taking k e = absurd (false≢true e)
+book-kept sweeping k e = refl
+book-kept (renewing largest cells pairs) k e = absurd (false≢true e)
+
+pub pairs-kept : (made : Made) (ws : List ℕ) → isList ws ≡ true → keepsPairs (effect made (length ws)) ≡ true → livePairs (madeOn made ws .left .words) ≡ livePairs ws
+unfolding afterCalls bookedAll
+pairs-kept made ws list keeps =
+    ap (λ (k : Book). k .pairs) (calls-are-booked (made ∷ []) ws list) ∙ book-kept (effect made (length ws)) (bookOf ws) keeps
 
 -- Takes
 

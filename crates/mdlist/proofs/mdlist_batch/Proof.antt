@@ -4,7 +4,8 @@ use borrow.Author.Needs.{needs}
 use borrow.Author.Tests.{not-true, not-false}
 use Rattle.calls.specs.Batch.{batchLent}
 use Rattle.is_list.proofs.Answered.{not-listed, reading-none, reading-listed}
-use Rattle.mdlist.proofs.Exported.{no-list-batch, bad-batch, batch-done}
+use Rattle.batch.proofs.Whole.{bad-batch, batch-done}
+use Rattle.mdlist.proofs.Exported.{no-list-batch}
 use Rattle.mdlist.proofs.mdlist_batch.Statement.{statement}
 use Rattle.mdlist.proofs.mdlist_batch.Tie as tie
 

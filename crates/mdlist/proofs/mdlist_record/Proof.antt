@@ -5,7 +5,8 @@ use borrow.Author.Tests.{not-true, not-false}
 use Rattle.notes.specs.Notes.{Within}
 use Rattle.notes.proofs.Notes.{notes-within}
 use Rattle.is_list.proofs.Answered.{not-listed, reading-none}
-use Rattle.mdlist.proofs.Exported.{no-record-meets, record-meets}
+use Rattle.insert_record.proofs.Recorded.{record-meets}
+use Rattle.mdlist.proofs.Exported.{no-record-meets}
 use Rattle.mdlist.proofs.mdlist_record.Statement.{statement}
 use Rattle.mdlist.proofs.mdlist_record.Tie as tie
 

@@ -1,6 +1,7 @@
 -- `trace_held::buffer::altered` meets its contract: what a line does to the words is read off by its kind.
+use native.Mathlib.Omega.{arith}
 use borrow.Author.Needs.{needs}
-use Rattle.trace_held.proofs.Held.{kept}
+use Rattle.trace_held.proofs.Held.{kept, as-long}
 use Rattle.trace_held.proofs.buffer.altered.Statement.{statement}
 use Rattle.trace_held.proofs.buffer.altered.Tie as tie
 
@@ -16,15 +17,16 @@ returns-2 : tie.Need-returns-2
 returns-2 c = rw (c .enum-told .given .1) (kept (c .before .before .before .pre .0))
 
 returns-3 : tie.Need-returns-3
-returns-3 c = rw (c .before .before .before .before .before .kind2 .given .1) (c .before .before .put .ensures)
+returns-3 c = rw (c .before .before .before .before .before .kind2 .given .1) (as-long (c .before .before .before .before .before .before .before .before .pre .0) (c .before .before .put .ensures))
 
 resized-requires : tie.Need-resized-requires
 resized-requires c κs =
     let p = c .before .before .before .before .before .pre in
-    (p .0, rw (c .before .before .kind3 .given .1) at (p .1 .0))
+    let asked = rw (c .before .before .kind3 .given .1) at (p .1 .0) in
+    (omega (arith, p .0 .room, p .0 .within), omega (arith, p .0 .room, asked))
 
 returns-4 : tie.Need-returns-4
-returns-4 c = rw (c .before .before .before .before .before .kind3 .given .1) (c .before .before .resized .ensures)
+returns-4 c = rw (c .before .before .before .before .before .kind3 .given .1) (as-long (c .before .before .before .before .before .before .before .before .pre .0) (c .before .before .resized .ensures))
 
 returns-5 : tie.Need-returns-5
 returns-5 c = rw (c .enum-told2 .given .1) (kept (c .before .before .before .pre .0))

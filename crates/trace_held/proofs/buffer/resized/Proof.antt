@@ -1,5 +1,5 @@
 -- `trace_held::buffer::resized` meets its contract: the words behind the buffer are filled with 0, or it is cut.
-use native.Mathlib.Omega.{arith}
+use mathlib.Core.Path.{refl}
 use borrow.Author.Needs.{needs}
 use Rattle.trace_held.proofs.Held.{extended, cut}
 use Rattle.trace_held.proofs.buffer.resized.Statement.{statement}
@@ -8,14 +8,12 @@ use Rattle.trace_held.proofs.buffer.resized.Tie as tie
 returns : tie.Need-returns
 returns c =
     let s = c .before .before .before .before .before .before in
-    let longer = extended (s .args .words .now) (c .before .before .before .before .if1 .taken) (omega (arith, s .pre .0 .room, s .pre .1)) in
-    record { held = search needs; is = longer (c .before .before .fill .ensures) }
+    record { held = search needs; is = extended (s .args .words .now) (c .before .before .before .before .if1 .taken) (s .pre .1) (c .before .before .fill .ensures) }
 
 returns-2 : tie.Need-returns-2
 returns-2 c =
     let s = c .before .before in
-    let h = s .pre .0 in
-    record { held = record { room = h .room; within = s .pre .1 }; is = cut (s .args .words .now) (c .if1 .left) (omega (arith, h .room, h .within)) }
+    record { held = record { room = refl; within = s .pre .1 }; is = cut (s .args .words .now) (c .if1 .left) (s .pre .0) }
 
 pub resized-spec : {M : Type 1} → statement M
 resized-spec =

@@ -1,0 +1,3 @@
+-- A call that needs no bytes leaves them; a line is answered.
+pub mod Beside
+pub mod Printed
