@@ -1,8 +1,9 @@
 -- The promises of the two engines: list and row have the same book from set up on, and each answers what the book does.
 use mathlib.Core.Path.{_≡_, refl, sym, ap, _∙_}
-use mathlib.Core.Bool.{Bool, true, false, cond, _&&_, false≢true}
+use mathlib.Core.Bool.{Bool, true, false, cond, _&&_}
 use mathlib.Core.List.{List, [], _∷_}
 use Prim.Native.Nat.{ℕ}
+use native.Mathlib.Omega.{arith}
 use lib.Dec.{eqb}
 use lib.ListN.{length}
 use borrow.Author.Tests.{eqb-true, eq-eqb}
@@ -58,14 +59,11 @@ accepts : (D K C : ℕ) (rs : List ℕ) → rowSetUpOut D K C rs .answered .refu
 unfolding rowSetUpOut
 accepts D K C rs = at (inRange D K C) (eqb (length rs) (rowLength C)) refl refl
   where
-    one : (n : ℕ) → n ≡ 0 → n ≡ 0
-    one n e = e
-
     at : (range long : Bool) → inRange D K C ≡ range → eqb (length rs) (rowLength C) ≡ long →
         rowSetUpOut D K C rs .answered .refusal ≡ 0 → Accepts D K C rs
     at true true r l e = record { range = r; long = eqb-true (length rs) (rowLength C) l }
-    at true false r l e = absurd (let z : _≡_ {A = ℕ} 2 0 = rw (r, l) at e in cc)
-    at false long r l e = absurd (let z : _≡_ {A = ℕ} 1 0 = rw r at e in cc)
+    at true false r l e = absurd (let z : _≡_ {A = ℕ} 2 0 = rw (r, l) at e in omega arith)
+    at false long r l e = absurd (let z : _≡_ {A = ℕ} 1 0 = rw r at e in omega arith)
 
 fresh-pair : (D K C : ℕ) (ws rs : List ℕ) → setUpOut D K C ws .answered .refusal ≡ 0 → rowSetUpOut D K C rs .answered .refusal ≡ 0 →
     Pair (setUpOut D K C ws .left) (rowSetUpOut D K C rs .left)
@@ -114,22 +112,22 @@ pub alike-means-same : AlikeMeansSame
 unfolding alike
 alike-means-same = (
   (λ one other e.
-  let first = both (eqb (one .refusal) (other .refusal)) (eqb (one .key) (other .key) && (eqb (one .value) (other .value) && eqb (one .count) (other .count))) e in
-  let second = both (eqb (one .key) (other .key)) (eqb (one .value) (other .value) && eqb (one .count) (other .count)) (first .1) in
-  let third = both (eqb (one .value) (other .value)) (eqb (one .count) (other .count)) (second .1) in
-  λ i. record {
-    refusal = eqb-true (one .refusal) (other .refusal) (first .0) i;
-    key = eqb-true (one .key) (other .key) (second .0) i;
-    value = eqb-true (one .value) (other .value) (third .0) i;
-    count = eqb-true (one .count) (other .count) (third .1) i;
-  }),
+      let first = both (eqb (one .refusal) (other .refusal)) (eqb (one .key) (other .key) && (eqb (one .value) (other .value) && eqb (one .count) (other .count))) e in
+      let second = both (eqb (one .key) (other .key)) (eqb (one .value) (other .value) && eqb (one .count) (other .count)) (first .1) in
+      let third = both (eqb (one .value) (other .value)) (eqb (one .count) (other .count)) (second .1) in
+      λ i. record {
+        refusal = eqb-true (one .refusal) (other .refusal) (first .0) i;
+        key = eqb-true (one .key) (other .key) (second .0) i;
+        value = eqb-true (one .value) (other .value) (third .0) i;
+        count = eqb-true (one .count) (other .count) (third .1) i;
+      }),
   (λ one other e.
-  let first = both (eqb (one .refusal) (other .refusal)) (eqb (one .key) (other .key) && (eqb (one .value) (other .value) && true)) e in
-  let second = both (eqb (one .key) (other .key)) (eqb (one .value) (other .value) && true) (first .1) in
-  let third = both (eqb (one .value) (other .value)) true (second .1) in
-  record {
-    refusal = eqb-true (one .refusal) (other .refusal) (first .0);
-    key = eqb-true (one .key) (other .key) (second .0);
-    value = eqb-true (one .value) (other .value) (third .0);
-  }),
+      let first = both (eqb (one .refusal) (other .refusal)) (eqb (one .key) (other .key) && (eqb (one .value) (other .value) && true)) e in
+      let second = both (eqb (one .key) (other .key)) (eqb (one .value) (other .value) && true) (first .1) in
+      let third = both (eqb (one .value) (other .value)) true (second .1) in
+      record {
+        refusal = eqb-true (one .refusal) (other .refusal) (first .0);
+        key = eqb-true (one .key) (other .key) (second .0);
+        value = eqb-true (one .value) (other .value) (third .0);
+      }),
 )
