@@ -16,8 +16,8 @@ use Rattle.meaning.specs.Operations.{lastAlone, freedBy, swept, sweepOut}
 use Rattle.meaning.specs.Rule.{counted, leastAbove, plusOne, rule}
 use Rattle.meaning.specs.Walk.{linkRead, stepAt, trailFrom, trail, goneTo, walk}
 use Rattle.calls.specs.Calls.{outcome, afterCalls}
-use Rattle.calls.specs.Book.{hasKey}
-use Rattle.calls.specs.Runs.{passedSum, onlyOf, keysFromTo, keysAhead, addedSum}
+use Rattle.book.specs.Book.{standingAt}
+use Rattle.calls.specs.Runs.{passedSum, onlyOf, addedSum}
 
 unfoldable pub computing : ℕ
 unfolding flatMap inRange firstAbove baseOf coordinates shared firstSharing placesAfter places link placeOf nodeAt put those every keyOf ascending
@@ -25,5 +25,5 @@ unfolding flatMap inRange firstAbove baseOf coordinates shared firstSharing plac
     read sized same isList readingOf onReading onList onKey looked fresh checkedOf setUpBy setUpOut finished linksMoved finishAt finishOut findAt findOut leadsTo
     dimensionAt settledLinkAt parentIn positionAfter revived slotFor added insertNew insertAt insertOut deadFront fromLive keysAbove
     keysPassed taken takeFrom takeOut lastOf lastAlone freedBy swept sweepOut counted leastAbove plusOne rule
-    linkRead stepAt trailFrom trail goneTo walk outcome afterCalls hasKey passedSum onlyOf keysFromTo keysAhead addedSum
+    linkRead stepAt trailFrom trail goneTo walk outcome afterCalls standingAt passedSum onlyOf addedSum
 computing = 0

@@ -1,6 +1,6 @@
 -- A list after a few calls, with one debt, a dead key and a position, computed: the premises of the promises are met by it. And runs of takes.
 use mathlib.Core.Path.{_≡_, refl}
-use mathlib.Core.Bool.{true}
+use mathlib.Core.Bool.{true, false}
 use mathlib.Core.List.{List, [], _∷_, map}
 use mathlib.Core.Option.{none}
 use Prim.Native.Nat.{ℕ}
@@ -9,12 +9,14 @@ use lib.ListN.{replicate}
 use Rattle.settings.specs.Numbers.{lengthOf}
 use Rattle.meaning.specs.Row.{nodeAt}
 use Rattle.meaning.specs.State.{positionKey}
-use Rattle.meaning.specs.Reading.{read, isList, standingKeys}
+use Rattle.meaning.specs.Reading.{read, isList}
 use Rattle.meaning.specs.Words.{keyAt, owedAt, linkAt}
 use Rattle.meaning.specs.Walk.{walk}
 use Rattle.meaning.specs.Operations.{setUpOut, insertOut, finishOut}
+use Rattle.book.specs.Book.{standingKey, standingBetween}
 use Rattle.calls.specs.Calls.{Made, operated, madeOn, afterCalls}
-use Rattle.calls.specs.Runs.{passedSum, onlyOf, ofRun, ofRunWithInserts, positionKeyAt, keysFromTo, keysAhead, addedSum}
+use Rattle.calls.specs.Book.{bookOf}
+use Rattle.calls.specs.Runs.{passedSum, onlyOf, ofRun, ofRunWithInserts, keysAhead, addedSum}
 use Rattle.calls.specs.Promises.{FromFresh}
 use Rattle.meaning.specs.Promises.{Live}
 use Rattle.answers.specs.declared.Operation.the-variants.{Insert, Find, Finish, Take, Sweep}
@@ -88,9 +90,15 @@ pub before-run-is-list : isList before-run ≡ true
 unfolding before-run computing
 before-run-is-list = refl
 
-pub before-run-stand : standingKeys before-run ≡ 2 ∷ 5 ∷ 6 ∷ 9 ∷ []
+pub before-run-book :
+    bookOf before-run ≡ record {
+      largest = 15;
+      cells = 8;
+      row = standingKey 2 0 false ∷ standingKey 5 50 true ∷ standingKey 6 0 false ∷ standingKey 9 90 true ∷ [];
+      position = 2;
+    }
 unfolding before-run computing
-before-run-stand = refl
+before-run-book = refl
 
 -- A find, a finish and an insert of a live key, which is refused, between the takes; the last take answers 7.
 pub run : List Made
@@ -105,7 +113,7 @@ pub run-passed : passedSum run before-run ≡ 3
 unfolding before-run run computing
 run-passed = refl
 
-pub run-keys : keysFromTo (positionKeyAt before-run) (positionKeyAt (afterCalls run before-run)) (standingKeys before-run) ≡ 3
+pub run-keys : standingBetween (bookOf before-run .position) (bookOf (afterCalls run before-run) .position) (bookOf before-run .row) ≡ 3
 unfolding before-run run computing
 run-keys = refl
 
@@ -123,6 +131,7 @@ unfolding before-run run-with-inserts computing
 inserts-passed = refl
 
 -- 9 passed and 2 ahead at the end (9 and 12) are 3 ahead at the start (5, 6 and 9) and 8 added
-pub inserts-ahead : keysAhead before-run ∷ addedSum run-with-inserts before-run ∷ keysAhead (afterCalls run-with-inserts before-run) ∷ [] ≡ 3 ∷ 8 ∷ 2 ∷ []
+pub inserts-ahead :
+    keysAhead (bookOf before-run) ∷ addedSum run-with-inserts before-run ∷ keysAhead (bookOf (afterCalls run-with-inserts before-run)) ∷ [] ≡ 3 ∷ 8 ∷ 2 ∷ []
 unfolding before-run run-with-inserts computing
 inserts-ahead = refl

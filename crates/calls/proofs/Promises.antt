@@ -15,7 +15,6 @@ use Rattle.meaning.proofs.Promises.{lists-count-walks, owed-cells-stand}
 use Rattle.calls.proofs.Ends as ends
 use Rattle.calls.proofs.Ends.{record-asks, accepted-on-list}
 use Rattle.calls.proofs.Booked.Book as book
-use Rattle.calls.proofs.Booked.BookReplies as replies
 use Rattle.calls.proofs.Batch as batch
 use Rattle.calls.proofs.Runs as runs
 use Rattle.calls.proofs.Restarted.Saved as saved
@@ -103,4 +102,4 @@ pub calls-are-booked : CallsAreBooked
 calls-are-booked = book.calls-are-booked
 
 pub answers-are-booked : AnswersAreBooked
-answers-are-booked = replies.answers-are-booked
+answers-are-booked = book.answers-are-booked

@@ -20,11 +20,12 @@ use Rattle.calls.specs.Calls.{outcome, Made, alone, operated, madeOn, af
 use Rattle.calls.specs.Effects.{effect, keepsSettings}
 use Rattle.calls.specs.Batch.{BatchLent, callsIn, answerWords, fits, batchOut}
 use Rattle.meaning.specs.Sentences.{Standing}
-use Rattle.calls.specs.Runs.{passedSum, onlyOf, ofRun, ofRunWithInserts, positionKeyAt, keysFromTo, keysAhead, addedSum}
+use Rattle.calls.specs.Runs.{passedSum, onlyOf, ofRun, ofRunWithInserts, keysAhead, addedSum}
 use Rattle.settings.specs.declared.Settings.{Settings}
 use Rattle.files.specs.Files.{Pair, settingsIn, pairsIn}
 use Rattle.calls.specs.Pairs.{livePairs}
-use Rattle.calls.specs.Book.{bookOf, bookedAll, replyIn, replyTo}
+use Rattle.book.specs.Book.{standingBetween}
+use Rattle.calls.specs.Book.{bookOf, bookedAll, callWithoutSearch, replyTo}
 use Rattle.answers.specs.declared.Operation.{Operation}
 use Rattle.answers.specs.declared.Operation.the-variants.{Insert, Finish}
 use Rattle.calls.specs.declared.Call.the-variants.{SetUp}
@@ -93,15 +94,15 @@ TakesInTurn = (ws : List ℕ) → isList ws ≡ true → (n : ℕ) → takes n w
 abbrev pub TakesEnd : Type 0
 TakesEnd = (ws : List ℕ) → isList ws ≡ true → (takeOut ws .answered .refusal ≡ 7) ↔ (livePairs ws ≡ [])
 
--- 5. The pairs: what a sequence of calls does to the live pairs and the standing keys is what an ordered map would do.
+-- 5. The book: what a sequence of calls does to the standing keys, their values and marks and the position is what an ordered map would do.
 abbrev pub CallsAreBooked : Type 0
 CallsAreBooked =
     (calls : List Made) (ws : List ℕ) → isList ws ≡ true → bookOf (afterCalls calls ws) ≡ bookedAll calls (length ws) (bookOf ws)
 
--- .. and each call answers what an ordered map would: its refusal, key and value follow from the pairs and the keys alone.
+-- .. and each call answers what an ordered map would: every figure but looked and the links moved, passed and freed among them, follows from the book.
 abbrev pub AnswersAreBooked : Type 0
 AnswersAreBooked =
-    (made : Made) (ws : List ℕ) → isList ws ≡ true → replyIn (madeOn made ws .answered) ≡ replyTo made (length ws) (bookOf ws)
+    (made : Made) (ws : List ℕ) → isList ws ≡ true → callWithoutSearch (made .call) (madeOn made ws .answered) ≡ replyTo made (length ws) (bookOf ws)
 
 -- 6. A batch does what its calls do, one after the other: these are the words left, each call's answer is the one that it would have been
 -- given alone on the words that those before it leave, and the words past the answers are kept.
@@ -144,18 +145,18 @@ NineIsRetired =
 abbrev pub RunPasses : Type 0
 RunPasses =
     (calls : List Made) (ws : List ℕ) → isList ws ≡ true → onlyOf ofRun calls ws ≡ true
-    → passedSum calls ws ≡ keysFromTo (positionKeyAt ws) (positionKeyAt (afterCalls calls ws)) (standingKeys ws)
+    → passedSum calls ws ≡ standingBetween (bookOf ws .position) (bookOf (afterCalls calls ws) .position) (bookOf ws .row)
 
 -- .. so they never exceed the standing keys at the start.
 abbrev pub RunPassesAtMost : Type 0
 RunPassesAtMost =
-    (calls : List Made) (ws : List ℕ) → isList ws ≡ true → onlyOf ofRun calls ws ≡ true → passedSum calls ws ≤ length (standingKeys ws)
+    (calls : List Made) (ws : List ℕ) → isList ws ≡ true → onlyOf ofRun calls ws ≡ true → passedSum calls ws ≤ length (bookOf ws .row)
 
 -- .. With inserts between, what is passed and what is still ahead at the end is what was ahead at the start and what the inserts added.
 abbrev pub RunWithInsertsPasses : Type 0
 RunWithInsertsPasses =
     (calls : List Made) (ws : List ℕ) → isList ws ≡ true → onlyOf ofRunWithInserts calls ws ≡ true
-    → passedSum calls ws + keysAhead (afterCalls calls ws) ≡ keysAhead ws + addedSum calls ws
+    → passedSum calls ws + keysAhead (bookOf (afterCalls calls ws)) ≡ keysAhead (bookOf ws) + addedSum calls ws
 
 -- 8. A list over a restart. Reading leaves what the calls leave that it stands for: set up, the file's pairs inserted in ascending order, and
 -- each finished.

@@ -1,16 +1,15 @@
 -- What a run of takes costs: the sum of the passed figures (The operations 5), whatever calls stand between.
 use mathlib.Core.Bool.{Bool, true, false, cond, _&&_, _||_, not}
 use mathlib.Core.List.{List, [], _∷_}
+use mathlib.Core.Option.{Option, none, some}
 use Prim.Native.Nat.{ℕ, suc, _+_}
-use lib.Dec.{eqb, leb, ltb}
+use lib.Dec.{eqb, leb}
 use lib.ListN.{length}
-use Rattle.lists.specs.Lists.{those}
 use Rattle.answers.specs.declared.Answer.{Answer}
-use Rattle.meaning.specs.Words.{keyAt, positionAt}
+use Rattle.book.specs.Book.{StandingKey, Book, standingAt, standingAbove, standingBetween}
 use Rattle.calls.specs.Calls.{Made, madeOn}
-use Rattle.meaning.specs.Reading.{standingKeys}
 use Rattle.calls.specs.Effects.{Effect, keeping, inserting, taking, sweeping, renewing, effect}
-use Rattle.calls.specs.Book.{hasKey}
+use Rattle.calls.specs.Book.{bookOf}
 
 -- the passed figure that a call of this effect answers: that of a successful take
 abbrev pub passedIn : Effect → Answer → ℕ
@@ -47,33 +46,28 @@ ofRunWithInserts taking = true
 ofRunWithInserts sweeping = false
 ofRunWithInserts (renewing largest cells pairs) = false
 
--- the position's key
-abbrev pub positionKeyAt : List ℕ → ℕ
-positionKeyAt ws = keyAt ws (positionAt ws)
-
--- how many of some keys are above the first and up to the second
-unfoldable pub keysFromTo : ℕ → ℕ → List ℕ → ℕ
-keysFromTo above upTo keys = length (those (λ key. ltb above key && leb key upTo) keys)
-
 -- how many standing keys are above the position: those that takes can still pass
-unfoldable pub keysAhead : List ℕ → ℕ
-keysAhead ws = length (those (λ key. ltb (positionKeyAt ws) key) (standingKeys ws))
+abbrev pub keysAhead : Book → ℕ
+keysAhead k = standingAbove (k .position) (k .row)
 
 -- What an accepted insert adds to the keys ahead: above the position a new key adds itself, a revived one nothing; at or below it the key itself
 -- and the standing keys above it and up to the position, for the position falls back to just below the key.
-abbrev pub insertAdds : ℕ → List ℕ → ℕ
-insertAdds key ws =
-    cond (leb key (positionKeyAt ws)) (suc (keysFromTo key (positionKeyAt ws) (standingKeys ws))) (cond (hasKey key (standingKeys ws)) 0 1)
+abbrev pub addsAbove : Option StandingKey → ℕ
+addsAbove none = 1
+addsAbove (some x) = 0
 
-abbrev pub effectAdds : Effect → List ℕ → ℕ
-effectAdds keeping ws = 0
-effectAdds (inserting key value) ws = insertAdds key ws
-effectAdds taking ws = 0
-effectAdds sweeping ws = 0
-effectAdds (renewing largest cells pairs) ws = 0
+abbrev pub insertAdds : ℕ → Book → ℕ
+insertAdds key k = cond (leb key (k .position)) (suc (standingBetween key (k .position) (k .row))) (addsAbove (standingAt key (k .row)))
+
+abbrev pub effectAdds : Effect → Book → ℕ
+effectAdds keeping k = 0
+effectAdds (inserting key value) k = insertAdds key k
+effectAdds taking k = 0
+effectAdds sweeping k = 0
+effectAdds (renewing largest cells pairs) k = 0
 
 -- what the accepted inserts of a sequence of calls add, each on the words that it is made on
 unfoldable pub addedSum : List Made → List ℕ → ℕ
 addedSum [] ws = 0
 addedSum (made ∷ calls) ws =
-    cond (eqb (madeOn made ws .answered .refusal) 0) (effectAdds (effect made (length ws)) ws) 0 + addedSum calls (madeOn made ws .left .words)
+    cond (eqb (madeOn made ws .answered .refusal) 0) (effectAdds (effect made (length ws)) (bookOf ws)) 0 + addedSum calls (madeOn made ws .left .words)

@@ -1,7 +1,7 @@
 -- Members chosen by a test.
 use mathlib.Core.Path.{_≡_, refl, ap}
 use mathlib.Core.Bool.{Bool, true, false, cond}
-use mathlib.Core.List.{List, [], _∷_, _++_}
+use mathlib.Core.List.{List, [], _∷_, _++_, map}
 use Prim.Native.Nat.{suc, _+_, _-_, _≤_}
 use native.Mathlib.Omega.{arith}
 use lib.ListN.{length}
@@ -51,3 +51,14 @@ module _ {A : Type 0} where
       at : (t : Bool) → length (those test xs) ≤ length xs → length (cond t (x ∷ those test xs) (those test xs)) ≤ suc (length xs)
       at true h = omega arith
       at false h = omega arith
+
+-- chosen by what a map makes of them
+pub those-map : {A B : Type 0} (f : A → B) (test : B → Bool) (xs : List A) → those test (map f xs) ≡ map f (those (λ x. test (f x)) xs)
+unfolding those
+those-map f test [] = refl
+those-map {A} {B} f test (x ∷ xs) = at (test (f x)) (those-map f test xs)
+  where
+    at : (t : Bool) → those test (map f xs) ≡ map f (those (λ y. test (f y)) xs) →
+        cond t (f x ∷ those test (map f xs)) (those test (map f xs)) ≡ map f (cond t (x ∷ those (λ y. test (f y)) xs) (those (λ y. test (f y)) xs))
+    at true e = ap {B = List B} (λ r. f x ∷ r) e
+    at false e = e

@@ -1,8 +1,7 @@
--- Calls on lists, and what they do to the live pairs and the standing keys: a list is the picture of the state that it holds, so what a
--- call does to a state in order (BookCalls.antt) it does to a list. Takes hand out the first live pair each time, as long as there is
--- one; and a key is live on the words exactly if the node with that key is.
+-- Calls on lists, and what they do to the book: a list is the picture of the state that it holds, so what a call does to a state in order
+-- (BookCalls.antt) it does to a list. Takes hand out the first live pair each time, as long as there is one.
 use mathlib.Core.Path.{_≡_, refl, sym, _∙_, ap, ap₂}
-use mathlib.Core.Bool.{Bool, true, false, false≢true}
+use mathlib.Core.Bool.{Bool, true, false}
 use mathlib.Core.List.{List, [], _∷_, cons≢nil}
 use mathlib.Core.Logic.{_↔_}
 use Prim.Native.Nat.{ℕ, zero, suc}
@@ -12,25 +11,31 @@ use lib.Dec.{eqb}
 use lib.ListN.{length, take}
 use Rattle.settings.specs.Numbers.{inRange, lengthOf}
 use Rattle.meaning.specs.Row.{Node}
-use Rattle.meaning.specs.State.{State, positionKey}
+use Rattle.meaning.specs.State.{State, keyOf, positionKey}
 use Rattle.meaning.specs.Picture.{picture}
 use Rattle.meaning.specs.Reading.{read, settingsAt, isList}
 use Rattle.answers.specs.Refusals.{Outcome, accepted, nothingLive, refused}
-use Rattle.meaning.specs.Operations.{fresh, setUpOut, fromLive, keysAbove, keysPassed, taken, takeOut}
+use Rattle.meaning.specs.Operations.{fresh, setUpOut, deadFront, fromLive, deadNode, keysAbove, keysPassed, taken, takeOut, operationOut}
+use Rattle.answers.specs.declared.Operation.{Operation}
+use Rattle.book.specs.Book.{Book, freshBook, operationBook}
 use Rattle.calls.specs.Calls.{Made, madeOn, afterCalls}
 use Rattle.files.specs.Files.{Pair}
 use Rattle.calls.specs.Pairs.{pair, livePairs}
-use Rattle.calls.specs.Effects.{Effect, keeping, inserting, taking, sweeping, renewing, effect, keepsSettings, keepsPairs}
-use Rattle.calls.specs.Book.{Book, bookOf, bookedBy, bookedAll}
+use Rattle.calls.specs.Effects.{effect, keepsSettings, keepsPairs}
+use Rattle.calls.specs.Book.{bookOf, bookedAll, withoutSearch, callWithoutSearch, replyTo}
 use Rattle.calls.specs.Promises.{ListsStayLists, CallsKeepLists, CallsKeepSettings, takes, TakesInTurn, TakesEnd, CallsAreBooked}
+use Rattle.calls.specs.Promises.{AnswersAreBooked}
 use Rattle.meaning.proofs.Pictures.State.{Sound}
 use Rattle.meaning.proofs.Pictures.Picture.{picture-largest, picture-cells}
 use Rattle.meaning.proofs.Pictures.ReadBack.{read-of-picture, picture-is-list}
+use Rattle.meaning.proofs.Kept.KeepsState.{deadFront-dead, live-split}
 use Rattle.meaning.proofs.Kept.KeepsSetUp.{fresh-sound}
 use Rattle.meaning.proofs.Kept.KeepsTake.{taken-sound}
 use Rattle.meaning.proofs.Outcomes.{on-lists, set-up-outcome-out-of-range, set-up-outcome-wrong-length, set-up-outcome, take-outcome-none, take-outcome-first}
-use Rattle.calls.proofs.Booked.BookRow.{pairsIn, keysIn, pairs-empty, pairs-first}
-use Rattle.calls.proofs.Booked.BookCalls.{bookIn, call-booked, taken-pairs}
+use Rattle.calls.proofs.Booked.BookRow.{standingIn, changed-alone, pairsIn, pairs-dead, pairs-past, pairs-empty, pairs-first}
+use Rattle.calls.proofs.Booked.BookOperations.{bookIn, state-booked}
+use Rattle.calls.proofs.Booked.BookCalls.{call-booked}
+use Rattle.calls.proofs.Booked.BookPairs.{pairsAmong, pairs-among, pairs-kept-by}
 
 -- Lists stay lists
 
@@ -56,19 +61,31 @@ unfolding afterCalls
 calls-after-keep [] ws e = e
 calls-after-keep (made ∷ calls) ws e = calls-after-keep calls (madeOn made ws .left .words) (calls-keep-lists made ws e)
 
--- The live pairs and the standing keys
-
-pub live-pairs : (s : State) → Sound s → livePairs (picture s) ≡ pairsIn (s .row)
-live-pairs s v = ap (λ t. pairsIn (t .row)) (read-of-picture s v)
+-- The book
 
 pub book-of-picture : (s : State) → Sound s → bookOf (picture s) ≡ bookIn s
 book-of-picture s v =
     λ i. record {
       largest = picture-largest s i;
       cells = picture-cells s i;
-      pairs = pairsIn (read-of-picture s v i .row);
-      standing = keysIn (read-of-picture s v i .row);
+      row = standingIn (read-of-picture s v i .row);
+      position = positionKey (read-of-picture s v i);
     }
+
+-- The five operations on a list and on its book: what is left, and what is answered but for looked and the links moved.
+pub operation-booked : (operation : Operation) (ws : List ℕ) → isList ws ≡ true →
+    (bookOf (operationOut operation ws .left) ≡ operationBook operation (bookOf ws) .left)
+    × (withoutSearch operation (operationOut operation ws .answered) ≡ operationBook operation (bookOf ws) .answered)
+operation-booked operation =
+    on-lists
+    (λ ws. (bookOf (operationOut operation ws .left) ≡ operationBook operation (bookOf ws) .left)
+    × (withoutSearch operation (operationOut operation ws .answered) ≡ operationBook operation (bookOf ws) .answered))
+    (λ s v.
+    let r = state-booked operation s v in
+    let same = sym (book-of-picture s v) in (
+      ap bookOf (r .left) ∙ book-of-picture (r .after) (r .sound) ∙ r .book ∙ ap (λ k. operationBook operation k .left) same,
+      r .answered ∙ ap (λ k. operationBook operation k .answered) same,
+    ))
 
 calls-booked : (calls : List Made) (s : State) → Sound s → bookOf (afterCalls calls (picture s)) ≡ bookedAll calls (length (picture s)) (bookIn s)
 unfolding afterCalls bookedAll
@@ -84,21 +101,32 @@ calls-are-booked calls =
     on-lists (λ ws. bookOf (afterCalls calls ws) ≡ bookedAll calls (length ws) (bookOf ws)) (λ s v.
     calls-booked calls s v ∙ ap (bookedAll calls (length (picture s))) (sym (book-of-picture s v)))
 
--- a call that keeps the live pairs
-book-kept : (effect : Effect) (k : Book) → keepsPairs effect ≡ true → bookedBy effect k .pairs ≡ k .pairs
-unfolding bookedBy
-book-kept keeping k e = refl
-book-kept (inserting key value) k e = absurd (false≢true e)
-book-kept taking k e = absurd (false≢true e)
-book-kept sweeping k e = refl
-book-kept (renewing largest cells pairs) k e = absurd (false≢true e)
+pub answers-are-booked : AnswersAreBooked
+answers-are-booked made =
+    on-lists (λ ws. callWithoutSearch (made .call) (madeOn made ws .answered) ≡ replyTo made (length ws) (bookOf ws)) (λ s v.
+    call-booked made s v .replies ∙ ap (replyTo made (length (picture s))) (sym (book-of-picture s v)))
 
+-- a call that keeps the live pairs
 pub pairs-kept : (made : Made) (ws : List ℕ) → isList ws ≡ true → keepsPairs (effect made (length ws)) ≡ true → livePairs (madeOn made ws .left .words) ≡ livePairs ws
 unfolding afterCalls bookedAll
 pairs-kept made ws list keeps =
-    ap (λ (k : Book). k .pairs) (calls-are-booked (made ∷ []) ws list) ∙ book-kept (effect made (length ws)) (bookOf ws) keeps
+    pairs-among (read (madeOn made ws .left .words) .row)
+    ∙ ap (λ (k : Book). pairsAmong (k .row)) (calls-are-booked (made ∷ []) ws list)
+    ∙ pairs-kept-by (effect made (length ws)) (bookOf ws) keeps
+    ∙ sym (pairs-among (read ws .row))
 
 -- Takes
+
+live-pairs : (s : State) → Sound s → livePairs (picture s) ≡ pairsIn (s .row)
+live-pairs s v = ap (λ t. pairsIn (t .row)) (read-of-picture s v)
+
+-- the pair of the first live node is gone
+taken-pairs : (s : State) → Sound s → (x : Node) (later : List Node) → fromLive (s .row) ≡ x ∷ later → pairsIn (taken s x .row) ≡ pairsIn later
+unfolding taken
+taken-pairs s v x later e =
+    ap pairsIn (changed-alone s v (deadFront (s .row)) x later (live-split (s .row) x later e) deadNode)
+    ∙ pairs-past (deadFront (s .row)) (deadNode x ∷ later) (deadFront-dead (s .row))
+    ∙ pairs-dead (deadNode x) later refl
 
 -- what a take's outcome makes of the takes from there on
 takes-by : (n : ℕ) (ws : List ℕ) (o : Outcome (List ℕ)) → takeOut ws ≡ o →
@@ -155,13 +183,26 @@ takes-end = on-lists (λ ws. (takeOut ws .answered .refusal ≡ 7) ↔ (livePair
 
 -- From a fresh list on
 
-set-up-list : (D K C : ℕ) (ws : List ℕ) → setUpOut D K C ws .answered .refusal ≡ 0 → isList (setUpOut D K C ws .left) ≡ true
-set-up-list D K C ws accepted = at (inRange D K C) refl (ℕ-discrete (length ws) (lengthOf D C))
+-- an accepted set up leaves the picture of the fresh state, whatever the words held
+set-up-leaves : (D K C : ℕ) (ws : List ℕ) → setUpOut D K C ws .answered .refusal ≡ 0 →
+    Sound (fresh D K C) × (setUpOut D K C ws .left ≡ picture (fresh D K C))
+set-up-leaves D K C ws accepted = at (inRange D K C) refl (ℕ-discrete (length ws) (lengthOf D C))
   where
-    at : (t : Bool) → inRange D K C ≡ t → Dec (length ws ≡ lengthOf D C) → isList (setUpOut D K C ws .left) ≡ true
+    at : (t : Bool) → inRange D K C ≡ t → Dec (length ws ≡ lengthOf D C) → Sound (fresh D K C) × (setUpOut D K C ws .left ≡ picture (fresh D K C))
     at false e l = absurd (let r = ap (λ o. o .answered .refusal) (set-up-outcome-out-of-range D K C ws e) in omega arith)
     at true e (no l) = absurd (let r = ap (λ o. o .answered .refusal) (set-up-outcome-wrong-length D K C ws e l) in omega arith)
-    at true e (yes l) = ap (λ o. isList (o .left)) (set-up-outcome D K C ws e l) ∙ picture-is-list (fresh D K C) (fresh-sound D K C e)
+    at true e (yes l) = (fresh-sound D K C e, ap (λ o. o .left) (set-up-outcome D K C ws e l))
+
+pub set-up-list : (D K C : ℕ) (ws : List ℕ) → setUpOut D K C ws .answered .refusal ≡ 0 → isList (setUpOut D K C ws .left) ≡ true
+set-up-list D K C ws accepted =
+    let (sound, left) = set-up-leaves D K C ws accepted in
+    ap isList left ∙ picture-is-list (fresh D K C) sound
+
+pub set-up-booked : (D K C : ℕ) (ws : List ℕ) → setUpOut D K C ws .answered .refusal ≡ 0 → bookOf (setUpOut D K C ws .left) ≡ freshBook K C
+unfolding fresh keyOf
+set-up-booked D K C ws accepted =
+    let (sound, left) = set-up-leaves D K C ws accepted in
+    ap bookOf left ∙ book-of-picture (fresh D K C) sound
 
 pub lists-stay-lists : ListsStayLists
 lists-stay-lists ws f =

@@ -1,40 +1,220 @@
--- The live pairs and the keys of a row, and what each change of a row does to them. A pair is live exactly if the first node with its key
--- is; the nodes of a changed cell stand between smaller and larger keys; before the first live node there are no pairs.
+-- What a book tells of a row, and what each change of a row does to it: the definitions of the book go over the standing keys as those of the list go
+-- over the nodes. A node changed by its cell is a standing key changed by its key, for a key has one cell. And the live pairs of a row.
 use mathlib.Core.Path.{_≡_, refl, sym, _∙_, ap, ap₂, subst}
-use mathlib.Core.Bool.{Bool, true, false, cond, _||_, false≢true}
-use mathlib.Core.List.{List, [], _∷_, _++_, map, dropLast, append-nil, map-append}
+use mathlib.Core.Bool.{Bool, true, false, cond, _&&_}
+use mathlib.Core.List.{List, [], _∷_, _++_, map, dropLast, map-append}
 use mathlib.Core.Option.{Option, none, some}
-use Prim.Native.Nat.{ℕ, _<_}
-use native.Mathlib.Decide.{ℕ-discrete}
+use Prim.Native.Nat.{ℕ, suc, _+_}
 use native.Mathlib.Omega.{arith}
-use lib.Dec.{eqb}
-use borrow.Author.Tests.{eq-eqb, ne-eqb, lt-ltb, le-ltb}
+use lib.Dec.{eqb, leb, ltb}
+use lib.ListN.{length, length-map}
+use borrow.Author.Tests.{eq-eqb, ne-eqb, eqb-true}
 use Rattle.lists.specs.Lists.{those, occurrences}
-use Rattle.lists.proofs.Those.{those-keep}
+use Rattle.lists.proofs.Those.{those-map}
 use Rattle.lists.proofs.Occurrences.{occurrences-none}
-use Rattle.lists.proofs.All.{All, all-map, all-right, all-of-map, all-mapped}
-use Rattle.meaning.specs.Row.{Node, put, nodeAt}
-use Rattle.meaning.specs.State.{State}
-use Rattle.meaning.specs.Operations.{deadFront, fromLive, lastAlone}
+use Rattle.lists.proofs.All.{All, all-zip, all-append, all-of-map}
+use Rattle.book.specs.Book.{StandingKey, standingKey, lastIn, keyBelow, standingAt, putKey, marked, deadBefore, liveOn, standingAbove}
+use Rattle.book.specs.Book.{standingBetween, lastOnly}
+use Rattle.meaning.specs.Row.{Node, headNode, lastOf, nodeAt, put, smallerThan}
+use Rattle.meaning.specs.State.{State, keyOf, positionKey}
+use Rattle.meaning.specs.Operations.{paid, finished, deadFront, fromLive, lastAlone, keysAbove, keysPassed}
 use Rattle.files.specs.Files.{Pair}
 use Rattle.calls.specs.Pairs.{pair}
-use Rattle.calls.specs.Book.{hasKey, putPair, putKey, keptFrom}
-use Rattle.meaning.proofs.Rows.Nodes.{isThere, isLive}
-use Rattle.meaning.proofs.Rows.AscendingRow.{Asc, asc-above}
+use Rattle.calls.specs.Book.{standingKeyOf}
+use Rattle.meaning.proofs.Rows.AscendingRow.{Asc}
 use Rattle.meaning.proofs.Pictures.State.{Sound}
-use Rattle.meaning.proofs.Rows.Places.{asc-smaller, asc-larger, Keeping, keys-changed, onCell}
-use Rattle.meaning.proofs.Kept.KeepsState.{cell-alone, row-split, deadFront-dead, fromLive-live, live-split, last-split}
-use Rattle.meaning.proofs.Kept.KeepsSweep.{keptBy}
-use Rattle.meaning.proofs.Kept.Slot.{gap, put-gap}
+use Rattle.meaning.proofs.Pictures.StateCells.{free-length}
+use Rattle.meaning.proofs.Rows.Places.{asc-smaller, asc-larger, onCell, onCell-cases, lastFrom}
+use Rattle.meaning.proofs.Rows.Parent.{Apart}
+use Rattle.meaning.proofs.Kept.KeepsState.{cell-alone, row-split, deadFront-dead, fromLive-live}
+use Rattle.meaning.proofs.Kept.KeepsInsert.{last-keyOf}
+use Rattle.meaning.proofs.Kept.Slot.{sound-apart}
 
--- the live pairs and the keys of a row
+-- what a book tells of the nodes of a row
+abbrev pub standingIn : List Node → List StandingKey
+standingIn row = map standingKeyOf row
+
+-- .. and of the node with a key
+abbrev pub told : Option Node → Option StandingKey
+told none = none
+told (some x) = some (standingKeyOf x)
+
+pub standing-at : (key : ℕ) (row : List Node) → standingAt key (standingIn row) ≡ told (nodeAt key row)
+unfolding standingAt nodeAt
+standing-at key [] = refl
+standing-at key (x ∷ row) = at (eqb (x .key) key) (standing-at key row)
+  where
+    at : (t : Bool) → standingAt key (standingIn row) ≡ told (nodeAt key row) →
+        cond t (some (standingKeyOf x)) (standingAt key (standingIn row)) ≡ told (cond t (some x) (nodeAt key row))
+    at true more = refl
+    at false more = more
+
+-- a node put in its place
+pub standing-put : (x : Node) (row : List Node) → standingIn (put x row) ≡ putKey (standingKeyOf x) (standingIn row)
+unfolding put putKey
+standing-put x [] = refl
+standing-put x (y ∷ row) = at (leb (x .key) (y .key)) (standing-put x row)
+  where
+    at : (t : Bool) → standingIn (put x row) ≡ putKey (standingKeyOf x) (standingIn row) →
+        standingIn (cond t (x ∷ y ∷ row) (y ∷ put x row))
+        ≡ cond t (standingKeyOf x ∷ standingKeyOf y ∷ standingIn row) (standingKeyOf y ∷ putKey (standingKeyOf x) (standingIn row))
+    at true more = refl
+    at false more = ap {B = List StandingKey} (λ r. standingKeyOf y ∷ r) more
+
+-- a change of nodes of which a book tells nothing, as finishing is
+pub standing-same : (f : Node → Node) → ((x : Node) → standingKeyOf (f x) ≡ standingKeyOf x) → (row : List Node) → standingIn (map f row) ≡ standingIn row
+standing-same f same [] = refl
+standing-same f same (x ∷ row) = ap₂ {C = List StandingKey} (λ y r. y ∷ r) (same x) (standing-same f same row)
+
+pub standing-finished : (c : ℕ) (row : List Node) → standingIn (finished c row) ≡ standingIn row
+unfolding finished
+standing-finished c row =
+    standing-same (onCell c paid) (λ x. onCell-cases (λ y. standingKeyOf y ≡ standingKeyOf x) c paid x (λ here. refl) (λ other. refl)) row
+
+-- One cell changed
+
+unchanged : (c : ℕ) (f : Node → Node) (row : List Node) → All (λ x. c ≡ x .cell → ⊥) row → map (onCell c f) row ≡ row
+unchanged c f [] a = refl
+unchanged c f (x ∷ row) a = rw (ne-eqb (x .cell) c (λ q. a .0 (sym q))) (ap {B = List Node} (λ r. x ∷ r) (unchanged c f row (a .1)))
+
+-- the other nodes have other cells
+other-cells : (s : State) → Sound s → (front : List Node) (x : Node) (later : List Node) → s .row ≡ front ++ (x ∷ later) →
+    All (λ y. x .cell ≡ y .cell → ⊥) front × All (λ y. x .cell ≡ y .cell → ⊥) later
+other-cells s v front x later split =
+    let alone = cell-alone s v front x later split in
+    let others : (row : List Node) → occurrences (x .cell) (map (λ y. y .cell) row) ≡ 0 → All (λ y. x .cell ≡ y .cell → ⊥) row =
+    λ row e. all-of-map (λ c. x .cell ≡ c → ⊥) (λ y. y .cell) row (occurrences-none (x .cell) (map (λ y. y .cell) row) e) in
+    (others front (alone .not-front), others later (alone .not-later))
+
+-- a change of one cell changes its node alone
+pub changed-alone : (s : State) → Sound s → (front : List Node) (x : Node) (later : List Node) → s .row ≡ front ++ (x ∷ later) → (f : Node → Node) →
+    map (onCell (x .cell) f) (s .row) ≡ front ++ (f x ∷ later)
+changed-alone s v front x later split f =
+    let (before, after) = other-cells s v front x later split in
+    ap (map (onCell (x .cell) f)) split
+    ∙ map-append (onCell (x .cell) f) front (x ∷ later)
+    ∙ ap₂ (λ pre post. pre ++ (onCell (x .cell) f x ∷ post)) (unchanged (x .cell) f front before) (unchanged (x .cell) f later after)
+    ∙ ap (λ t. front ++ (cond t (f x) x ∷ later)) (eq-eqb (x .cell) (x .cell) refl)
+
+-- a node has the cell of x exactly if it has the key of x
+abbrev Same : Node → Node → Type 0
+Same x y = eqb (y .cell) (x .cell) ≡ eqb (y .key) (x .key)
+
+cell-by-key : (s : State) → Sound s → (front : List Node) (x : Node) (later : List Node) → s .row ≡ front ++ (x ∷ later) → All (Same x) (s .row)
+cell-by-key s v front x later split =
+    let (before, after) = other-cells s v front x later split in
+    let up : Asc 0 (front ++ (x ∷ later)) = subst (Asc 0) split (v .ascends) in
+    subst (All (Same x)) (sym split)
+    (all-append (Same x) front (x ∷ later) (all-zip (λ y other h. differ y other (λ q. omega arith)) front before (asc-smaller 0 front x later up)) (
+      eq-eqb (x .cell) (x .cell) refl ∙ sym (eq-eqb (x .key) (x .key) refl),
+      all-zip (λ y other h. differ y other (λ q. omega arith)) later after (asc-larger 0 front x later up),
+    ))
+  where
+    differ : (y : Node) → (x .cell ≡ y .cell → ⊥) → (y .key ≡ x .key → ⊥) → Same x y
+    differ y cell key = ne-eqb (y .cell) (x .cell) (λ q. cell (sym q)) ∙ sym (ne-eqb (y .key) (x .key) key)
+
+-- so a change of its node's value and mark is one of its key's
+pub standing-marked : (s : State) → Sound s → (front : List Node) (x : Node) (later : List Node) → s .row ≡ front ++ (x ∷ later) →
+    (f : Node → Node) (value : ℕ) (live : Bool) → ((y : Node) → standingKeyOf (f y) ≡ standingKey (y .key) value live) →
+    standingIn (map (onCell (x .cell) f) (s .row)) ≡ marked (x .key) value live (standingIn (s .row))
+unfolding marked
+standing-marked s v front x later split f value live change = each (s .row) (cell-by-key s v front x later split)
+  where
+    one : (y : Node) (t : Bool) → eqb (y .key) (x .key) ≡ t → standingKeyOf (cond t (f y) y) ≡ cond t (standingKey (x .key) value live) (standingKeyOf y)
+    one y true e = change y ∙ ap (λ key. standingKey key value live) (eqb-true (y .key) (x .key) e)
+    one y false e = refl
+
+    each : (row : List Node) → All (Same x) row →
+        standingIn (map (onCell (x .cell) f) row) ≡ map (λ y. cond (eqb (y .key) (x .key)) (standingKey (x .key) value live) y) (standingIn row)
+    each [] a = refl
+    each (y ∷ row) a =
+        ap₂ {C = List StandingKey} (λ z r. z ∷ r) (ap (λ t. standingKeyOf (cond t (f y) y)) (a .0) ∙ one y (eqb (y .key) (x .key)) refl) (each row (a .1))
+
+-- Dead and live
+
+pub standing-dead : (row : List Node) → deadBefore (standingIn row) ≡ standingIn (deadFront row)
+unfolding deadBefore deadFront
+standing-dead [] = refl
+standing-dead (x ∷ row) = at (x .live) (standing-dead row)
+  where
+    at : (t : Bool) → deadBefore (standingIn row) ≡ standingIn (deadFront row) →
+        cond t [] (standingKeyOf x ∷ deadBefore (standingIn row)) ≡ standingIn (cond t [] (x ∷ deadFront row))
+    at true more = refl
+    at false more = ap {B = List StandingKey} (λ r. standingKeyOf x ∷ r) more
+
+pub standing-live : (row : List Node) → liveOn (standingIn row) ≡ standingIn (fromLive row)
+unfolding liveOn fromLive
+standing-live [] = refl
+standing-live (x ∷ row) = at (x .live) (standing-live row)
+  where
+    at : (t : Bool) → liveOn (standingIn row) ≡ standingIn (fromLive row) →
+        cond t (standingKeyOf x ∷ standingIn row) (liveOn (standingIn row)) ≡ standingIn (cond t (x ∷ row) (fromLive row))
+    at true more = refl
+    at false more = more
+
+-- The last
+
+pub standing-last : (row : List Node) → lastOnly (standingIn row) ≡ standingIn (lastAlone row)
+unfolding lastOnly lastAlone
+standing-last [] = refl
+standing-last (x ∷ []) = refl
+standing-last (x ∷ y ∷ row) = standing-last (y ∷ row)
+
+pub standing-but-last : (row : List Node) → length (dropLast (standingIn row)) ≡ length (dropLast row)
+standing-but-last [] = refl
+standing-but-last (x ∷ []) = refl
+standing-but-last (x ∷ y ∷ row) = ap suc (standing-but-last (y ∷ row))
+
+pub last-key : (row : List Node) → lastIn (standingIn row) ≡ lastOf row .key
+unfolding lastIn lastOf
+last-key [] = refl
+last-key (x ∷ []) = refl
+last-key (x ∷ y ∷ row) = last-key (y ∷ row)
+
+pub key-below : (key : ℕ) (row : List Node) → keyBelow key (standingIn row) ≡ smallerThan key row .key
+key-below key row =
+    let test : StandingKey → Bool = λ x. ltb (x .key) key in
+    ap lastIn (those-map standingKeyOf test row) ∙ last-key (those (λ x. ltb (x .key) key) row)
+
+-- Counted
+
+counted : (test : StandingKey → Bool) (row : List Node) → length (those test (standingIn row)) ≡ length (those (λ x. test (standingKeyOf x)) row)
+counted test row =
+    ap (λ (r : List StandingKey). length r) (those-map standingKeyOf test row) ∙ length-map (those (λ x. test (standingKeyOf x)) row) standingKeyOf
+
+pub keys-above : (low : ℕ) (row : List Node) → standingAbove low (standingIn row) ≡ keysAbove low row
+unfolding keysAbove
+keys-above low row = counted (λ x. ltb low (x .key)) row
+
+pub keys-passed : (low high : ℕ) (row : List Node) → standingBetween low high (standingIn row) ≡ keysPassed low high row
+unfolding keysPassed
+keys-passed low high row = counted (λ x. ltb low (x .key) && leb (x .key) high) row
+
+-- as many standing keys are live as there are live pairs
+pub pairs-counted : (row : List Node) → length (those (λ x. x .live) (standingIn row)) ≡ length (map pair (those (λ x. x .live) row))
+pairs-counted row = counted (λ x. x .live) row ∙ sym (length-map (those (λ x. x .live) row) pair)
+
+-- the standing keys leave as many cells as are free
+pub room : (s : State) → Sound s → suc (length (standingIn (s .row)) + length (s .free)) ≡ s .settings .cells
+room s v =
+    let e = free-length s v in
+    let n = length-map (s .row) standingKeyOf in
+    let least = v .ranges .cells-least in
+    omega arith
+
+-- The position
+
+-- the key of a position on the last of the nodes in front, or on the head
+pub position-last : (t : State) → Sound t → (front rest : List Node) → t .row ≡ front ++ rest → t .position ≡ lastFrom headNode front .cell →
+    positionKey t ≡ lastFrom headNode front .key
+position-last t v front rest split there =
+    ap₂ (λ c r. keyOf c (headNode ∷ r)) there split ∙ last-keyOf headNode front rest (subst (λ r. Apart (headNode ∷ r)) split (sound-apart t v))
+
+-- Live pairs
+
+-- the live pairs of a row
 abbrev pub pairsIn : List Node → List Pair
 pairsIn row = map pair (those (λ x. x .live) row)
-
-abbrev pub keysIn : List Node → List ℕ
-keysIn row = map (λ x. x .key) row
-
--- Pairs
 
 pub pairs-live : (x : Node) (row : List Node) → x .live ≡ true → pairsIn (x ∷ row) ≡ pair x ∷ pairsIn row
 unfolding those
@@ -49,138 +229,6 @@ pub pairs-past : (front row : List Node) → All (λ x. x .live ≡ false) front
 pairs-past [] row a = refl
 pairs-past (x ∷ front) row a = pairs-dead x (front ++ row) (a .0) ∙ pairs-past front row (a .1)
 
--- what comes after some nodes matters by its pairs alone
-pub pairs-after : (front rows others : List Node) → pairsIn rows ≡ pairsIn others → pairsIn (front ++ rows) ≡ pairsIn (front ++ others)
-unfolding those
-pairs-after [] rows others e = e
-pairs-after (x ∷ front) rows others e = at (x .live) (pairs-after front rows others e)
-  where
-    at : (t : Bool) → pairsIn (front ++ rows) ≡ pairsIn (front ++ others) →
-        map pair (cond t (x ∷ those (λ y. y .live) (front ++ rows)) (those (λ y. y .live) (front ++ rows)))
-        ≡ map pair (cond t (x ∷ those (λ y. y .live) (front ++ others)) (those (λ y. y .live) (front ++ others)))
-    at true more = ap {B = List Pair} (λ r. pair x ∷ r) more
-    at false more = more
-
--- a change that keeps keys, values and marks
-pub pairs-changed : (f : Node → Node) → ((x : Node) → pair (f x) ≡ pair x) → ((x : Node) → f x .live ≡ x .live) → (row : List Node) →
-    pairsIn (map f row) ≡ pairsIn row
-unfolding those
-pairs-changed f same live [] = refl
-pairs-changed f same live (x ∷ row) =
-    ap (λ t. map pair (cond t (f x ∷ those (λ y. y .live) (map f row)) (those (λ y. y .live) (map f row)))) (live x)
-    ∙ at (x .live) (pairs-changed f same live row)
-  where
-    at : (t : Bool) → pairsIn (map f row) ≡ pairsIn row →
-        map pair (cond t (f x ∷ those (λ y. y .live) (map f row)) (those (λ y. y .live) (map f row)))
-        ≡ map pair (cond t (x ∷ those (λ y. y .live) row) (those (λ y. y .live) row))
-    at true more = λ i. same x i ∷ more i
-    at false more = more
-
-pub pairs-have : (P : ℕ → Type 0) (row : List Node) → All (λ x. P (x .key)) row → All (λ p. P (p .key)) (pairsIn row)
-pairs-have P row a = all-mapped (λ p. P (p .key)) pair (those (λ x. x .live) row) (those-keep (λ x. P (x .key)) (λ x. x .live) row a)
-
--- A pair and a key in their places
-
-putPair-front : (p : Pair) (pairs : List Pair) → All (λ q. p .key < q .key) pairs → putPair p pairs ≡ p ∷ pairs
-unfolding putPair
-putPair-front p [] a = refl
-putPair-front p (q ∷ pairs) a = rw (lt-ltb (p .key) (q .key) (a .0)) refl
-
-putPair-past : (p q : Pair) (pairs : List Pair) → q .key < p .key → putPair p (q ∷ pairs) ≡ q ∷ putPair p pairs
-unfolding putPair
-putPair-past p q pairs h = rw (le-ltb (p .key) (q .key) (omega arith)) refl
-
-putKey-front : (key : ℕ) (keys : List ℕ) → All (λ x. key < x) keys → putKey key keys ≡ key ∷ keys
-unfolding putKey
-putKey-front key [] a = refl
-putKey-front key (x ∷ keys) a = rw (lt-ltb key x (a .0)) refl
-
-putKey-past : (key x : ℕ) (keys : List ℕ) → x < key → putKey key (x ∷ keys) ≡ x ∷ putKey key keys
-unfolding putKey
-putKey-past key x keys h = rw (le-ltb key x (omega arith)) refl
-
--- a live node between smaller and larger keys is one pair more, and one key more
-pub pairs-put : (front : List Node) (x : Node) (later : List Node) → All (λ y. y .key < x .key) front → All (λ y. x .key < y .key) later → x .live ≡ true →
-    pairsIn (front ++ (x ∷ later)) ≡ putPair (pair x) (pairsIn (front ++ later))
-unfolding those
-pairs-put [] x later smaller larger live =
-    pairs-live x later live ∙ sym (putPair-front (pair x) (pairsIn later) (pairs-have (λ k. x .key < k) later larger))
-pairs-put (y ∷ front) x later smaller larger live = at (y .live) (pairs-put front x later (smaller .1) larger live)
-  where
-    at : (t : Bool) → pairsIn (front ++ (x ∷ later)) ≡ putPair (pair x) (pairsIn (front ++ later)) →
-        map pair (cond t (y ∷ those (λ z. z .live) (front ++ (x ∷ later))) (those (λ z. z .live) (front ++ (x ∷ later))))
-        ≡ putPair (pair x) (map pair (cond t (y ∷ those (λ z. z .live) (front ++ later)) (those (λ z. z .live) (front ++ later))))
-    at true more = ap {B = List Pair} (λ r. pair y ∷ r) more ∙ sym (putPair-past (pair x) (pair y) (pairsIn (front ++ later)) (smaller .0))
-    at false more = more
-
-pub keys-put : (front : List Node) (x : Node) (later : List Node) → All (λ y. y .key < x .key) front → All (λ y. x .key < y .key) later →
-    keysIn (front ++ (x ∷ later)) ≡ putKey (x .key) (keysIn (front ++ later))
-keys-put [] x later smaller larger = sym (putKey-front (x .key) (keysIn later) (all-mapped (λ k. x .key < k) (λ y. y .key) later larger))
-keys-put (y ∷ front) x later smaller larger =
-    ap {B = List ℕ} (λ r. y .key ∷ r) (keys-put front x later (smaller .1) larger)
-    ∙ sym (putKey-past (x .key) (y .key) (keysIn (front ++ later)) (smaller .0))
-
--- The key is there
-
-pub key-stands : (key : ℕ) (row : List Node) → hasKey key (keysIn row) ≡ isThere (nodeAt key row)
-unfolding hasKey nodeAt
-key-stands key [] = refl
-key-stands key (x ∷ row) = at (eqb (x .key) key) (key-stands key row)
-  where
-    at : (t : Bool) → hasKey key (keysIn row) ≡ isThere (nodeAt key row) → (t || hasKey key (keysIn row)) ≡ isThere (cond t (some x) (nodeAt key row))
-    at true more = refl
-    at false more = more
-
-has-none : (key : ℕ) (keys : List ℕ) → All (λ x. x ≡ key → ⊥) keys → hasKey key keys ≡ false
-unfolding hasKey
-has-none key [] a = refl
-has-none key (x ∷ keys) a = rw (ne-eqb x key (a .0), has-none key keys (a .1)) refl
-
-pub key-lives : (low key : ℕ) (row : List Node) → Asc low row → hasKey key (map (λ p. p .key) (pairsIn row)) ≡ isLive (nodeAt key row)
-unfolding hasKey nodeAt those
-key-lives low key [] a = refl
-key-lives low key (x ∷ row) a = at (ℕ-discrete (x .key) key) (key-lives (x .key) key row (a .1))
-  where
-    above : All (λ p. p .key ≡ x .key → ⊥) (pairsIn row)
-    above = pairs-have (λ k. k ≡ x .key → ⊥) row (all-map (λ y h q. omega arith) row (asc-above (x .key) row (a .1)))
-
-    here : (t : Bool) → hasKey (x .key) (map (λ p. p .key) (map pair (cond t (x ∷ those (λ y. y .live) row) (those (λ y. y .live) row)))) ≡ t
-    here true = rw (eq-eqb (x .key) (x .key) refl) refl
-    here false = has-none (x .key) (map (λ p. p .key) (pairsIn row)) (all-mapped (λ k. k ≡ x .key → ⊥) (λ p. p .key) (pairsIn row) above)
-
-    other : (t : Bool) → (x .key ≡ key → ⊥) → hasKey key (map (λ p. p .key)
-        (map pair (cond t (x ∷ those (λ y. y .live) row) (those (λ y. y .live) row)))) ≡ hasKey key (map (λ p. p .key) (pairsIn row))
-    other true ne = rw (ne-eqb (x .key) key ne) refl
-    other false ne = refl
-
-    at : Dec (x .key ≡ key) → hasKey key (map (λ p. p .key) (pairsIn row)) ≡ isLive (nodeAt key row) →
-        hasKey key (map (λ p. p .key) (map pair (cond (x .live) (x ∷ those (λ y. y .live) row) (those (λ y. y .live) row))))
-        ≡ isLive (cond (eqb (x .key) key) (some x) (nodeAt key row))
-    at (yes e) more =
-        subst (λ k. hasKey k (map (λ p. p .key) (pairsIn (x ∷ row))) ≡ x .live) e (here (x .live))
-        ∙ sym (ap (λ t. isLive (cond t (some x) (nodeAt key row))) (eq-eqb (x .key) key e))
-    at (no ne) more = other (x .live) ne ∙ more ∙ sym (ap (λ t. isLive (cond t (some x) (nodeAt key row))) (ne-eqb (x .key) key ne))
-
--- One cell changed
-
-unchanged : (c : ℕ) (f : Node → Node) (row : List Node) → All (λ x. c ≡ x .cell → ⊥) row → map (onCell c f) row ≡ row
-unchanged c f [] a = refl
-unchanged c f (x ∷ row) a = rw (ne-eqb (x .cell) c (λ q. a .0 (sym q))) (ap {B = List Node} (λ r. x ∷ r) (unchanged c f row (a .1)))
-
--- a change of one cell changes its node alone
-pub changed-alone : (s : State) → Sound s → (front : List Node) (x : Node) (later : List Node) → s .row ≡ front ++ (x ∷ later) → (f : Node → Node) →
-    map (onCell (x .cell) f) (s .row) ≡ front ++ (f x ∷ later)
-changed-alone s v front x later split f =
-    let alone = cell-alone s v front x later split in
-    let others : (row : List Node) → occurrences (x .cell) (map (λ y. y .cell) row) ≡ 0 → map (onCell (x .cell) f) row ≡ row =
-    λ row e. unchanged (x .cell) f row (all-of-map (λ c. x .cell ≡ c → ⊥) (λ y. y .cell) row (occurrences-none (x .cell) (map (λ y. y .cell) row) e)) in
-    ap (map (onCell (x .cell) f)) split
-    ∙ map-append (onCell (x .cell) f) front (x ∷ later)
-    ∙ ap₂ (λ pre post. pre ++ (onCell (x .cell) f x ∷ post)) (others front (alone .not-front)) (others later (alone .not-later))
-    ∙ ap (λ t. front ++ (cond t (f x) x ∷ later)) (eq-eqb (x .cell) (x .cell) refl)
-
--- The first live node
-
 pub pairs-from-live : (row : List Node) → pairsIn row ≡ pairsIn (fromLive row)
 pairs-from-live row = ap pairsIn (sym (row-split row)) ∙ pairs-past (deadFront row) (fromLive row) (deadFront-dead row)
 
@@ -190,68 +238,3 @@ pairs-empty row e = pairs-from-live row ∙ ap pairsIn e
 
 pub pairs-first : (row : List Node) (x : Node) (later : List Node) → fromLive row ≡ x ∷ later → pairsIn row ≡ pair x ∷ pairsIn later
 pairs-first row x later e = pairs-from-live row ∙ ap pairsIn e ∙ pairs-live x later (fromLive-live row x later e)
-
--- Kept by a sweep
-
-pub kept-dead : (row : List Node) → keptFrom [] (keysIn row) ≡ keysIn (lastAlone row)
-unfolding keptFrom lastAlone
-kept-dead [] = refl
-kept-dead (x ∷ []) = refl
-kept-dead (x ∷ y ∷ row) = kept-dead (y ∷ row)
-
-pub kept-live : (pairs : List Pair) (front : List Node) (x : Node) (later : List Node) → All (λ y. y .key < x .key) front → All (λ y. x .key < y .key) later →
-    keptFrom (pair x ∷ pairs) (keysIn (front ++ (x ∷ later))) ≡ keysIn (lastAlone front ++ (x ∷ later))
-unfolding keptFrom lastAlone
-kept-live pairs [] x [] smaller larger = refl
-kept-live pairs [] x (y ∷ later) smaller larger = rw (le-ltb (y .key) (x .key) (let h = larger .0 in omega arith)) refl
-kept-live pairs (a ∷ []) x later smaller larger = rw (le-ltb (x .key) (x .key) (omega arith)) refl
-kept-live pairs (a ∷ b ∷ front) x later smaller larger =
-    rw (lt-ltb (b .key) (x .key) (smaller .1 .0)) (kept-live pairs (b ∷ front) x later (smaller .1) larger)
-
-pub kept-keys : (row : List Node) → Asc 0 row → keptFrom (pairsIn row) (keysIn row) ≡ keysIn (keptBy row)
-kept-keys row a = at (fromLive row) refl
-  where
-    front : List Node
-    front = deadFront row
-
-    at : (rest : List Node) → fromLive row ≡ rest → keptFrom (pairsIn row) (keysIn row) ≡ keysIn (lastAlone front ++ fromLive row)
-    at [] e =
-        let all : row ≡ front = sym (row-split row) ∙ ap (λ r. front ++ r) e ∙ append-nil front in
-        ap₂ keptFrom (pairs-empty row e) (ap keysIn all)
-        ∙ kept-dead front
-        ∙ ap keysIn (sym (append-nil (lastAlone front)))
-        ∙ ap (λ r. keysIn (lastAlone front ++ r)) (sym e)
-    at (x ∷ later) e =
-        let split = live-split row x later e in
-        let up : Asc 0 (front ++ (x ∷ later)) = subst (Asc 0) split a in
-        ap₂ keptFrom (pairs-first row x later e) (ap keysIn split)
-        ∙ kept-live (pairsIn later) front x later (asc-smaller 0 front x later up) (asc-larger 0 front x later up)
-        ∙ ap (λ r. keysIn (lastAlone front ++ r)) (sym e)
-
-pub kept-pairs : (row : List Node) → pairsIn (keptBy row) ≡ pairsIn row
-kept-pairs row =
-    pairs-past (lastAlone (deadFront row)) (fromLive row)
-    (all-right (λ x. x .live ≡ false) (dropLast (deadFront row)) (lastAlone (deadFront row))
-    (subst (All (λ x. x .live ≡ false)) (sym (last-split (deadFront row))) (deadFront-dead row)))
-    ∙ sym (pairs-from-live row)
-
--- Put in its place
-
--- a key stands no more after a change of nodes that keeps keys than before
-pub absent-changed : (f : Node → Node) → Keeping f → (key : ℕ) (row : List Node) → nodeAt key row ≡ none → nodeAt key (map f row) ≡ none
-absent-changed f k key row e =
-    at (nodeAt key (map f row)) (sym (key-stands key (map f row)) ∙ ap (hasKey key) (keys-changed f k row) ∙ key-stands key row ∙ ap isThere e)
-  where
-    at : (o : Option Node) → isThere o ≡ false → o ≡ none
-    at none h = refl
-    at (some x) h = absurd (false≢true (sym h))
-
-pub put-pairs : (x : Node) (row : List Node) → Asc 0 row → nodeAt (x .key) row ≡ none → x .live ≡ true → pairsIn (put x row) ≡ putPair (pair x) (pairsIn row)
-put-pairs x row a e live =
-    let g = gap (x .key) 0 row a e in
-    ap pairsIn (put-gap x row g) ∙ pairs-put (g .pre) x (g .post) (g .below) (g .above) live ∙ ap (λ r. putPair (pair x) (pairsIn r)) (sym (g .splits))
-
-pub put-keys : (x : Node) (row : List Node) → Asc 0 row → nodeAt (x .key) row ≡ none → keysIn (put x row) ≡ putKey (x .key) (keysIn row)
-put-keys x row a e =
-    let g = gap (x .key) 0 row a e in
-    ap keysIn (put-gap x row g) ∙ keys-put (g .pre) x (g .post) (g .below) (g .above) ∙ ap (λ r. putKey (x .key) (keysIn r)) (sym (g .splits))

@@ -1,0 +1,2 @@
+-- The book: what an ordered map would do.
+pub mod Book

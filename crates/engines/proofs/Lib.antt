@@ -1,0 +1,2 @@
+-- The two engines keep one book, and so they answer alike.
+pub mod Promises
