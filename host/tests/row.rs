@@ -95,6 +95,64 @@ fn no_looked(refusal: Option<Refusal>) {
     }
 }
 
+/// The functions of both archives, whose answers have the key too.
+mod sys {
+    #[repr(C)]
+    #[derive(Clone, Copy, Debug, PartialEq)]
+    pub struct Answer {
+        pub refusal: u32,
+        pub key: u32,
+        pub value: u32,
+        pub count: u32,
+    }
+
+    extern "C" {
+        pub fn mdlist_insert(list: *mut u32, len: usize, key: u32, value: u32) -> Answer;
+        pub fn mdlist_find(list: *const u32, len: usize, key: u32) -> Answer;
+        pub fn mdlist_finish(list: *mut u32, len: usize, key: u32) -> Answer;
+        pub fn mdlist_take(list: *mut u32, len: usize) -> Answer;
+        pub fn mdlist_sweep(list: *mut u32, len: usize) -> Answer;
+        pub fn row_insert(row: *mut u32, len: usize, key: u32, value: u32) -> Answer;
+        pub fn row_find(row: *const u32, len: usize, key: u32) -> Answer;
+        pub fn row_finish(row: *const u32, len: usize, key: u32) -> Answer;
+        pub fn row_take(row: *mut u32, len: usize) -> Answer;
+        pub fn row_sweep(row: *mut u32, len: usize) -> Answer;
+    }
+}
+
+/// All four numbers of a call on both, the list's with 0 where it counts cells looked at or links moved.
+fn four_numbers(list: &mut [u32], row: &mut [u32], made: Made) -> [sys::Answer; 2] {
+    let ((list, n), (row, m)) = ((list.as_mut_ptr(), list.len()), (row.as_mut_ptr(), row.len()));
+    // SAFETY: each pointer goes with the length of its slice, and no function keeps it
+    let [by_list, by_row] = unsafe {
+        match made {
+            Made::Insert(key, value) => [sys::mdlist_insert(list, n, key, value), sys::row_insert(row, m, key, value)],
+            Made::Find(key) => [sys::mdlist_find(list, n, key), sys::row_find(row, m, key)],
+            Made::Finish(key) => [sys::mdlist_finish(list, n, key), sys::row_finish(row, m, key)],
+            Made::Take => [sys::mdlist_take(list, n), sys::row_take(row, m)],
+            Made::Sweep => [sys::mdlist_sweep(list, n), sys::row_sweep(row, m)],
+        }
+    };
+    let exempt = !matches!(made, Made::Take | Made::Sweep);
+    [if exempt { sys::Answer { count: 0, ..by_list } } else { by_list }, by_row]
+}
+
+#[test]
+fn same_four_numbers_as_the_list() {
+    let mut dice = Dice(777);
+    for _ in 0..100 {
+        let (d, c) = (2 + dice.below(15) as u32, 3 + dice.below(40) as u32);
+        let k = [2, 15, 1_000, u32::MAX][dice.below(4) as usize];
+        let (mut list, mut row) = (fresh(d, k, c), fresh_row(d, k, c));
+        for number in 0..1_000 {
+            let (mood, key) = (number / 50 % 3, some_key(&mut dice, k, 2 * c));
+            let made = some_call(&mut dice, mood, key);
+            let [by_list, by_row] = four_numbers(&mut list, &mut row, made);
+            assert_eq!(by_row, by_list, "call {number}, {made:?}, D = {d}, K = {k}, C = {c}");
+        }
+    }
+}
+
 /// A key at random: small keys are drawn often enough to meet standing ones.
 fn some_key(dice: &mut Dice, k: u32, near: u32) -> u32 {
     match dice.below(12) {
