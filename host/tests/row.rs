@@ -333,9 +333,11 @@ fn rows() -> Vec<Vec<u32>> {
     rows
 }
 
+type Call = fn(&mut [u32]) -> Result<(), Refusal>;
+
 /// The refusal of each of the five calls. Those that are refused alter nothing, and those that are not leave a row.
 fn refusals(words: &[u32]) -> [u32; 5] {
-    let calls: [fn(&mut [u32]) -> Result<(), Refusal>; 5] = [
+    let calls: [Call; 5] = [
         |words| row::insert(words, 7, 70).map(|_| ()),
         |words| row::find(words, 6).map(|_| ()),
         |words| row::finish(words, 9).map(|_| ()),
