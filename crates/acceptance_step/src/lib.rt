@@ -186,7 +186,7 @@ fn sizes_for(kind: Kind, sizes: Sizes) -> Sizes
 }
 
 // Makes one of the five operations on the row.
-fn row_operation(keys: &mut [u32], operation: Operation) -> Answer
+pub fn row_operation(keys: &mut [u32], operation: Operation) -> Answer
     ensures { λ r. ⌜ Meets (rowOut operation (now (keys .entry))) r (now (keys .exit)) ⌝ }
 {
     match operation {

@@ -30,8 +30,8 @@ returns-2 c =
     let a = c .before .before .before .before .before .before .args in
     let (range, is) = checked-in (a .d) (a .k) (a .c) (c .before .before .before .before .before .new .ensures) (c .before .before .before .s .given .1) in
     rw range (
-    c .before .length .ensures ∙ ap (λ (t : Settings). lengthOf (t .dimensions) (t .cells)) is,
-    c .row-length .ensures ∙ ap (λ (t : Settings). rowLength (t .cells)) is,
+      c .before .length .ensures ∙ ap (λ (t : Settings). lengthOf (t .dimensions) (t .cells)) is,
+      c .row-length .ensures ∙ ap (λ (t : Settings). rowLength (t .cells)) is,
     )
 
 pub set-up-sizes-spec : {M : Type 1} → statement M
