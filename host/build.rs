@@ -1,11 +1,11 @@
-//! Links the archives that `rt staticlib mdlist` and `rt staticlib counted` write: from the folder that the environment variable
-//! `MDLIST_LIB_DIR` names, or else from this repository's target folder.
+//! Links the archives that `rt staticlib mdlist`, `rt staticlib counted` and `rt staticlib row` write: from the folder that the environment
+//! variable `MDLIST_LIB_DIR` names, or else from this repository's target folder.
 
 use std::env;
 use std::path::PathBuf;
 
 const FOLDER: &str = "MDLIST_LIB_DIR";
-const ARCHIVES: [&str; 2] = ["mdlist", "counted"];
+const ARCHIVES: [&str; 3] = ["mdlist", "counted", "row"];
 
 fn folder() -> PathBuf {
     match env::var_os(FOLDER) {

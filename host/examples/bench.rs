@@ -10,7 +10,9 @@
 //!
 //! Then calls with a class record beside the same calls on the list alone, and the question about one class.
 //!
-//! Names as arguments (`operations`, `keys`, `batches`, `files`, `cells`, `classes`) ask for those tables alone.
+//! Then calls on a plain row beside the same calls on a list of the same keys.
+//!
+//! Names as arguments (`operations`, `keys`, `batches`, `files`, `cells`, `classes`, `rows`) ask for those tables alone.
 
 use mdlist_host::*;
 use std::cell::RefCell;
@@ -394,15 +396,80 @@ fn with_a_record() {
     }
 }
 
+/// The words of a row in which these keys are live, and the first of them are taken: docs/REFERENCE.md, *The plain row*. As many inserts would
+/// each move the keys above.
+fn row_of(d: u32, c: u32, mut keys: Vec<u32>, taken: usize) -> Vec<u32> {
+    keys.sort_unstable();
+    let mut words = vec![0; row_words(c)];
+    let position = if taken == 0 { 0 } else { keys[taken - 1] };
+    words[..5].copy_from_slice(&[d, u32::MAX, c, keys.len() as u32, position]);
+    for (i, (key, place)) in keys.iter().zip(words[5..].chunks_exact_mut(3)).enumerate() {
+        place.copy_from_slice(&if i < taken { [*key, 0, 2] } else { [*key, *key, 1] });
+    }
+    words
+}
+
+/// The lower quartiles of a call on the list and on the row, made in turns.
+fn on_both(rounds: usize, [list, row]: [&[u32]; 2], on_list: impl Fn(&mut [u32]), on_row: impl Fn(&mut [u32])) -> [f64; 2] {
+    let (mut copy_of_list, mut copy_of_row) = (list.to_vec(), row.to_vec());
+    let mut times = [vec![], vec![]];
+    for _ in 0..rounds {
+        copy_of_list.copy_from_slice(list);
+        let start = Instant::now();
+        on_list(&mut copy_of_list);
+        times[0].push(start.elapsed().as_nanos() as f64);
+        copy_of_row.copy_from_slice(row);
+        let start = Instant::now();
+        on_row(&mut copy_of_row);
+        times[1].push(start.elapsed().as_nanos() as f64);
+    }
+    times.map(|mut times| {
+        times.sort_by(f64::total_cmp);
+        times[rounds / 4]
+    })
+}
+
+fn on_rows() {
+    println!("calls on a plain row beside the same on a list, K 4294967295, random keys: ns, made in turns, lower quartiles");
+    println!("{:>3} {:>7} {:>7} {:>8} {:>8}  {:<8} {:>10} {:>10} {:>6}", "D", "C", "keys", "list", "row", "call", "list", "row", "x");
+    for (d, c, rounds) in [(8, 512, ROUNDS), (8, 4_096, ROUNDS), (16, 4_096, ROUNDS), (8, MOST_CELLS, 21)] {
+        let mut seen = BTreeSet::new();
+        let all: Vec<u32> = numbers(7, u32::MAX).filter(|key| seen.insert(*key)).take(c as usize).collect();
+        let mut empty = vec![0; words_needed(d, c)];
+        set_up(d, u32::MAX, c, &mut empty).expect("settings in range");
+        // an insert into a full list takes its last cell, so there is one key less before it
+        for keys in [c as usize / 2, c as usize - 2] {
+            let inserts: Vec<Call> = all[..keys].iter().map(|key| Call::insert(*key, *key)).collect();
+            let list = after(&empty, &inserts);
+            let list_taken = after(&list, &vec![Call::take(); keys / 2]);
+            let (row, row_taken) = (row_of(d, c, all[..keys].to_vec(), 0), row_of(d, c, all[..keys].to_vec(), keys / 2));
+            let (live, taken) = ([&list[..], &row], [&list_taken[..], &row_taken]);
+            let (found, new) = (all[keys / 2], all[keys]);
+            let figures = [
+                ("set up", on_both(rounds, live, |l| assert!(set_up(d, 9, c, l).is_ok()), |r| assert!(row::set_up(d, 9, c, r).is_ok()))),
+                ("find", on_both(rounds, live, |l| assert!(find(l, found).is_ok()), |r| assert!(row::find(r, found).is_ok()))),
+                ("insert", on_both(rounds, live, |l| assert!(insert(l, new, 1).is_ok()), |r| assert!(row::insert(r, new, 1).is_ok()))),
+                ("take", on_both(rounds, taken, |l| assert!(take(l).is_ok()), |r| assert!(row::take(r).is_ok()))),
+                ("sweep", on_both(rounds, taken, |l| assert!(sweep(l).is_ok()), |r| assert!(row::sweep(r).is_ok()))),
+            ];
+            for (call, [on_list, on_row]) in figures {
+                let (l, r) = (list.len(), row.len());
+                println!("{d:>3} {c:>7} {keys:>7} {l:>8} {r:>8}  {call:<8} {on_list:>10.0} {on_row:>10.0} {:>6.2}", on_row / on_list);
+            }
+        }
+    }
+}
+
 fn main() {
     let wanted: Vec<String> = env::args().skip(1).collect();
-    let tables: [(&str, fn()); 6] = [
+    let tables: [(&str, fn()); 7] = [
         ("operations", each_operation),
         ("keys", find_by_standing_keys),
         ("batches", many_calls),
         ("files", files),
         ("cells", by_the_cells),
         ("classes", with_a_record),
+        ("rows", on_rows),
     ];
     for (name, print_table) in tables {
         if wanted.is_empty() || wanted.iter().any(|wanted| wanted == name) {

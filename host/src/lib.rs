@@ -97,6 +97,19 @@
 //! assert_eq!(counted::class(&classes, 1)?.count, 1);
 //! # Ok::<(), Refusal>(())
 //! ```
+//!
+//! For acceptance there is a second engine, a plain [`Row`] of keys in words of its own, which is proved to answer as the list does:
+//!
+//! ```
+//! use mdlist_host::{row_words, Refusal, Row};
+//!
+//! let mut words = [0u32; row_words(8)];
+//! let mut row = Row::set_up(2, 15, 8, &mut words)?;
+//! row.insert(6, 60)?;
+//! row.insert(5, 50)?;
+//! assert_eq!(row.take()?.value, 50);
+//! # Ok::<(), Refusal>(())
+//! ```
 #![no_std]
 #![deny(missing_docs)]
 
@@ -104,8 +117,10 @@ use core::fmt;
 use core::mem::{align_of, size_of, size_of_val};
 
 pub mod counted;
+pub mod row;
 
 pub use counted::{Counted, InClass, CLASS_WORDS};
+pub use row::{row_words, Row};
 
 mod sys {
     #[repr(C)]
@@ -156,20 +171,21 @@ mod sys {
 pub enum Refusal {
     /// 1, set up: D, K or C is out of range.
     OutOfRange,
-    /// 2, set up, read: the slice has not exactly [`words_needed`] words; counted set up: or the class record has not [`CLASS_WORDS`].
+    /// 2, set up, read: the slice has not exactly [`words_needed`] words, for a row [`row_words`]; counted set up: or the class record has
+    /// not [`CLASS_WORDS`].
     WrongLength,
-    /// 3: the words are not a list.
+    /// 3: the words are not a list, or for a call on a row not a row.
     NotAList,
     /// 4: the key is 0 or above K; the question about a class: it is above 15.
     BadKey,
     /// 5, insert, record: the key is live already.
     KeyLive {
-        /// How many cells the search looked at.
+        /// How many cells the search looked at, 0 on a row.
         looked: u32,
     },
     /// 6, insert, record: the key does not stand and there is no free cell; a sweep may free some.
     NoFreeCell {
-        /// How many cells the search looked at.
+        /// How many cells the search looked at, 0 on a row.
         looked: u32,
     },
     /// 7, take: nothing is live.
@@ -179,7 +195,7 @@ pub enum Refusal {
     },
     /// 8, find: the key is not live; finish: the key does not stand.
     NotThere {
-        /// How many cells a find looked at; 0 for a finish.
+        /// How many cells a find looked at; 0 for a finish, and on a row.
         looked: u32,
     },
     /// 11, read: the bytes are no file; one may be cut, torn or altered.
@@ -233,7 +249,7 @@ impl fmt::Display for Refusal {
         match self {
             Refusal::OutOfRange => f.write_str("D, K or C is out of range"),
             Refusal::WrongLength => f.write_str("the slice has not the exact length"),
-            Refusal::NotAList => f.write_str("the words are not a list"),
+            Refusal::NotAList => f.write_str("the words are not a list, or not a row"),
             Refusal::BadKey => f.write_str("the key is 0 or above K, or the class above 15"),
             Refusal::KeyLive { looked } => write!(f, "the key is live already; cells looked at: {looked}"),
             Refusal::NoFreeCell { looked } => write!(f, "no cell is free; cells looked at: {looked}"),
@@ -263,7 +279,7 @@ impl From<Refusal> for u32 {
 pub struct Found {
     /// The value that the key was last inserted with.
     pub value: u32,
-    /// How many cells the search looked at.
+    /// How many cells the search looked at, 0 on a row.
     pub looked: u32,
 }
 

@@ -157,7 +157,7 @@ fn refusals_as_texts() {
     let shown = [
         (set_up(2, 0, 8, short).unwrap_err(), "refusal 1: D, K or C is out of range"),
         (set_up(2, 15, 8, short).unwrap_err(), "refusal 2: the slice has not the exact length"),
-        (sweep(short).unwrap_err(), "refusal 3: the words are not a list"),
+        (sweep(short).unwrap_err(), "refusal 3: the words are not a list, or not a row"),
         (find(&l, 16).unwrap_err(), "refusal 4: the key is 0 or above K, or the class above 15"),
         (insert(&mut l, 7, 0).unwrap_err(), "refusal 5: the key is live already; cells looked at: 1"),
         (insert(&mut l, 5, 0).unwrap_err(), "refusal 6: no cell is free; cells looked at: 1"),

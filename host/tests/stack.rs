@@ -1,5 +1,5 @@
-//! The stack of every exported call, alone and with a class record: each is made on 8 KiB of its own, painted before and read afterwards, and
-//! may need 2 KiB at most. The table of the bytes is shown by `host/test --test stack -- --nocapture`.
+//! The stack of every exported call, alone, with a class record and on a plain row: each is made on 8 KiB of its own, painted before and read
+//! afterwards, and may need 2 KiB at most. The table of the bytes is shown by `host/test --test stack -- --nocapture`.
 #![cfg(target_arch = "x86_64")]
 
 mod common;
@@ -52,6 +52,12 @@ mod sys {
         pub fn counted_write();
         pub fn counted_read();
         pub fn counted_class();
+        pub fn row_set_up();
+        pub fn row_insert();
+        pub fn row_find();
+        pub fn row_finish();
+        pub fn row_take();
+        pub fn row_sweep();
     }
 }
 
@@ -220,6 +226,25 @@ impl Measure {
         let (refusal, bytes) = measured(&mut self.stack, &mut list.to_vec(), classes.as_deref_mut(), asked);
         assert_eq!(refusal, expected, "{name}, D = {d}, C = {c}");
         self.made.push((name.to_string(), [d, c], bytes));
+    }
+
+    /// Makes a call on a copy of a plain row.
+    fn make_on_row(&mut self, name: &str, row: &[u32], asked: Asked<'_>, expected: u32) {
+        let ([d, c], mut copy) = ([row[0], row[2]], row.to_vec());
+        let lent = [copy.as_mut_ptr() as usize, copy.len()];
+        let (function, given): (unsafe extern "C" fn(), [usize; 8]) = match asked {
+            Asked::SetUp(d, c) => (sys::row_set_up, arguments(&[&[d as usize, K as usize, c as usize], &lent])),
+            Asked::Insert(key) => (sys::row_insert, arguments(&[&lent, &[key as usize, 1]])),
+            Asked::Find(key) => (sys::row_find, arguments(&[&lent, &[key as usize]])),
+            Asked::Finish(key) => (sys::row_finish, arguments(&[&lent, &[key as usize]])),
+            Asked::Take => (sys::row_take, arguments(&[&lent])),
+            Asked::Sweep => (sys::row_sweep, arguments(&[&lent])),
+            _ => unreachable!("a row has six calls"),
+        };
+        // SAFETY: as in `measured`; the pointer goes with the length of the copy
+        let (result, bytes) = unsafe { self.stack.call(function, given) };
+        assert_eq!(result as u32, expected, "row {name}, D = {d}, C = {c}");
+        self.made.push((format!("row {name}"), [d, c], bytes));
     }
 
     /// Makes calls that the record refuses, each on a copy of the list, and the question about a class.
@@ -425,6 +450,46 @@ impl Lists {
     }
 }
 
+/// The words of a plain row with the keys 2, 4, 6 and so on, the first of them dead: docs/REFERENCE.md, *The plain row*.
+fn row_of([d, c]: [u32; 2], keys: u32, dead: u32) -> Vec<u32> {
+    let mut row = vec![0; row_words(c)];
+    row[..5].copy_from_slice(&[d, K, c, keys, 2 * dead]);
+    for (place, words) in (1..=keys).zip(row[5..].chunks_exact_mut(3)) {
+        words.copy_from_slice(&if place <= dead { [2 * place, 0, 2] } else { [2 * place, place, 1] });
+    }
+    row
+}
+
+/// Makes every call on rows: empty, with a free place, full, and each of those two with half of the keys taken.
+fn make_all_on_rows(measure: &mut Measure, sizes @ [d, c]: [u32; 2]) {
+    let (empty, room, full) = (row_of(sizes, 0, 0), row_of(sizes, c - 2, 0), row_of(sizes, c - 1, 0));
+    let (room_taken, full_taken) = (row_of(sizes, c - 2, c / 2), row_of(sizes, c - 1, c / 2));
+    // a key before all, between, and behind all
+    for key in [1, c + 1, 3 * c] {
+        for (row, refusal) in [(&empty, 0), (&room, 0), (&room_taken, 0), (&full, 6), (&full_taken, 6)] {
+            measure.make_on_row("insert, new key", row, Asked::Insert(key), refusal);
+            measure.make_on_row("find", row, Asked::Find(key), 8);
+            measure.make_on_row("finish", row, Asked::Finish(key), 8);
+        }
+    }
+    let greatest = 2 * (c - 2);
+    for row in [&room, &room_taken, &full, &full_taken] {
+        measure.make_on_row("set_up", row, Asked::SetUp(d, c), 0);
+        measure.make_on_row("insert, live key", row, Asked::Insert(greatest), 5);
+        measure.make_on_row("find", row, Asked::Find(greatest), 0);
+        measure.make_on_row("finish", row, Asked::Finish(greatest), 0);
+        measure.make_on_row("take", row, Asked::Take, 0);
+        measure.make_on_row("sweep", row, Asked::Sweep, 0);
+        // the last word is that of an unused place, or a mark
+        let mut no_row = row.to_vec();
+        no_row[row_words(c) - 1] = 3;
+        measure.make_on_row("find, words that are no row", &no_row, Asked::Find(greatest), 3);
+    }
+    measure.make_on_row("insert, dead key", &full_taken, Asked::Insert(2 * (c / 2)), 0);
+    measure.make_on_row("take, nothing live", &row_of(sizes, c - 1, c - 1), Asked::Take, 7);
+    measure.make_on_row("sweep", &row_of(sizes, c - 1, c - 1), Asked::Sweep, 0);
+}
+
 #[test]
 fn every_call_needs_at_most_2_kib() {
     let mut measure = Measure { stack: Stack::new(), made: Vec::new() };
@@ -445,6 +510,10 @@ fn every_call_needs_at_most_2_kib() {
     }
     let above_new = new_key() + 1;
     Lists::of([2, MOST_CELLS], (above_new..above_new + MOST_CELLS - 1).rev().collect()).make_all(&mut measure);
+    for d in DIMENSIONS {
+        make_all_on_rows(&mut measure, [d, C]);
+        make_all_on_rows(&mut measure, [d, MOST_CELLS]);
+    }
     let table = measure.table();
     println!("{table}");
     assert!(measure.made.iter().all(|made| made.2 <= MOST), "a call needs more than {MOST} bytes:\n{table}");

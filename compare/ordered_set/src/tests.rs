@@ -3,6 +3,7 @@
 mod classes;
 mod files;
 mod records;
+mod rows;
 mod runs;
 
 use crate::generators::edges::{FOURTEEN_STEPS, LATE_BEFORE_ALL, LATE_NOTE};

@@ -66,7 +66,8 @@ module _ (D : ℕ) (k : Book) where
   front-length i h = omega (arith, keys-length (take i (k .row)), length-take-le i (k .row) h)
 
   -- a key in the place of one that stands
-  pub key-put : (i : ℕ) (x : StandingKey) → i < length (k .row) → sets (rowWords D k) (wordOf i) (keyWords x) ≡ rowWords D (withRow k (set (k .row) i x) (k .position))
+  pub key-put :
+      (i : ℕ) (x : StandingKey) → i < length (k .row) → sets (rowWords D k) (wordOf i) (keyWords x) ≡ rowWords D (withRow k (set (k .row) i x) (k .position))
   unfolding rowWords flatMap
   key-put i x h =
       let y = getD (k .row) i x in
@@ -75,7 +76,8 @@ module _ (D : ℕ) (k : Book) where
       let split : rowWords D k ≡ before ++ (keyWords y ++ later) =
       sym (take-append-drop (wordOf i) (rowWords D k))
       ∙ ap (λ (l : List ℕ). l ++ drop (wordOf i) (rowWords D k)) (words-take D k i (omega arith))
-      ∙ ap (λ (l : List ℕ). before ++ l) (words-drop D k i (omega arith) ∙ ap (λ (r : List StandingKey). flatMap keyWords r ++ unused k) (drop-cons (k .row) i x h)) in
+      ∙ ap (λ (l : List ℕ). before ++ l)
+      (words-drop D k i (omega arith) ∙ ap (λ (r : List StandingKey). flatMap keyWords r ++ unused k) (drop-cons (k .row) i x h)) in
       let stored : sets (rowWords D k) (wordOf i) (keyWords x) ≡ before ++ (keyWords x ++ later) =
       rw split (three-stored before (keyWords y) later (wordOf i) (x .key) (x .value) (cond (x .live) 1 2) (front-length i (omega arith)) refl) in
       let keys : flatMap keyWords (set (k .row) i x) ++ unused k ≡ flatMap keyWords (take i (k .row)) ++ (keyWords x ++ later) =
@@ -174,7 +176,9 @@ module _ (ws : List ℕ) (e : isRow ws ≡ true) where
       ≡ rowWords (getD ws 0 0) (withRow (bookIn ws) (drop n (bookIn ws .row)) (bookIn ws .position))
   row-freed n h end is =
       let left : length (bookIn ws .row) - n ≡ getD ws 3 0 - n = ap (λ m. m - n) (read-length ws) in
-      let done = keys-freed (getD ws 0 0) (bookIn ws) n (omega (arith, read-length ws)) (held (getD ws 0 0) (bookIn ws) (row-holds ws e) .room) end (omega (arith, read-length ws)) in
+      let done =
+      keys-freed (getD ws 0 0) (bookIn ws) n (omega (arith, read-length ws)) (held (getD ws 0 0) (bookIn ws) (row-holds ws e) .room) end
+      (omega (arith, read-length ws)) in
       ap (λ (l : List ℕ). set (putMid 5 (end - 5) l (drop (3 * n) (take (end - 5) (drop 5 l)) ++ replicate (3 * n) 0)) 3 (getD ws 3 0 - n)) (row-written ws e)
       ∙ (rw left at done)
 
@@ -185,7 +189,9 @@ module _ (ws : List ℕ) (e : isRow ws ≡ true) where
   unfolding bookIn
   row-added i key value h room start end is to =
       let more : length (bookIn ws .row) + 1 ≡ getD ws 3 0 + 1 = ap (λ m. m + 1) (read-length ws) in
-      let done = key-added (getD ws 0 0) (bookIn ws) i key value (omega (arith, read-length ws)) (omega (arith, read-length ws)) start end is (omega (arith, read-length ws)) in
+      let done =
+      key-added (getD ws 0 0) (bookIn ws) i key value (omega (arith, read-length ws)) (omega (arith, read-length ws)) start end is
+      (omega (arith, read-length ws)) in
       ap (λ (l : List ℕ). set (sets (opened start (end - start) l) (wordOf i) (key ∷ value ∷ 1 ∷ [])) 3 (getD ws 3 0 + 1)) (row-written ws e)
       ∙ ap (λ w. set (sets (opened start (end - start) (rowWords (getD ws 0 0) (bookIn ws))) w (key ∷ value ∷ 1 ∷ [])) 3 (getD ws 3 0 + 1)) (sym is)
       ∙ (rw more at done)

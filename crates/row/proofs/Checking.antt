@@ -31,8 +31,12 @@ pub record Held (D : ℕ) (k : Book) : Type 0 where
 pub held : (D : ℕ) (k : Book) → holds D k ≡ true → Held D k
 unfolding holds
 held D k e =
-    let p1 = both (inRange D (k .largest) (k .cells) && ltb (length (k .row)) (k .cells) && ascending 0 (k .largest) (k .row) && atPosition (k .position) (k .row)) (every (rightMark (k .position)) (k .row)) e in
-    let p2 = both (inRange D (k .largest) (k .cells) && ltb (length (k .row)) (k .cells) && ascending 0 (k .largest) (k .row)) (atPosition (k .position) (k .row)) (p1 .0) in
+    let p1 =
+    both (inRange D (k .largest) (k .cells) && ltb (length (k .row)) (k .cells) && ascending 0 (k .largest) (k .row) && atPosition (k .position) (k .row))
+    (every (rightMark (k .position)) (k .row)) e in
+    let p2 =
+    both (inRange D (k .largest) (k .cells) && ltb (length (k .row)) (k .cells) && ascending 0 (k .largest) (k .row)) (atPosition (k .position) (k .row))
+    (p1 .0) in
     let p3 = both (inRange D (k .largest) (k .cells) && ltb (length (k .row)) (k .cells)) (ascending 0 (k .largest) (k .row)) (p2 .0) in
     let p4 = both (inRange D (k .largest) (k .cells)) (ltb (length (k .row)) (k .cells)) (p3 .0) in
     record { range = p4 .0; room = ltb-true (length (k .row)) (k .cells) (p4 .1); rise = p3 .1; position = p2 .1; marks = p1 .1 }
@@ -56,7 +60,8 @@ mark-written : (live : Bool) → Marked (cond live 1 2)
 mark-written true = refl
 mark-written false = refl
 
-mark-told : (mark value : ℕ) (above : Bool) → cond (eqb mark 1) above (eqb mark 2 && eqb value 0) ≡ true → (cond (eqb mark 1) above (eqb value 0) ≡ true) × Marked mark
+mark-told :
+    (mark value : ℕ) (above : Bool) → cond (eqb mark 1) above (eqb mark 2 && eqb value 0) ≡ true → (cond (eqb mark 1) above (eqb value 0) ≡ true) × Marked mark
 mark-told mark value above e = at (eqb mark 1) refl e
   where
     at : (t : Bool) → eqb mark 1 ≡ t → cond t above (eqb mark 2 && eqb value 0) ≡ true → (cond t above (eqb value 0) ≡ true) × (cond t 1 2 ≡ mark)
@@ -82,7 +87,9 @@ module _ (ws : List ℕ) where
   right-told (suc n) low i e =
       let key = getD ws (wordOf i) 0 in
       let t = both (rightKey ws low i) (rightKeys ws key (suc i) n) e in
-      let s = both (ltb low key && leb key (getD ws 1 0)) (cond (eqb (markAt ws i) 1) (ltb (getD ws 4 0) key) (eqb (markAt ws i) 2 && eqb (getD ws (wordOf i + 1) 0) 0)) (t .0) in
+      let s =
+      both (ltb low key && leb key (getD ws 1 0)) (cond (eqb (markAt ws i) 1) (ltb (getD ws 4 0) key) (eqb (markAt ws i) 2 && eqb (getD ws (wordOf i + 1) 0) 0))
+      (t .0) in
       let m = mark-told (markAt ws i) (getD ws (wordOf i + 1) 0) (ltb (getD ws 4 0) key) (s .1) in
       let more = right-told n key (suc i) (t .1) in (
         and-both (ltb low key && leb key (getD ws 1 0)) (ascending key (getD ws 1 0) (keysFrom ws (suc i) n)) (s .0) (more .0),
@@ -107,7 +114,8 @@ module _ (ws : List ℕ) where
       let s = both (rightMark (getD ws 4 0) (keyIn ws i)) (every (rightMark (getD ws 4 0)) (keysFrom ws (suc i) n)) e in
       let third = mark-kept (markAt ws i) (getD ws (wordOf i + 1) 0) (ltb (getD ws 4 0) key) (s .0) (m i (omega arith) (omega arith)) in
       and-both (rightKey ws low i) (rightKeys ws key (suc i) n)
-      (and-both (ltb low key && leb key (getD ws 1 0)) (cond (eqb (markAt ws i) 1) (ltb (getD ws 4 0) key) (eqb (markAt ws i) 2 && eqb (getD ws (wordOf i + 1) 0) 0)) (t .0) third)
+      (and-both (ltb low key && leb key (getD ws 1 0))
+      (cond (eqb (markAt ws i) 1) (ltb (getD ws 4 0) key) (eqb (markAt ws i) 2 && eqb (getD ws (wordOf i + 1) 0) 0)) (t .0) third)
       (right-kept n key (suc i) (t .1) (s .1) (λ j p q. m j (omega arith) (omega arith)))
 
   -- the words of the keys, written again

@@ -22,7 +22,8 @@ module _ (ws : List ℕ) (key : ℕ) where
       let t = both (ltb i (getD ws 3 0)) (eqb (getD ws (wordOf i) 0) key) e in
       let within = ltb-true i (getD ws 3 0) (t .0) in
       let read = read-at ws i (keyIn ws i) within in
-      place-found key (bookIn ws .row) (keyIn ws i) (omega (arith, read-length ws)) (ap (λ x. x .key) read ∙ eqb-true (getD ws (wordOf i) 0) key (t .1)) ∙ ap (λ x. some x) read
+      place-found key (bookIn ws .row) (keyIn ws i) (omega (arith, read-length ws)) (ap (λ x. x .key) read ∙ eqb-true (getD ws (wordOf i) 0) key (t .1)) ∙ ap
+      (λ x. some x) read
 
   pub found-nowhere :
       (K : ℕ) → ascending 0 K (bookIn ws .row) ≡ true → standsAt ws (placeOf key (bookIn ws .row)) key ≡ false → standingAt key (bookIn ws .row) ≡ none
@@ -32,7 +33,8 @@ module _ (ws : List ℕ) (key : ℕ) where
       (λ h is.
       let within : i < getD ws 3 0 = omega (arith, read-length ws) in
       let key-is : getD ws (wordOf i) 0 ≡ key = sym (ap (λ x. x .key) (read-at ws i (keyIn ws i) within)) ∙ is in
-      false≢true (sym e ∙ and-both (ltb i (getD ws 3 0)) (eqb (getD ws (wordOf i) 0) key) (lt-ltb i (getD ws 3 0) within) (eq-eqb (getD ws (wordOf i) 0) key key-is)))
+      false≢true (sym e ∙ and-both (ltb i (getD ws 3 0)) (eqb (getD ws (wordOf i) 0) key) (lt-ltb i (getD ws 3 0) within)
+      (eq-eqb (getD ws (wordOf i) 0) key key-is)))
 
   pub stands-test : (K : ℕ) → ascending 0 K (bookIn ws .row) ≡ true → standsAt ws (placeOf key (bookIn ws .row)) key ≡ stands key (bookIn ws .row)
   stands-test K rise = at (standsAt ws (placeOf key (bookIn ws .row)) key) refl

@@ -102,7 +102,8 @@ module _ (ws : List ℕ) (e : isRow ws ≡ true) where
     none-found : standsAt ws i key ≡ false → standingAt key (bookIn ws .row) ≡ none
     none-found other = found-nowhere ws key (getD ws 1 0) rise (rw is at other)
 
-    there-marked : standsAt ws i key ≡ true → (value : ℕ) (live : Bool) → marked key value live (bookIn ws .row) ≡ set (bookIn ws .row) i (standingKey key value live)
+    there-marked :
+        standsAt ws i key ≡ true → (value : ℕ) (live : Bool) → marked key value live (bookIn ws .row) ≡ set (bookIn ws .row) i (standingKey key value live)
     there-marked there value live =
         let t = both (ltb i (getD ws 3 0)) (eqb (getD ws (wordOf i) 0) key) there in
         let within = there-within ws i key there in

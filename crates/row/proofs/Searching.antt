@@ -200,7 +200,8 @@ between-up-to bottom low K (x ∷ row) (suc i) z a h =
     rw (le-leb (x .key) (getD row i z .key) (omega arith)) (at (ltb low (x .key)) (between-up-to (x .key) low K row i z (t .1 .1) (omega arith)))
   where
     at : (t : Bool) → standingBetween low (getD row i z .key) row ≡ standingAbove low (take (suc i) row) →
-        length (cond (t && true) (x ∷ those (λ y. ltb low (y .key) && leb (y .key) (getD row i z .key)) row) (those (λ y. ltb low (y .key) && leb (y .key) (getD row i z .key)) row))
+        length (cond (t && true) (x ∷ those (λ y. ltb low (y .key) && leb (y .key) (getD row i z .key)) row)
+        (those (λ y. ltb low (y .key) && leb (y .key) (getD row i z .key)) row))
         ≡ length (cond t (x ∷ those (λ y. ltb low (y .key)) (take (suc i) row)) (those (λ y. ltb low (y .key)) (take (suc i) row)))
     at true more = ap suc more
     at false more = more

@@ -145,7 +145,8 @@ marked-length key value live row = length-map row (λ x. cond (eqb (x .key) key)
 -- each mark is right with another position, and the key that is marked is right itself
 marked-right :
     (key value : ℕ) (live : Bool) (p q : ℕ) (row : List StandingKey) → rightMark q (standingKey key value live) ≡ true →
-    All (λ y. rightMark p y ≡ true) row → All (λ y. (y .key ≡ key → ⊥) → y .live ≡ true → q < y .key) row → All (λ y. rightMark q y ≡ true) (marked key value live row)
+    All (λ y. rightMark p y ≡ true) row → All (λ y. (y .key ≡ key → ⊥) → y .live ≡ true → q < y .key) row → All (λ y. rightMark q y ≡ true)
+    (marked key value live row)
 unfolding marked
 marked-right key value live p q row right old above =
     all-mapped (λ y. rightMark q y ≡ true) (λ x. cond (eqb (x .key) key) (standingKey key value live) x) row
@@ -169,12 +170,15 @@ unfolding placeOf
 place-before key [] j z h = absurd (omega arith)
 place-before key (x ∷ row) j z h = at (leb key (x .key)) refl j h (λ l. place-before key row l z)
   where
-    at : (t : Bool) → leb key (x .key) ≡ t → (l : ℕ) → l < cond t 0 (suc (placeOf key row)) → ((m : ℕ) → m < placeOf key row → getD row m z .key < key) → getD (x ∷ row) l z .key < key
+    at :
+        (t : Bool) → leb key (x .key) ≡ t → (l : ℕ) → l < cond t 0 (suc (placeOf key row)) → ((m : ℕ) → m < placeOf key row → getD row m z .key < key) →
+        getD (x ∷ row) l z .key < key
     at true e l h more = absurd (omega arith)
     at false e zero h more = leb-false key (x .key) e
     at false e (suc l) h more = more l (omega arith)
 
-below-place : (key : ℕ) (row : List StandingKey) → 0 < key → (i : ℕ) → i ≤ placeOf key row → (atPosition (lastIn (take i row)) row ≡ true) × (lastIn (take i row) < key)
+below-place :
+    (key : ℕ) (row : List StandingKey) → 0 < key → (i : ℕ) → i ≤ placeOf key row → (atPosition (lastIn (take i row)) row ≡ true) × (lastIn (take i row) < key)
 unfolding lastIn
 below-place key row positive zero h = (refl, positive)
 below-place key row positive (suc j) h =
@@ -196,7 +200,8 @@ first-live low K (y ∷ row) x later a e =
   where
     at : (t : Bool) → y .live ≡ t → cond t (y ∷ row) (liveOn row) ≡ x ∷ later → All (λ w. y .key < w .key) row →
         (liveOn row ≡ x ∷ later → (stands (x .key) row ≡ true) × All (λ w. (w .key ≡ x .key → ⊥) → w .live ≡ true → x .key < w .key) row) →
-        ((eqb (y .key) (x .key) || stands (x .key) row) ≡ true) × (((y .key ≡ x .key → ⊥) → y .live ≡ true → x .key < y .key) × All (λ w. (w .key ≡ x .key → ⊥) → w .live ≡ true → x .key < w .key) row)
+        ((eqb (y .key) (x .key) || stands (x .key) row) ≡ true) ×
+        (((y .key ≡ x .key → ⊥) → y .live ≡ true → x .key < y .key) × All (λ w. (w .key ≡ x .key → ⊥) → w .live ≡ true → x .key < w .key) row)
     at true l e above more =
         let same : y ≡ x = cc in
         let key : y .key ≡ x .key = ap (λ w. w .key) same in
@@ -212,7 +217,9 @@ unfolding deadBefore
 dead-place [] j z h = absurd (omega arith)
 dead-place (x ∷ row) j z h = at (x .live) refl j h (λ l. dead-place row l z)
   where
-    at : (t : Bool) → x .live ≡ t → (l : ℕ) → l < length (cond t [] (x ∷ deadBefore row)) → ((m : ℕ) → m < length (deadBefore row) → getD row m z .live ≡ false) → getD (x ∷ row) l z .live ≡ false
+    at :
+        (t : Bool) → x .live ≡ t → (l : ℕ) → l < length (cond t [] (x ∷ deadBefore row)) → ((m : ℕ) → m < length (deadBefore row) → getD row m z .live ≡ false) →
+        getD (x ∷ row) l z .live ≡ false
     at true e l h more = absurd (omega arith)
     at false e zero h more = e
     at false e (suc l) h more = more l (omega arith)
@@ -222,7 +229,9 @@ all-drop P row zero a = a
 all-drop P [] (suc j) a = a
 all-drop P (x ∷ row) (suc j) a = all-drop P row j (a .1)
 
-above-place : (low K : ℕ) (row : List StandingKey) (j : ℕ) (z : StandingKey) → ascending low K row ≡ true → j < length row → All (λ y. getD row j z .key < y .key) (drop (suc j) row)
+above-place :
+    (low K : ℕ) (row : List StandingKey) (j : ℕ) (z : StandingKey) → ascending low K row ≡ true → j < length row →
+    All (λ y. getD row j z .key < y .key) (drop (suc j) row)
 above-place low K [] j z a h = absurd (omega arith)
 above-place low K (x ∷ row) zero z a h = keys-above (x .key) K row (ascending-first low K x row a .1 .1)
 above-place low K (x ∷ row) (suc j) z a h = above-place (x .key) K row j z (ascending-first low K x row a .1 .1) (omega arith)
@@ -342,7 +351,8 @@ module _ (D : ℕ) (k : Book) (h : Held D k) where
             all-every (rightMark (x .key)) (drop j row)
             (rw split (
               mark-again (k .position) (x .key) x (marks .0) (λ l. absurd (let c : _≡_ {A = ℕ} 0 1 = cc in omega arith)),
-              all-zip (λ y e above. mark-again (k .position) (x .key) y e (λ l. above)) (drop (suc j) row) (marks .1) (above-place 0 (k .largest) row j z (h .rise) within),
+              all-zip (λ y e above. mark-again (k .position) (x .key) y e (λ l. above)) (drop (suc j) row) (marks .1)
+                  (above-place 0 (k .largest) row j z (h .rise) within),
             ));
       }
 

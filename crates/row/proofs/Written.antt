@@ -35,7 +35,8 @@ keys-take (x ∷ row) rest (suc i) h =
     let three : 3 * suc i ≡ suc (suc (suc (3 * i))) = omega arith in
     rw three (ap (λ (l : List ℕ). keyWords x ++ l) (keys-take row rest i (omega arith)))
 
-pub keys-drop : (row : List StandingKey) (rest : List ℕ) (i : ℕ) → i ≤ length row → drop (3 * i) (flatMap keyWords row ++ rest) ≡ flatMap keyWords (drop i row) ++ rest
+pub keys-drop :
+    (row : List StandingKey) (rest : List ℕ) (i : ℕ) → i ≤ length row → drop (3 * i) (flatMap keyWords row ++ rest) ≡ flatMap keyWords (drop i row) ++ rest
 unfolding flatMap
 keys-drop row rest zero h = refl
 keys-drop [] rest (suc i) h = absurd (omega arith)

@@ -16,7 +16,7 @@ pub enum Reply {
 }
 
 // Makes one of the five operations.
-fn make_operation(list: &mut [u32], operation: Operation) -> Answer
+pub fn make_operation(list: &mut [u32], operation: Operation) -> Answer
     ensures { λ r. ⌜ Meets (operationOut operation (now (list .entry))) r (now (list .exit)) ⌝ }
 {
     match operation {

@@ -1,6 +1,8 @@
 //! Traces to compare two programs with, the same for the same seed. Each is made by running
 //! it, so that the next line can be chosen for the buffer at hand.
 
+mod acceptance;
+mod acceptance_edges;
 mod calls;
 mod counted;
 mod counted_edges;
@@ -18,6 +20,8 @@ mod order_lines;
 pub mod record_forms;
 mod records;
 mod retell;
+mod row_edges;
+mod rows;
 
 use crate::counted as beside;
 use crate::model::Model;
@@ -28,6 +32,9 @@ use dice::Dice;
 use std::io::{Error, Result, Write};
 
 type Generator = fn(&mut Trace);
+
+/// Does what the fields of a line say; None if they are not readable.
+type RunLine = fn(&mut State, &[&str]) -> Option<()>;
 
 pub fn named(name: &str) -> Option<Generator> {
     Some(match name {
@@ -40,6 +47,8 @@ pub fn named(name: &str) -> Option<Generator> {
         "gen-files" => files::files,
         "gen-export" => exports::export,
         "gen-counted" => counted::counted,
+        "gen-row" => rows::rows,
+        "gen-acceptance" => acceptance::acceptance,
         _ => return None,
     })
 }
@@ -50,6 +59,8 @@ pub fn whole(name: &str) -> Option<Generator> {
         "gen-edges" => edges::edges,
         "gen-logger-edges" => logger_edges::logger_edges,
         "gen-counted-edges" => counted_edges::counted_edges,
+        "gen-row-edges" => row_edges::row_edges,
+        "gen-acceptance-edges" => acceptance_edges::acceptance_edges,
         _ => return None,
     })
 }
@@ -59,6 +70,7 @@ pub fn write(generator: Generator, seed: u64, count: usize, mut output: impl Wri
         dice: Dice::new(seed),
         state: State::at_first(),
         classes: None,
+        other: None,
         left: count,
         output: &mut output,
         failed: None,
@@ -73,6 +85,8 @@ pub struct Trace<'a> {
     state: State,
     /// The class record, where the calls are made with one.
     classes: Option<Vec<u32>>,
+    /// How a line is run, where it is one of another program than the replays of lists.
+    other: Option<RunLine>,
     /// Lines still to be written, or records of an export; those said after the last one are
     /// dropped.
     left: usize,
@@ -96,6 +110,9 @@ impl Trace<'_> {
 
     /// Does what a line says; None if it is not readable.
     fn run(&mut self, fields: &[&str]) -> Option<()> {
+        if let Some(run_line) = self.other {
+            return run_line(&mut self.state, fields);
+        }
         match &mut self.classes {
             None => _ = run(&mut self.state, &parse(fields)?),
             Some(classes) => {

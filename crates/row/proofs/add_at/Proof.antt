@@ -38,7 +38,9 @@ part-move-up-end c =
 
 put-at-requires : tie.Need-put-at-requires
 put-at-requires c κs =
-    let shape = row-shaped (c .before .before .before .before .before .before .before .before .before .args .row .now) (c .before .before .before .before .before .before .before .before .before .pre .0) in
+    let shape =
+    row-shaped (c .before .before .before .before .before .before .before .before .before .args .row .now)
+    (c .before .before .before .before .before .before .before .before .before .pre .0) in
     let long = shape .long in
     let room = shape .room in
     omega arith
@@ -48,7 +50,9 @@ add-row c = omega (arith, c .before .before .before .before .before .before .bef
 
 slice-write-row : tie.Need-slice-write-row
 slice-write-row c =
-    let shape = row-shaped (c .before .before .before .before .before .before .before .before .before .before .before .before .args .row .now) (c .before .before .before .before .before .before .before .before .before .before .before .before .pre .0) in
+    let shape =
+    row-shaped (c .before .before .before .before .before .before .before .before .before .before .before .before .args .row .now)
+    (c .before .before .before .before .before .before .before .before .before .before .before .before .pre .0) in
     let long = shape .long in
     let room = shape .room in
     omega arith
@@ -61,7 +65,10 @@ returns c =
     let s = c .before .before .before .before .before .before .before .before .before .before .before .before in
     rw (c .before .before .put-at .ensures, c .before .before .before .before .before .before .move-up .ensures)
     (row-added (s .args .row .now) (s .pre .0) (s .args .i) (s .args .key) (s .args .value) (s .pre .1 .0) (s .pre .1 .1)
-    (c .before .before .before .before .before .before .before .before .before .word-of .result) (c .before .before .before .before .before .before .before .before .word-of2 .result) (c .before .before .before .before .before .before .before .before .before .word-of .ensures) (c .before .before .before .before .before .before .before .before .word-of2 .ensures))
+    (c .before .before .before .before .before .before .before .before .before .word-of .result)
+    (c .before .before .before .before .before .before .before .before .word-of2 .result)
+    (c .before .before .before .before .before .before .before .before .before .word-of .ensures)
+    (c .before .before .before .before .before .before .before .before .word-of2 .ensures))
 
 pub add-at-spec : {M : Type 1} → statement M
 add-at-spec =

@@ -31,7 +31,8 @@ cast-row c = omega (arith, c .before .before .before .before .before .slice-know
 
 slice-write-row : tie.Need-slice-write-row
 slice-write-row c =
-    let shape = row-shaped (c .before .before .before .before .before .before .before .args .row .now) (c .before .before .before .before .before .before .before .pre .0) in
+    let shape =
+    row-shaped (c .before .before .before .before .before .before .before .args .row .now) (c .before .before .before .before .before .before .before .pre .0) in
     let long = shape .long in
     let room = shape .room in
     omega arith
@@ -40,7 +41,9 @@ returns : tie.Need-returns
 returns c =
     let s = c .before .before .before .before .before .before .before in
     let ws = s .args .row .now in
-    rw (c .before .before .shift-down .ensures) (row-freed ws (s .pre .0) (s .args .freed) (s .pre .1) (c .before .before .before .before .word-of .result) (c .before .before .before .before .word-of .ensures))
+    rw (c .before .before .shift-down .ensures)
+    (row-freed ws (s .pre .0) (s .args .freed) (s .pre .1) (c .before .before .before .before .word-of .result)
+    (c .before .before .before .before .word-of .ensures))
 
 pub free-first-spec : {M : Type 1} → statement M
 free-first-spec =

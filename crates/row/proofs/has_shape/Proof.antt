@@ -19,7 +19,8 @@ returns c =
 returns-2 : tie.Need-returns-2
 returns-2 c =
     let ws = c .before .before .before .before .before .before .before .args .row .now in
-    let out : inRange (getD ws 0 0) (getD ws 1 0) (getD ws 2 0) ≡ false = sym (c .before .in-range .ensures) ∙ not-true (c .before .in-range .result) (c .if2 .taken) in
+    let out : inRange (getD ws 0 0) (getD ws 1 0) (getD ws 2 0) ≡ false =
+    sym (c .before .in-range .ensures) ∙ not-true (c .before .in-range .result) (c .if2 .taken) in
     shape-no ws (λ shape. false≢true (sym out ∙ shape .range))
 
 cast-word-of : tie.Need-cast-word-of
@@ -28,7 +29,8 @@ cast-word-of c = omega (arith, c .shared-slice-known5 .given 2)
 sub-word-of : tie.Need-sub-word-of
 sub-word-of c =
     let ws = c .before .before .before .before .before .before .before .before .args .row .now in
-    let range : inRange (getD ws 0 0) (getD ws 1 0) (getD ws 2 0) ≡ true = sym (c .before .before .in-range .ensures) ∙ not-false (c .before .before .in-range .result) (c .before .if2 .left) in
+    let range : inRange (getD ws 0 0) (getD ws 1 0) (getD ws 2 0) ≡ true =
+    sym (c .before .before .in-range .ensures) ∙ not-false (c .before .before .in-range .result) (c .before .if2 .left) in
     let cells = ranges (getD ws 0 0) (getD ws 1 0) (getD ws 2 0) range in
     omega arith
 
@@ -43,7 +45,9 @@ returns-3 c =
 returns-4 : tie.Need-returns-4
 returns-4 c =
     let ws = c .before .before .before .before .before .before .before .before .before .before .before .before .args .row .now in
-    let range : inRange (getD ws 0 0) (getD ws 1 0) (getD ws 2 0) ≡ true = sym (c .before .before .before .before .before .before .in-range .ensures) ∙ not-false (c .before .before .before .before .before .before .in-range .result) (c .before .before .before .before .before .if2 .left) in
+    let range : inRange (getD ws 0 0) (getD ws 1 0) (getD ws 2 0) ≡ true =
+    sym (c .before .before .before .before .before .before .in-range .ensures) ∙ not-false (c .before .before .before .before .before .before .in-range .result)
+    (c .before .before .before .before .before .if2 .left) in
     let cells = ranges (getD ws 0 0) (getD ws 1 0) (getD ws 2 0) range in
     shape-is ws range (omega arith)
 

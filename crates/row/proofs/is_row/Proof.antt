@@ -17,7 +17,8 @@ use Rattle.row.proofs.is_row.Tie as tie
 
 returns : tie.Need-returns
 returns c =
-    refuted (isRow (c .before .before .before .args .row .now)) (λ e. false≢true (sym (not-true (c .before .has-shape .result) (c .if1 .taken)) ∙ c .before .has-shape .ensures .kept e))
+    refuted (isRow (c .before .before .before .args .row .now))
+    (λ e. false≢true (sym (not-true (c .before .has-shape .result) (c .if1 .taken)) ∙ c .before .has-shape .ensures .kept e))
 
 right-keys-requires : tie.Need-right-keys-requires
 right-keys-requires c κs = c .before .has-shape .ensures .told (not-false (c .before .has-shape .result) (c .if1 .left))
@@ -31,8 +32,11 @@ returns-2 c =
 right-position-requires : tie.Need-right-position-requires
 right-position-requires c κs =
     let ws = c .before .before .before .before .before .args .row .now in
-    let right = sym (c .before .right-keys .ensures) ∙ not-false (c .before .right-keys .result) (c .if2 .left) in
-    (c .before .before .before .has-shape .ensures .told (not-false (c .before .before .before .has-shape .result) (c .before .before .if1 .left)), keys-rise ws right)
+    let right = sym (c .before .right-keys .ensures) ∙ not-false (c .before .right-keys .result) (c .if2 .left) in (
+      c .before .before .before .has-shape .ensures .told
+          (not-false (c .before .before .before .has-shape .result) (c .before .before .if1 .left)),
+      keys-rise ws right,
+    )
 
 returns-3 : tie.Need-returns-3
 returns-3 c =
@@ -42,7 +46,9 @@ returns-3 c =
 
 shared-slice-read-word-of : tie.Need-shared-slice-read-word-of
 shared-slice-read-word-of c =
-    let shape = c .before .before .before .before .before .before .has-shape .ensures .told (not-false (c .before .before .before .before .before .before .has-shape .result) (c .before .before .before .before .before .if1 .left)) in
+    let shape =
+    c .before .before .before .before .before .before .has-shape .ensures .told
+    (not-false (c .before .before .before .before .before .before .has-shape .result) (c .before .before .before .before .before .if1 .left)) in
     let long = shape .long in
     let room = shape .room in
     omega arith
@@ -58,14 +64,18 @@ mul-all-zero c = omega (arith, c .before .shared-slice-known2 .given 3)
 
 sub-all-zero : tie.Need-sub-all-zero
 sub-all-zero c =
-    let shape = c .before .before .before .before .before .before .before .has-shape .ensures .told (not-false (c .before .before .before .before .before .before .before .has-shape .result) (c .before .before .before .before .before .before .if1 .left)) in
+    let shape =
+    c .before .before .before .before .before .before .before .has-shape .ensures .told
+    (not-false (c .before .before .before .before .before .before .before .has-shape .result) (c .before .before .before .before .before .before .if1 .left)) in
     let long = shape .long in
     let room = shape .room in
     omega arith
 
 part-all-zero-start : tie.Need-part-all-zero-start
 part-all-zero-start c =
-    let shape = c .before .before .before .before .before .before .before .has-shape .ensures .told (not-false (c .before .before .before .before .before .before .before .has-shape .result) (c .before .before .before .before .before .before .if1 .left)) in
+    let shape =
+    c .before .before .before .before .before .before .before .has-shape .ensures .told
+    (not-false (c .before .before .before .before .before .before .before .has-shape .result) (c .before .before .before .before .before .before .if1 .left)) in
     let long = shape .long in
     let room = shape .room in
     omega arith
@@ -75,9 +85,16 @@ returns-4 c =
     let ws = c .before .before .before .before .before .before .before .before .before .before .before .args .row .now in
     let at = c .before .before .word-of .result in
     let is : at ≡ wordOf (getD ws 3 0) = c .before .before .word-of .ensures in
-    let shape = c .before .before .before .before .before .before .before .before .before .has-shape .ensures .told (not-false (c .before .before .before .before .before .before .before .before .before .has-shape .result) (c .before .before .before .before .before .before .before .before .if1 .left)) in
-    let right = sym (c .before .before .before .before .before .before .before .right-keys .ensures) ∙ not-false (c .before .before .before .before .before .before .before .right-keys .result) (c .before .before .before .before .before .before .if2 .left) in
-    let placed = sym (c .before .before .before .before .before .right-position .ensures) ∙ not-false (c .before .before .before .before .before .right-position .result) (c .before .before .before .before .if3 .left) in
+    let shape =
+    c .before .before .before .before .before .before .before .before .before .has-shape .ensures .told
+    (not-false (c .before .before .before .before .before .before .before .before .before .has-shape .result)
+    (c .before .before .before .before .before .before .before .before .if1 .left)) in
+    let right =
+    sym (c .before .before .before .before .before .before .before .right-keys .ensures) ∙ not-false
+    (c .before .before .before .before .before .before .before .right-keys .result) (c .before .before .before .before .before .before .if2 .left) in
+    let placed =
+    sym (c .before .before .before .before .before .right-position .ensures) ∙ not-false (c .before .before .before .before .before .right-position .result)
+    (c .before .before .before .before .if3 .left) in
     let zeros : c .all-zero .result ≡ allZero (take (length ws - at) (drop at ws)) = c .all-zero .ensures in
     let part : take (length ws - at) (drop at ws) ≡ drop at ws = take-all (length ws - at) (drop at ws) (omega (arith, length-drop at ws)) in
     let unused : c .all-zero .result ≡ allZero (drop (wordOf (getD ws 3 0)) ws) = rw (part, is) at zeros in

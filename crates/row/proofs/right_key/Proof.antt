@@ -32,7 +32,13 @@ returns-3 c =
     let ws = a .row .now in
     let key = getD ws (wordOf (a .i)) 0 in
     let mark = getD ws (wordOf (a .i) + 2) 0 in
-    rw (c .before .before .before .before .before .before .key-at .ensures, lt-ltb (a .low) key (omega arith), le-leb key (getD ws 1 0) (omega arith), eq-eqb mark 1 (omega arith)) refl
+    rw (
+      c .before .before .before .before .before .before .key-at .ensures,
+      lt-ltb (a .low) key (omega arith),
+      le-leb key (getD ws 1 0) (omega arith),
+      eq-eqb mark 1
+          (omega arith),
+    ) refl
 
 returns-4 : tie.Need-returns-4
 unfolding rightKey

@@ -31,7 +31,8 @@ loop-again : tie.Need-loop-again Inv-loop μ-loop
 loop-again c =
     let v = c .before .before .before .before .loop in
     let ws = c .before .before .before .before .before .before .before .args .row .now in
-    let right : rightKey ws (v .low) (v .i) ≡ true = sym (c .before .before .right-key .ensures) ∙ not-false (c .before .before .right-key .result) (c .before .if1 .left) in
+    let right : rightKey ws (v .low) (v .i) ≡ true =
+    sym (c .before .before .right-key .ensures) ∙ not-false (c .before .before .right-key .result) (c .before .if1 .left) in
     let more : rightKeys ws (v .low) (v .i) (getD ws 3 0 - v .i) ≡ rightKeys ws (c .key-at .result) (v .i + 1) (getD ws 3 0 - (v .i + 1)) =
     rw (c .key-at .ensures, right-turn ws (getD ws 3 0) (v .low) (v .i) (omega arith), right) refl in
     (omega arith, v .inv .1 ∙ more)

@@ -18,7 +18,8 @@ returns-2 : tie.Need-returns-2
 returns-2 c =
     let ws = c .before .before .before .before .before .args .row .now in
     let p = getD ws 4 0 in
-    rw (ne-eqb p 0 (λ e. omega arith), c .stands-at .ensures, c .before .place-of .ensures) (stands-test ws p (getD ws 1 0) (c .before .before .before .before .before .pre .1))
+    rw (ne-eqb p 0 (λ e. omega arith), c .stands-at .ensures, c .before .place-of .ensures)
+    (stands-test ws p (getD ws 1 0) (c .before .before .before .before .before .pre .1))
 
 pub right-position-spec : {M : Type 1} → statement M
 right-position-spec =

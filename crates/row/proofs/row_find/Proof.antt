@@ -57,7 +57,8 @@ returns-3 c =
     let good = passed (placed .before .before .is-key .ensures) (placed .before .if2 .left) in
     let i = placed .place-of .result in
     let is = placed .place-of .ensures in
-    met (find-none ws yes (a .key) good i is (failed {t = standsAt ws i (a .key)} (c .before .before .stands-at .ensures) (c .before .if3 .taken))) (c .reply3 .ensures) (row-written ws yes)
+    met (find-none ws yes (a .key) good i is (failed {t =
+    standsAt ws i (a .key)} (c .before .before .stands-at .ensures) (c .before .if3 .taken))) (c .reply3 .ensures) (row-written ws yes)
 
 mark-at-requires : tie.Need-mark-at-requires
 mark-at-requires c κs =
@@ -108,7 +109,8 @@ returns-5 c =
     let i = placed .place-of .result in
     let is = placed .place-of .ensures in
     let there = passed {t = standsAt ws i (a .key)} (c .before .before .before .before .before .stands-at .ensures) (c .before .before .before .before .if3 .left) in
-    met (find-live ws yes (a .key) good i is there (omega arith)) (c .reply5 .ensures ∙ ap (λ v. answer 0 (a .key) v 0) (c .before .value-at .ensures)) (row-written ws yes)
+    met (find-live ws yes (a .key) good i is there (omega arith)) (c .reply5 .ensures ∙ ap (λ v. answer 0 (a .key) v 0) (c .before .value-at .ensures))
+    (row-written ws yes)
 
 pub row-find-spec : {M : Type 1} → statement M
 row-find-spec =

@@ -55,7 +55,8 @@ returns-3 c =
     let good = passed (placed .before .before .is-key .ensures) (placed .before .if2 .left) in
     let i = placed .place-of .result in
     let is = placed .place-of .ensures in
-    met (finish-none ws yes (a .key) good i is (failed {t = standsAt ws i (a .key)} (c .before .before .stands-at .ensures) (c .before .if3 .taken))) (c .reply3 .ensures) (row-written ws yes)
+    met (finish-none ws yes (a .key) good i is (failed {t =
+    standsAt ws i (a .key)} (c .before .before .stands-at .ensures) (c .before .if3 .taken))) (c .reply3 .ensures) (row-written ws yes)
 
 returns-4 : tie.Need-returns-4
 returns-4 c =
@@ -67,7 +68,8 @@ returns-4 c =
     let good = passed (placed .before .before .is-key .ensures) (placed .before .if2 .left) in
     let i = placed .place-of .result in
     let is = placed .place-of .ensures in
-    met (finish-there ws yes (a .key) good i is (passed {t = standsAt ws i (a .key)} (c .before .before .stands-at .ensures) (c .before .if3 .left))) (c .reply4 .ensures) (row-written ws yes)
+    met (finish-there ws yes (a .key) good i is (passed {t =
+    standsAt ws i (a .key)} (c .before .before .stands-at .ensures) (c .before .if3 .left))) (c .reply4 .ensures) (row-written ws yes)
 
 pub row-finish-spec : {M : Type 1} → statement M
 row-finish-spec =

@@ -85,7 +85,8 @@ returns-3 c =
     let good = passed (placed .before .before .before .is-key .ensures) (placed .before .before .if2 .left) in
     let i = placed .place-of .result in
     let is = placed .place-of .ensures in
-    let there = same-held {t = standsAt ws i (a .key)} (c .before .before .before .before .before .stands-at .ensures) (c .before .before .before .before .if3 .taken) in
+    let there = same-held {t = standsAt ws i (a .key)} (c .before .before .before .before .before .stands-at .ensures)
+    (c .before .before .before .before .if3 .taken) in
     met (insert-live ws yes (a .key) good i is (a .value) there (omega arith)) (c .reply3 .ensures) (row-written ws yes)
 
 put-at-requires : tie.Need-put-at-requires
@@ -97,7 +98,8 @@ put-at-requires c κs =
     let yes = passed (checked .before .is-row .ensures) (checked .if1 .left) in
     let shape = row-shaped ws yes in
     let i = placed .place-of .result in
-    let there = same-held {t = standsAt ws i (a .key)} (c .before .before .before .before .before .stands-at .ensures) (c .before .before .before .before .if3 .taken) in
+    let there = same-held {t = standsAt ws i (a .key)} (c .before .before .before .before .before .stands-at .ensures)
+    (c .before .before .before .before .if3 .taken) in
     let within = there-within ws i (a .key) there in
     omega arith
 
@@ -121,10 +123,12 @@ returns-4 c =
     let good = passed (placed .before .before .before .is-key .ensures) (placed .before .before .if2 .left) in
     let i = placed .place-of .result in
     let is = placed .place-of .ensures in
-    let there = same-held {t = standsAt ws i (a .key)} (c .before .before .before .before .before .before .before .before .before .stands-at .ensures) (c .before .before .before .before .before .before .before .before .if3 .taken) in
+    let there = same-held {t = standsAt ws i (a .key)} (c .before .before .before .before .before .before .before .before .before .stands-at .ensures)
+    (c .before .before .before .before .before .before .before .before .if3 .taken) in
     let position = c .before .before .before .before .before .before .before .before .before .before .before .position-with .ensures in
     let words = row-put-at ws yes i (standingKey (a .key) (a .value) true) (positionAfter ws i (a .key)) (there-within ws i (a .key) there) in
-    met (insert-dead ws yes (a .key) good i is (a .value) there (λ live. omega arith)) (c .reply4 .ensures) (rw (c .before .before .before .put-at .ensures, position) words)
+    met (insert-dead ws yes (a .key) good i is (a .value) there (λ live. omega arith)) (c .reply4 .ensures)
+    (rw (c .before .before .before .put-at .ensures, position) words)
 
 slice-read-if5 : tie.Need-slice-read-if5
 slice-read-if5 c =
@@ -166,7 +170,8 @@ returns-5 c =
     let good = passed (placed .before .before .before .is-key .ensures) (placed .before .before .if2 .left) in
     let i = placed .place-of .result in
     let is = placed .place-of .ensures in
-    let other = same-not {t = standsAt ws i (a .key)} (c .before .before .before .before .before .stands-at .ensures) (c .before .before .before .before .if3 .left) in
+    let other = same-not {t = standsAt ws i (a .key)} (c .before .before .before .before .before .stands-at .ensures)
+    (c .before .before .before .before .if3 .left) in
     met (insert-full ws yes (a .key) good i is (a .value) other (omega arith)) (c .reply5 .ensures) (row-written ws yes)
 
 add-at-requires : tie.Need-add-at-requires
@@ -198,7 +203,8 @@ returns-6 c =
     let good = passed (placed .before .before .before .is-key .ensures) (placed .before .before .if2 .left) in
     let i = placed .place-of .result in
     let is = placed .place-of .ensures in
-    let other = same-not {t = standsAt ws i (a .key)} (c .before .before .before .before .before .before .before .before .before .stands-at .ensures) (c .before .before .before .before .before .before .before .before .if3 .left) in
+    let other = same-not {t = standsAt ws i (a .key)} (c .before .before .before .before .before .before .before .before .before .stands-at .ensures)
+    (c .before .before .before .before .before .before .before .before .if3 .left) in
     let position = c .before .before .before .before .before .before .before .before .before .before .before .position-with .ensures in
     let keys = take i (bookIn ws .row) ++ (standingKey (a .key) (a .value) true ∷ drop i (bookIn ws .row)) in
     let words = position-put (getD ws 0 0) (withRow (bookIn ws) keys (bookIn ws .position)) (positionAfter ws i (a .key)) in

@@ -104,7 +104,8 @@ returns-3 c =
     let j = i - 1 in
     let next : i ≡ suc j = omega arith in
     let words = position-put (getD ws 0 0) (withRow (bookIn ws) (drop j (bookIn ws .row)) (bookIn ws .position)) (getD ws (wordOf j) 0) in
-    met (sweep-some ws yes i is j next) (c .reply3 .ensures) (rw (c .before .before .before .free-first .ensures, c .before .before .before .before .before .key-at .ensures) words)
+    met (sweep-some ws yes i is j next) (c .reply3 .ensures)
+    (rw (c .before .before .before .free-first .ensures, c .before .before .before .before .before .key-at .ensures) words)
 
 pub row-sweep-spec : {M : Type 1} → statement M
 row-sweep-spec =

@@ -138,7 +138,8 @@ returns-3 c =
     let value = c .before .before .before .before .before .before .before .value-at .ensures in
     let count = c .before .before .before .before .before .count-above2 .ensures in
     let words = row-put-at ws yes i (standingKey (getD ws (wordOf i) 0) 0 false) (getD ws (wordOf i) 0) (omega arith) in
-    met (take-live ws yes i is (omega arith)) (c .reply3 .ensures ∙ (λ t. answer 0 (key t) (value t) (count t))) (rw (c .before .before .before .put-at .ensures, key) words)
+    met (take-live ws yes i is (omega arith)) (c .reply3 .ensures ∙ (λ t. answer 0 (key t) (value t) (count t)))
+    (rw (c .before .before .before .put-at .ensures, key) words)
 
 pub row-take-spec : {M : Type 1} → statement M
 row-take-spec =

@@ -7,7 +7,9 @@ use Rattle.row.proofs.shift_down.Tie as tie
 returns : tie.Need-returns
 returns c =
     let a = c .before .before .before .before .before .before .before .before .before .args in
-    rw (c .before .before .clear .ensures) (down-cleared (a .part .now) (c .before .before .before .before .before .before .move-down .last .0) (a .by) (c .before .before .before .before .before .before .before .before .before .pre) (c .before .before .before .before .before .before .move-down .ensures))
+    rw (c .before .before .clear .ensures)
+    (down-cleared (a .part .now) (c .before .before .before .before .before .before .move-down .last .0) (a .by)
+    (c .before .before .before .before .before .before .before .before .before .pre) (c .before .before .before .before .before .before .move-down .ensures))
 
 pub shift-down-spec : {M : Type 1} → statement M
 shift-down-spec =

@@ -1,0 +1,2 @@
+-- What the program keeps to, so that it is safe.
+pub mod Kept

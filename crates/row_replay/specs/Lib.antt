@@ -1,0 +1,2 @@
+-- What the replay keeps to, so that it is safe.
+pub mod Kept
