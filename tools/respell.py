@@ -14,6 +14,7 @@ import re
 
 WORD = re.compile(r"[^\s(){}\[\].,;:@\"`|λ→×≡≤<>=+*/%^&∷∙⊎¬,]+")
 HEAD = re.compile(r"^((?:(?:pub|abbrev|unfoldable|data|record)\s+)*)([^\s:(){}.,;]+)\s*(:|\(|$)")
+NESTED = re.compile(r"^ +((?:(?:pub|abbrev|unfoldable)\s+)*)([^\s:(){}.,;]+) :(?:\s|$)")
 HUMP = re.compile(r"^[a-z].*[a-z0-9][A-Z]")
 LIBRARY = {"length", "get_or", "replicate", "reverse"}
 
@@ -35,19 +36,28 @@ def snake(word):
 def declared():
     defs, lemmas, fields = set(), set(), set()
     for path in files(".antt"):
-        if path.endswith("/Proof.antt"):
+        if path.endswith(("/Proof.antt", "/Answers.antt", "/Invariants.antt")):
             continue
-        inside = False
+        inside = module = False
         for line in open(path, encoding="utf-8"):
+            if line.startswith("module "):
+                module = True
             if not line.strip():
                 inside = False
             elif line[0] == " ":
+                if module:
+                    m = NESTED.match(line)
+                    if m and not m.group(2).startswith("--"):
+                        is_def = "abbrev" in m.group(1) or "unfoldable" in m.group(1)
+                        (defs if is_def else lemmas).add(m.group(2))
+                    continue
                 m = inside and re.match(r"^  (?:pub )?([^\s:(){}.,;]+) :", line)
                 if m:
                     fields.add(m.group(1))
             elif not line.startswith("--"):
                 m = HEAD.match(line)
                 inside = False
+                module = line.startswith("module ")
                 if m and m.group(2) not in ("use", "mod"):
                     inside = "record" in m.group(1) or "data" in m.group(1)
                     is_def = inside or "abbrev" in m.group(1) or "unfoldable" in m.group(1) or "/specs/" in path
@@ -62,7 +72,7 @@ def spelled(name, defs):
     parts = name.split("-")
     for n in range(len(parts) - 1, 0, -1):
         front = "-".join(parts[:n])
-        if (front in defs and snake(front) != front) or front in LIBRARY or (front in defs and "_" in front):
+        if front in LIBRARY or ((front in defs or snake(front) in defs) and "_" in snake(front)):
             return snake(front) + "-" + "_".join(snake(p) for p in parts[n:])
     return "_".join(snake(p) for p in parts)
 

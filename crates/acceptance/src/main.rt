@@ -14,6 +14,8 @@
 // moves, are the list's own and not compared.
 //
 // The file stdout has the answers of the separate ordered set: compare/ordered_set/target/release/ordered_set acceptance < stdin > stdout
+#![tactic(auto)]
+
 ghost use Rattle.std.specs.Prelude.{◌≡◌, length};
 ghost use Rattle.text.specs.Lines.{most_bytes};
 ghost use Rattle.trace.specs.Lines.{most_words};
@@ -24,7 +26,7 @@ use acceptance_step::{Sizes, State, Tally};
 use text::feed::Feed;
 
 // What is kept from one byte to the next, beside the arrays and the bytes of the line begun.
-#[derive(Drop)]
+#[derive(Clone, Copy)]
 pub struct Fed {
     pub feed: Feed,
     pub state: State,

@@ -70,31 +70,31 @@ module _
   before : Engines
   before = held_in words keys sizes
 
-  list-there : take (n - 0) altered ≡ (altered_by kind before).list
+  list_there : take (n - 0) altered ≡ (altered_by kind before).list
   unfolding before
-  list-there =
+  list_there =
       let held = room.words_held in
       let own : length (take sizes.list words) ≡ sizes.list = length-take-le sizes.list words (omega (arith, held.room, held.within)) in
       ap (λ (k : ℕ). take k altered) (sub-zero n) ∙ holds.is
       ∙ ap (λ (k : ℕ). cut_to k (take sizes.list words)) (list-is ∙ ap (list_length kind) (sym own))
 
-  row-there : take (m - 0) altered-keys ≡ (altered_by kind before).row
+  row_there : take (m - 0) altered-keys ≡ (altered_by kind before).row
   unfolding before
-  row-there =
+  row_there =
       let held = room.keys_held in
       let own : length (take sizes.row keys) ≡ sizes.row = length-take-le sizes.row keys (omega (arith, held.room, held.within)) in
       ap (λ (k : ℕ). take k altered-keys) (sub-zero m) ∙ holds-keys.is
       ∙ ap (λ (k : ℕ). cut_to k (take sizes.row keys)) (row_is ∙ ap (row_length_for kind) (sym own))
 
-  pub line-done :
+  pub line_done :
       {p : Pair} {called called-keys after after-keys : List ℕ} →
       KindMade kind (engines_of (take (n - 0) altered) (take (m - 0) altered-keys)) p (engines_of called called-keys) → Held most_words after n →
       take n after ≡ called → Held most_row_words after-keys m → take m after-keys ≡ called-keys →
       LineDone kind (held_in words keys sizes) after after-keys (record { list = n; row = m; answers = p })
   unfolding answers_to left_by before
-  line-done made held first held-keys second =
+  line_done made held first held-keys second =
       let there : engines_of (take (n - 0) altered) (take (m - 0) altered-keys) ≡ altered_by kind (held_in words keys sizes) =
-      λ i. engines_of (list-there i) (row-there i) in
+      λ i. engines_of (list_there i) (row_there i) in
       let left = made.left ∙ ap (kind_leaves kind) there in
       record {
         words_are = record { held = held; is = first ∙ ap (λ (e : Engines). e.list) left };

@@ -1,5 +1,7 @@
 // A line of the acceptance trace: what it says, its call on both engines, and what is printed for it. The format is at the head of the program
 // acceptance.
+#![tactic(auto)]
+
 ghost use Rattle.std.specs.Prelude.{◌≡◌, cond, ◌≤◌, length, take};
 ghost use Rattle.settings.specs.Numbers.{in_range, length_of};
 ghost use Rattle.engines.specs.Alike.{is_counted};
@@ -21,7 +23,7 @@ pub const MOST_ROW_WORDS: usize = 58373;
 const LINE_BYTES: usize = 2 * report::ANSWER_BYTES;
 
 // What a line says.
-#[derive(Drop)]
+#[derive(Clone, Copy)]
 pub enum Kind {
     // U: D, K, C
     SetUp(u32, u32, u32),
@@ -31,21 +33,21 @@ pub enum Kind {
 }
 
 // How many of the list's words and of the row's are held.
-#[derive(Drop)]
+#[derive(Clone, Copy)]
 pub struct Sizes {
     pub list: usize,
     pub row: usize,
 }
 
 // What both engines answer to a line.
-#[derive(Drop)]
+#[derive(Clone, Copy)]
 pub struct Pair {
     pub list: Answer,
     pub row: Answer,
 }
 
 // What is held after a line, and what both engines answered.
-#[derive(Drop)]
+#[derive(Clone, Copy)]
 struct Done {
     pub list: usize,
     pub row: usize,
@@ -53,14 +55,14 @@ struct Done {
 }
 
 // How many lines there were, and the first on which the engines differ; 0 if there is none.
-#[derive(Drop)]
+#[derive(Clone, Copy)]
 pub struct Tally {
     pub lines: u64,
     pub first: u64,
 }
 
 // What is kept from one line to the next, beside the arrays.
-#[derive(Drop)]
+#[derive(Clone, Copy)]
 pub struct State {
     pub sizes: Sizes,
     pub tally: Tally,

@@ -29,7 +29,7 @@ use Rattle.account.proofs.AcceptedRun.{Run, head_run}
 use Rattle.account.proofs.AcceptedKeys.{row_in, Rising, rising, row_asc}
 use Rattle.account.proofs.AcceptedWords.{StandingWords, standing_places}
 use Rattle.account.proofs.AcceptedPath.{Occurs, position_met, path_right_lem, position_key_lem, dead_met, values_met, keys_met}
-use Rattle.account.proofs.AcceptedChain.{chain_cells, chain_length, chain_free, chain_first, free_mark_lem, free-positive, chain-distinct, free_held}
+use Rattle.account.proofs.AcceptedChain.{chain_cells, chain_length, chain_free, chain_first, free_mark_lem, free_positive, chain_distinct, free_held}
 use Rattle.account.proofs.AcceptedCells.{distinct_append, distinct_once, left_met, distinct_met, range_met, marked_met}
 
 -- What the check has found of a buffer that it accepts.
@@ -82,7 +82,7 @@ module _ (ws : List ℕ) (k : Checked ws) where
   -- The state is in order
 
   free_range : All (λ c. (0 < c) × (c < cells_at ws)) (state_of ws k).free
-  free_range = all_map (λ c f. (free-positive ws k.head c f, f.inside)) (state_of ws k).free (chain_free ws (seen_all ws).left (first_free_at ws) k.chain)
+  free_range = all_map (λ c f. (free_positive ws k.head c f, f.inside)) (state_of ws k).free (chain_free ws (seen_all ws).left (first_free_at ws) k.chain)
 
   range : All (λ c. (0 < c) × (c < cells_at ws)) (cells_in (state_of ws k))
   range =
@@ -93,7 +93,7 @@ module _ (ws : List ℕ) (k : Checked ws) where
   distinct =
       let free = (state_of ws k).free in
       let row = map (λ x. x.cell) (state_of ws k).row in
-      distinct_append row free (distinct_met ws 0 k.run.met rises) (chain-distinct ws k.head (seen_all ws).left (first_free_at ws) k.chain)
+      distinct_append row free (distinct_met ws 0 k.run.met rises) (chain_distinct ws k.head (seen_all ws).left (first_free_at ws) k.chain)
       (all_map (λ x marked. all_map (λ y f q. omega (arith, marked, free_mark_lem ws y f, ap (mark_at ws) q)) free
       (chain_free ws (seen_all ws).left (first_free_at ws) k.chain)) row (marked_met ws (at_head ws) k.run.met k.run.trace))
 
@@ -111,8 +111,8 @@ module _ (ws : List ℕ) (k : Checked ws) where
         ap (λ t. t.left) k.run.ends,
       )
 
-  key-is : position_key (state_of ws k) ≡ key_at ws (position_at ws)
-  key-is = position_key_lem ws k.head k.run.met rises position_is
+  key_is : position_key (state_of ws k) ≡ key_at ws (position_at ws)
+  key_is = position_key_lem ws k.head k.run.met rises position_is
 
   position_stands : 0 < occurrences (position_at ws) (0 ∷ map (λ x. x.cell) (state_of ws k).row)
   position_stands = at position_is
@@ -127,7 +127,7 @@ module _ (ws : List ℕ) (k : Checked ws) where
   dead : All (λ x. x.key ≤ position_key (state_of ws k) → x.live ≡ false) (state_of ws k).row
   unfolding at_head
   dead =
-      all_map (λ x d h. d (omega (arith, h, key-is))) (state_of ws k).row
+      all_map (λ x d h. d (omega (arith, h, key_is))) (state_of ws k).row
       (dead_met ws (at_head ws) k.run.met k.run.trace rises (λ e. omega (arith, ap (key_at ws) (eqb-true (position_at ws) 0 e))))
 
   sound : Sound (state_of ws k)
@@ -151,11 +151,11 @@ module _ (ws : List ℕ) (k : Checked ws) where
 
   path_word_lem : (d : ℕ) → d < dimensions_at ws → path_word (state_of ws k) d ≡ get_or ws (header_words + d) 0
   path_word_lem d l =
-      ap (λ key. first_with (base_at ws) (dimensions_at ws) key (suc d) (head_node ∷ (state_of ws k).row)) key-is
+      ap (λ key. first_with (base_at ws) (dimensions_at ws) key (suc d) (head_node ∷ (state_of ws k).row)) key_is
       ∙ sym (path_right_lem ws k.header.positive k.head k.run.met k.run.trace rises k.begins position_is d l)
 
-  picture-is : picture (state_of ws k) ≡ ws
-  picture-is =
+  picture_is : picture (state_of ws k) ≡ ws
+  picture_is =
       held_picture ws (state_of ws k).row (state_of ws k).free (position_at ws) sound k.header.size
       (sym (chain_first ws (seen_all ws).left (first_free_at ws) k.chain)) path_word_lem
       (all_map (λ p t. t.held) (places (base_at ws) (dimensions_at ws) (state_of ws k).row) standing)
@@ -164,4 +164,4 @@ module _ (ws : List ℕ) (k : Checked ws) where
 pub accepts_list : (ws : List ℕ) → accepts ws ≡ true → is_list ws ≡ true
 accepts_list ws e =
     let k = checked ws e in
-    subst (λ t. is_list t ≡ true) (picture-is ws k) (picture_is_list (state_of ws k) (sound ws k))
+    subst (λ t. is_list t ≡ true) (picture_is ws k) (picture_is_list (state_of ws k) (sound ws k))

@@ -68,38 +68,38 @@ pub free_mark_lem : (ws : List ℕ) (c : ℕ) → FreeTested ws c → mark_at ws
 free_mark_lem ws c f = f.blank 2 (omega arith) (omega arith)
 
 module _ (ws : List ℕ) (head : Head ws) where
-  pub free-positive : (c : ℕ) → FreeTested ws c → 0 < c
-  free-positive c f = at (ℕ_discrete c 0)
+  pub free_positive : (c : ℕ) → FreeTested ws c → 0 < c
+  free_positive c f = at (ℕ_discrete c 0)
     where
       at : Dec (c ≡ 0) → 0 < c
       at (yes e) = absurd (omega (arith, free_mark_lem ws c f, ap (mark_at ws) e, head.mark))
       at (no ne) = omega arith
 
   -- a chain that ends has one length
-  chain-once : (n m c : ℕ) → chain_right ws n c ≡ true → chain_right ws m c ≡ true → n ≡ m
-  chain-once zero zero c e f = refl
-  chain-once zero (suc m) c e f = absurd (omega (arith, chain_end ws c e, free-positive c (chain_step ws m c f).0))
-  chain-once (suc n) zero c e f = absurd (omega (arith, chain_end ws c f, free-positive c (chain_step ws n c e).0))
-  chain-once (suc n) (suc m) c e f = ap suc (chain-once n m (word_at ws c 0) (chain_step ws n c e).1 (chain_step ws m c f).1)
+  chain_once : (n m c : ℕ) → chain_right ws n c ≡ true → chain_right ws m c ≡ true → n ≡ m
+  chain_once zero zero c e f = refl
+  chain_once zero (suc m) c e f = absurd (omega (arith, chain_end ws c e, free_positive c (chain_step ws m c f).0))
+  chain_once (suc n) zero c e f = absurd (omega (arith, chain_end ws c f, free_positive c (chain_step ws n c e).0))
+  chain_once (suc n) (suc m) c e f = ap suc (chain_once n m (word_at ws c 0) (chain_step ws n c e).1 (chain_step ws m c f).1)
 
   -- from each cell of the chain it has no more cells
-  chain-shorter : (n c : ℕ) → chain_right ws n c ≡ true → All (λ x. (m : ℕ) × ((m ≤ n) × (chain_right ws m x ≡ true))) (chain_cells ws n c)
+  chain_shorter : (n c : ℕ) → chain_right ws n c ≡ true → All (λ x. (m : ℕ) × ((m ≤ n) × (chain_right ws m x ≡ true))) (chain_cells ws n c)
   unfolding chain_cells
-  chain-shorter zero c e = tt
-  chain-shorter (suc n) c e = (
+  chain_shorter zero c e = tt
+  chain_shorter (suc n) c e = (
     (suc n, (omega arith, e)),
     all_map (λ x t. (t.0, (let h = t.1.0 in omega arith, t.1.1))) (chain_cells ws n (word_at ws c 0))
-        (chain-shorter n (word_at ws c 0) (chain_step ws n c e).1),
+        (chain_shorter n (word_at ws c 0) (chain_step ws n c e).1),
   )
 
-  pub chain-distinct : (n c : ℕ) → chain_right ws n c ≡ true → Distinct (chain_cells ws n c)
+  pub chain_distinct : (n c : ℕ) → chain_right ws n c ≡ true → Distinct (chain_cells ws n c)
   unfolding chain_cells
-  chain-distinct zero c e = tt
-  chain-distinct (suc n) c e =
+  chain_distinct zero c e = tt
+  chain_distinct (suc n) c e =
       let more = (chain_step ws n c e).1 in (
-        all_map (λ x t q. let h = t.1.0 in let k = chain-once (suc n) t.0 x (subst (λ z. chain_right ws (suc n) z ≡ true) q e) t.1.1 in omega arith)
-            (chain_cells ws n (word_at ws c 0)) (chain-shorter n (word_at ws c 0) more),
-        chain-distinct n (word_at ws c 0) more,
+        all_map (λ x t q. let h = t.1.0 in let k = chain_once (suc n) t.0 x (subst (λ z. chain_right ws (suc n) z ≡ true) q e) t.1.1 in omega arith)
+            (chain_cells ws n (word_at ws c 0)) (chain_shorter n (word_at ws c 0) more),
+        chain_distinct n (word_at ws c 0) more,
       )
 
 -- word j of a free cell
@@ -111,4 +111,4 @@ pub free_held : (ws : List ℕ) → Head ws → (n c : ℕ) → chain_right ws n
 free_held ws head n c e =
     let free = chain_cells ws n c in
     all_zip (λ x f next. record { next = next; rest = f.blank }) free (chain_free ws n c e)
-    (leads_next ws free free (distinct_follow free (chain-distinct ws head n c e)) (chain_leads ws n c e))
+    (leads_next ws free free (distinct_follow free (chain_distinct ws head n c e)) (chain_leads ws n c e))

@@ -12,7 +12,7 @@ use Rattle.meaning.specs.Words.{key_at, dimensions_at, base_at}
 use Rattle.meaning.proofs.Rows.AscendingRow.{Asc}
 use Rattle.meaning.proofs.Rows.Keys.{shared_same, ultra}
 use Rattle.meaning.proofs.Rows.Blocks.{shared_by_blocks}
-use Rattle.meaning.proofs.Rows.Parent.{sharing-skips, sharing-hits, sharing-above}
+use Rattle.meaning.proofs.Rows.Parent.{sharing_skips, sharing_hits, sharing_above}
 use Rattle.meaning.proofs.BothWays.ConverseRow.{node_in}
 use Rattle.account.specs.declared.Seen.{Seen}
 use Rattle.account.proofs.AcceptedTests.{Header}
@@ -48,14 +48,14 @@ rising ws header s (m ∷ met) t levels =
 
 module _ (ws : List ℕ) (pos : 0 < base_at ws) where
   -- after a cell p that shares more than d with x, the first that is met by a number of at most d
-  sharing-next : (x p d : ℕ) (met : List Met) → Rising ws p met → key_at ws x ≤ key_at ws p → d < shared (base_at ws) (dimensions_at ws) (key_at ws x) (key_at ws p) →
+  sharing_next : (x p d : ℕ) (met : List Met) → Rising ws p met → key_at ws x ≤ key_at ws p → d < shared (base_at ws) (dimensions_at ws) (key_at ws x) (key_at ws p) →
       first_sharing (base_at ws) (dimensions_at ws) (key_at ws x) d (row_in ws met) ≡ next d met
   unfolding first_sharing next
-  sharing-next x p d [] r h l = refl
-  sharing-next x p d (m ∷ met) r h l =
+  sharing_next x p d [] r h l = refl
+  sharing_next x p d (m ∷ met) r h l =
       at (dec_lt d m.link_number) (ℕ_discrete m.link_number d) r.0.1
       (ultra b D (key_at ws x) (key_at ws p) (key_at ws m.cell) pos h (let k = r.0.0 in omega arith))
-      (λ k. sharing-next x m.cell d met r.1 (let i = r.0.0 in omega arith) k)
+      (λ k. sharing_next x m.cell d met r.1 (let i = r.0.0 in omega arith) k)
     where
       b : ℕ
       b = base_at ws
@@ -68,15 +68,15 @@ module _ (ws : List ℕ) (pos : 0 < base_at ws) where
           (d < shared b D (key_at ws x) (key_at ws m.cell) → first_sharing b D (key_at ws x) d (row_in ws met) ≡ next d met) →
           first_sharing b D (key_at ws x) d (node_in ws m.cell ∷ row_in ws met) ≡ next d (m ∷ met)
       at (yes k) q is u more =
-          sharing-skips b D (key_at ws x) d (node_in ws m.cell ∷ []) (row_in ws met) ((λ e. omega arith), tt) ∙ more (omega arith) ∙ sym (next_past d m met k)
+          sharing_skips b D (key_at ws x) d (node_in ws m.cell ∷ []) (row_in ws met) ((λ e. omega arith), tt) ∙ more (omega arith) ∙ sym (next_past d m met k)
       at (no k) (yes q) is u more =
-          sharing-hits b D (key_at ws x) d (node_in ws m.cell) (row_in ws met) (omega arith) ∙ sym (next_here d m met q)
+          sharing_hits b D (key_at ws x) d (node_in ws m.cell) (row_in ws met) (omega arith) ∙ sym (next_here d m met q)
       at (no k) (no q) is u more =
-          sharing-above b D pos (key_at ws x) d (node_in ws m.cell) (row_in ws met) (let i = r.0.0 in omega arith) (row_asc ws m.cell met r.1)
+          sharing_above b D pos (key_at ws x) d (node_in ws m.cell) (row_in ws met) (let i = r.0.0 in omega arith) (row_asc ws m.cell met r.1)
           (omega arith)
           ∙ sym (next_none d m met (omega arith))
 
   -- link d of x
-  pub sharing-is-next : (x d : ℕ) (met : List Met) → Rising ws x met → d < dimensions_at ws →
+  pub sharing_is_next : (x d : ℕ) (met : List Met) → Rising ws x met → d < dimensions_at ws →
       first_sharing (base_at ws) (dimensions_at ws) (key_at ws x) d (row_in ws met) ≡ next d met
-  sharing-is-next x d met r l = sharing-next x x d met r (omega arith) (omega (arith, shared_same (base_at ws) (dimensions_at ws) (key_at ws x)))
+  sharing_is_next x d met r l = sharing_next x x d met r (omega arith) (omega (arith, shared_same (base_at ws) (dimensions_at ws) (key_at ws x)))

@@ -17,13 +17,13 @@ use Rattle.meaning.specs.Picture.{mark}
 use Rattle.meaning.specs.Words.{key_at, value_at, mark_at, owed_at, low_at, high_at, link_at, dimensions_at, base_at}
 use Rattle.meaning.specs.Walk.{link_read}
 use Rattle.meaning.proofs.Pictures.State.{Debt}
-use Rattle.meaning.proofs.Cells.WalkRead.{Held, link_tested, read-own, read-owed, read_unowing, between_facts}
+use Rattle.meaning.proofs.Cells.WalkRead.{Held, link_tested, read_own, read_owed, read_unowing, between_facts}
 use Rattle.meaning.proofs.BothWays.ConverseRow.{node_in}
 use Rattle.account.specs.declared.Seen.{Seen}
 use Rattle.account.specs.Tree.{due_to, at_head}
 use Rattle.account.proofs.AcceptedTests.{DebtTested, Right, Header, Head}
 use Rattle.account.proofs.AcceptedRun.{Met, next, next_here, next_none, Linked, Links, seen, Trace}
-use Rattle.account.proofs.AcceptedKeys.{row_in, Rising, sharing-is-next}
+use Rattle.account.proofs.AcceptedKeys.{row_in, Rising, sharing_is_next}
 
 -- Links read through what is owed
 
@@ -72,28 +72,28 @@ clear_next ws x e c (m ∷ met) = inl c
 
 -- a cell y that owes: its only link leads to the owed cell
 module _ (ws : List ℕ) (x y e : ℕ) (o : DebtTested ws x y e) where
-  owing-link : link_read ws y (high_at ws y) ≡ owed_at ws y
-  owing-link =
-      read-own ws y (high_at ws y) (due_not ws y (high_at ws y) (omega arith)) ∙ o.links (high_at ws y) o.inside
+  owing_link : link_read ws y (high_at ws y) ≡ owed_at ws y
+  owing_link =
+      read_own ws y (high_at ws y) (due_not ws y (high_at ws y) (omega arith)) ∙ o.links (high_at ws y) o.inside
       ∙ ap (λ t. cond t (owed_at ws y) 0) (eq-eqb (high_at ws y) (high_at ws y) refl)
 
-  owing-none : (d : ℕ) → d < dimensions_at ws → high_at ws y < d → link_read ws y d ≡ 0
-  owing-none d l h =
-      read-own ws y d (due_not ws y d (omega arith)) ∙ o.links d l ∙ ap (λ t. cond t (owed_at ws y) 0) (ne_eqb d (high_at ws y) (λ q. omega arith))
+  owing_none : (d : ℕ) → d < dimensions_at ws → high_at ws y < d → link_read ws y d ≡ 0
+  owing_none d l h =
+      read_own ws y d (due_not ws y d (omega arith)) ∙ o.links d l ∙ ap (λ t. cond t (owed_at ws y) 0) (ne_eqb d (high_at ws y) (λ q. omega arith))
 
   -- so that is the cell met next
-  owing-next : (owed_at ws y ≡ 0 → ⊥) → (later : List Met) → Linked ws y e later →
+  owing_next_lem : (owed_at ws y ≡ 0 → ⊥) → (later : List Met) → Linked ws y e later →
       All (λ m. 0 < m.cell) later → All (λ m. m.link_number < dimensions_at ws) later → OwesNext ws y e later
   unfolding next
-  owing-next ne [] linked cells levels = absurd (ne (sym owing-link ∙ linked (high_at ws y) (let h = o.high in omega arith) o.inside))
-  owing-next ne (m ∷ later) linked cells levels = at (dec_lt (high_at ws y) m.link_number) (ℕ_discrete m.link_number (high_at ws y))
+  owing_next_lem ne [] linked cells levels = absurd (ne (sym owing_link ∙ linked (high_at ws y) (let h = o.high in omega arith) o.inside))
+  owing_next_lem ne (m ∷ later) linked cells levels = at (dec_lt (high_at ws y) m.link_number) (ℕ_discrete m.link_number (high_at ws y))
     where
       leads : owed_at ws y ≡ next (high_at ws y) (m ∷ later)
-      leads = sym owing-link ∙ linked (high_at ws y) (let h = o.high in omega arith) o.inside
+      leads = sym owing_link ∙ linked (high_at ws y) (let h = o.high in omega arith) o.inside
 
       at : Dec (high_at ws y < m.link_number) → Dec (m.link_number ≡ high_at ws y) → Clear ws y ⊎ OwesTo ws y e m
       at (yes h) q =
-          let z : 0 ≡ m.cell = sym (owing-none m.link_number levels.0 h) ∙ linked m.link_number (let k = o.high in omega arith) levels.0
+          let z : 0 ≡ m.cell = sym (owing_none m.link_number levels.0 h) ∙ linked m.link_number (let k = o.high in omega arith) levels.0
           ∙ next_here m.link_number m later refl in
           absurd (let p = cells.0 in omega arith)
       at (no h) (yes q) =
@@ -106,7 +106,7 @@ owes_next ws s y e later r linked cells levels = at (ℕ_discrete (owed_at ws y)
   where
     at : Dec (owed_at ws y ≡ 0) → OwesNext ws y e later
     at (yes q) = let u = r.unowing q in clear_next ws y e (record { owed = q; low = u.0; high = u.1 }) later
-    at (no ne) = owing-next ws s.last y e (r.owing ne) ne later linked cells levels
+    at (no ne) = owing_next_lem ws s.last y e (r.owing ne) ne later linked cells levels
 
 -- The words by place
 
@@ -127,40 +127,40 @@ owes_is ws x ne = rw (ne_eqb (owed_at ws x) 0 ne) refl
 
 -- the words of what is owed
 module _ (ws : List ℕ) (a ea y e dim : ℕ) (same : dim ≡ e) where
-  debt-owed : (later : List Met) → OwesNext ws y e later → owed_at ws y ≡ owed (place_in ws a ea y dim later)
-  debt-owed [] c = c.owed ∙ sym (ap (λ t. cond t 0 0) (owes_not ws y c.owed))
-  debt-owed (m ∷ later) (inl c) = c.owed ∙ sym (ap (λ t. cond t m.cell 0) (owes_not ws y c.owed))
-  debt-owed (m ∷ later) (inr o) = o.owed ∙ sym (ap (λ t. cond t m.cell 0) (owes_is ws y o.owes))
+  debt_owed : (later : List Met) → OwesNext ws y e later → owed_at ws y ≡ owed (place_in ws a ea y dim later)
+  debt_owed [] c = c.owed ∙ sym (ap (λ t. cond t 0 0) (owes_not ws y c.owed))
+  debt_owed (m ∷ later) (inl c) = c.owed ∙ sym (ap (λ t. cond t m.cell 0) (owes_not ws y c.owed))
+  debt_owed (m ∷ later) (inr o) = o.owed ∙ sym (ap (λ t. cond t m.cell 0) (owes_is ws y o.owes))
 
-  debt-low : (later : List Met) → OwesNext ws y e later → low_at ws y ≡ low (place_in ws a ea y dim later)
-  debt-low [] c = c.low ∙ sym (ap (λ t. cond t dim 0) (owes_not ws y c.owed))
-  debt-low (m ∷ later) (inl c) = c.low ∙ sym (ap (λ t. cond t dim 0) (owes_not ws y c.owed))
-  debt-low (m ∷ later) (inr o) = o.low ∙ sym same ∙ sym (ap (λ t. cond t dim 0) (owes_is ws y o.owes))
+  debt_low : (later : List Met) → OwesNext ws y e later → low_at ws y ≡ low (place_in ws a ea y dim later)
+  debt_low [] c = c.low ∙ sym (ap (λ t. cond t dim 0) (owes_not ws y c.owed))
+  debt_low (m ∷ later) (inl c) = c.low ∙ sym (ap (λ t. cond t dim 0) (owes_not ws y c.owed))
+  debt_low (m ∷ later) (inr o) = o.low ∙ sym same ∙ sym (ap (λ t. cond t dim 0) (owes_is ws y o.owes))
 
-  debt-high : (later : List Met) → Rising ws y later → OwesNext ws y e later → high_at ws y ≡ high (base_at ws) (dimensions_at ws) (place_in ws a ea y dim later)
-  debt-high [] r c = c.high ∙ sym (ap (λ t. cond t (shared (base_at ws) (dimensions_at ws) (key_at ws y) 0) 0) (owes_not ws y c.owed))
-  debt-high (m ∷ later) r (inl c) =
+  debt_high : (later : List Met) → Rising ws y later → OwesNext ws y e later → high_at ws y ≡ high (base_at ws) (dimensions_at ws) (place_in ws a ea y dim later)
+  debt_high [] r c = c.high ∙ sym (ap (λ t. cond t (shared (base_at ws) (dimensions_at ws) (key_at ws y) 0) 0) (owes_not ws y c.owed))
+  debt_high (m ∷ later) r (inl c) =
       c.high ∙ sym (ap (λ t. cond t (shared (base_at ws) (dimensions_at ws) (key_at ws y) (key_at ws m.cell)) 0) (owes_not ws y c.owed))
-  debt-high (m ∷ later) r (inr o) =
+  debt_high (m ∷ later) r (inr o) =
       o.high ∙ sym r.0.1 ∙ sym (ap (λ t. cond t (shared (base_at ws) (dimensions_at ws) (key_at ws y) (key_at ws m.cell)) 0) (owes_is ws y o.owes))
 
   -- the links of y that the cell itself owes
-  due-own : (later : List Met) → Rising ws y later → OwesNext ws y e later → (d : ℕ) →
+  due_own : (later : List Met) → Rising ws y later → OwesNext ws y e later → (d : ℕ) →
       due_to ws y d ≡ ((node_in ws y).owes && between (low (place_in ws a ea y dim later)) (high (base_at ws) (dimensions_at ws) (place_in ws a ea y dim later)) d)
-  due-own later r owes d = ap₂ (λ l h. (node_in ws y).owes && between l h d) (debt-low later owes) (debt-high later r owes)
+  due_own later r owes d = ap₂ (λ l h. (node_in ws y).owes && between l h d) (debt_low later owes) (debt_high later r owes)
 
   -- and those that the cell before owes
-  due-before : Clear ws a ⊎ OwesTo ws a ea (record { cell = y; link_number = e }) → (d : ℕ) → due_to ws a d ≡ ((node_in ws a).owes && between ea dim d)
-  due-before (inl c) d =
+  due_before : Clear ws a ⊎ OwesTo ws a ea (record { cell = y; link_number = e }) → (d : ℕ) → due_to ws a d ≡ ((node_in ws a).owes && between ea dim d)
+  due_before (inl c) d =
       ap (λ t. t && between (low_at ws a) (high_at ws a) d) (owes_not ws a c.owed) ∙ sym (ap (λ t. t && between ea dim d) (owes_not ws a c.owed))
-  due-before (inr o) d = ap₂ (λ l h. (node_in ws a).owes && between l h d) o.low (o.high ∙ sym same)
+  due_before (inr o) d = ap₂ (λ l h. (node_in ws a).owes && between l h d) o.low (o.high ∙ sym same)
 
   -- Debts 2: the owed cell is the next standing one and owes nothing, and low is below high
-  debt-allowed : (s : Seen) (later : List Met) → s.last ≡ y → Trace ws s later → Rising ws y later → OwesNext ws y e later →
+  debt_allowed : (s : Seen) (later : List Met) → s.last ≡ y → Trace ws s later → Rising ws y later → OwesNext ws y e later →
       (node_in ws y).owes ≡ true → Debt (base_at ws) (dimensions_at ws) (place_in ws a ea y dim later)
-  debt-allowed s [] is t r c o = absurd (false≢true (sym (owes_not ws y c.owed) ∙ o))
-  debt-allowed s (m ∷ later) is t r (inl c) o = absurd (false≢true (sym (owes_not ws y c.owed) ∙ o))
-  debt-allowed s (m ∷ later) is t r (inr owes) o =
+  debt_allowed s [] is t r c o = absurd (false≢true (sym (owes_not ws y c.owed) ∙ o))
+  debt_allowed s (m ∷ later) is t r (inl c) o = absurd (false≢true (sym (owes_not ws y c.owed) ∙ o))
+  debt_allowed s (m ∷ later) is t r (inr owes) o =
       record {
         later = omega arith;
         unowing = at (ℕ_discrete (owed_at ws m.cell) 0);
@@ -188,20 +188,20 @@ module _ (ws : List ℕ) (pos : 0 < base_at ws) (s : Seen) (ea : ℕ) (m : Met) 
           link_at ws m.cell d ≡ first_sharing (base_at ws) (dimensions_at ws) (key_at ws s.last) d (node_in ws m.cell ∷ row_in ws later)
       at (inl c) = absurd (due.owes c.owed)
       at (inr o) =
-          ap (λ x. link_at ws x d) (sym o.owed) ∙ sym (read-owed ws s.last d t) ∙ before d (let h = due.least in let k = o.low in omega arith) inside
-          ∙ sym (sharing-is-next ws pos s.last d (m ∷ later) rises inside)
+          ap (λ x. link_at ws x d) (sym o.owed) ∙ sym (read_owed ws s.last d t) ∙ before d (let h = due.least in let k = o.low in omega arith) inside
+          ∙ sym (sharing_is_next ws pos s.last d (m ∷ later) rises inside)
 
   -- one that the cell itself owes
-  link-owed : due_to ws m.cell d ≡ true → link_at ws m.cell d ≡ 0
-  link-owed t =
+  link_owed : due_to ws m.cell d ≡ true → link_at ws m.cell d ≡ 0
+  link_owed t =
       let due = due_fact ws m.cell d t in
       (right.owing due.owes).links d inside
       ∙ ap (λ q. cond q (owed_at ws m.cell) 0) (ne_eqb d (high_at ws m.cell) (λ q. let h = due.above in omega arith))
 
   -- any other is settled
-  link-own : (dim : ℕ) → dim ≡ m.link_number → due_to ws s.last d ≡ false → due_to ws m.cell d ≡ false →
+  link_own : (dim : ℕ) → dim ≡ m.link_number → due_to ws s.last d ≡ false → due_to ws m.cell d ≡ false →
       link_at ws m.cell d ≡ settled_link (base_at ws) (dimensions_at ws) (place_in ws s.last ea m.cell dim later) d
-  link-own dim same t u = at (dec_le dim d)
+  link_own dim same t u = at (dec_le dim d)
     where
       lower : (link_at ws m.cell d ≡ 0) ⊎ (due_to ws s.last d ≡ true) → link_at ws m.cell d ≡ 0
       lower (inl q) = q
@@ -210,14 +210,14 @@ module _ (ws : List ℕ) (pos : 0 < base_at ws) (s : Seen) (ea : ℕ) (m : Met) 
       at : Dec (dim ≤ d) → link_at ws m.cell d ≡ settled_link (base_at ws) (dimensions_at ws) (place_in ws s.last ea m.cell dim later) d
       at (yes h) =
           rw (le-leb dim d h)
-          (sym (read-own ws m.cell d u) ∙ linked d (omega arith) inside ∙ sym (sharing-is-next ws pos m.cell d later rises.1 inside))
+          (sym (read_own ws m.cell d u) ∙ linked d (omega arith) inside ∙ sym (sharing_is_next ws pos m.cell d later rises.1 inside))
       at (no h) = rw (lt-leb dim d (omega arith)) (lower (right.below d (omega arith)))
 
-  link-word : (dim : ℕ) → dim ≡ m.link_number → link_at ws m.cell d ≡ link (base_at ws) (dimensions_at ws) (place_in ws s.last ea m.cell dim later) d
-  link-word dim same =
+  link_word : (dim : ℕ) → dim ≡ m.link_number → link_at ws m.cell d ≡ link (base_at ws) (dimensions_at ws) (place_in ws s.last ea m.cell dim later) d
+  link_word dim same =
       at (due_to ws s.last d) (due_to ws m.cell d) refl refl
-      ∙ sym (link_tested b D p d (sym (due-before ws s.last ea m.cell m.link_number dim same before-owes d))
-      (sym (due-own ws s.last ea m.cell m.link_number dim same later rises.1 owes d)))
+      ∙ sym (link_tested b D p d (sym (due_before ws s.last ea m.cell m.link_number dim same before-owes d))
+      (sym (due_own ws s.last ea m.cell m.link_number dim same later rises.1 owes d)))
     where
       b : ℕ
       b = base_at ws
@@ -231,8 +231,8 @@ module _ (ws : List ℕ) (pos : 0 < base_at ws) (s : Seen) (ea : ℕ) (m : Met) 
       at : (q r : Bool) → due_to ws s.last d ≡ q → due_to ws m.cell d ≡ r →
           link_at ws m.cell d ≡ cond q (first_sharing b D (key_at ws s.last) d (node_in ws m.cell ∷ row_in ws later)) (cond r 0 (settled_link b D p d))
       at true r t u = link_due_lem t
-      at false true t u = link-owed u
-      at false false t u = link-own dim same t u
+      at false true t u = link_owed u
+      at false false t u = link_own dim same t u
 
 -- The places of the cells met
 
@@ -254,12 +254,12 @@ standing_after ws header s ea (m ∷ met) trace links rises cells levels before 
       key = refl;
       value = refl;
       mark = mark_word ws s m.cell m.link_number trace.0;
-      owed = debt-owed ws s.last ea m.cell m.link_number dim rises.0.1 met owes;
-      low = debt-low ws s.last ea m.cell m.link_number dim rises.0.1 met owes;
-      high = debt-high ws s.last ea m.cell m.link_number dim rises.0.1 met rises.1 owes;
-      link = λ d l. link-word ws header.positive s ea m met trace.0 before before-owes rises links.0 owes d l dim rises.0.1;
+      owed = debt_owed ws s.last ea m.cell m.link_number dim rises.0.1 met owes;
+      low = debt_low ws s.last ea m.cell m.link_number dim rises.0.1 met owes;
+      high = debt_high ws s.last ea m.cell m.link_number dim rises.0.1 met rises.1 owes;
+      link = λ d l. link_word ws header.positive s ea m met trace.0 before before-owes rises links.0 owes d l dim rises.0.1;
     };
-    debt = debt-allowed ws s.last ea m.cell m.link_number dim rises.0.1 (seen ws m s) met refl trace.1 rises.1 owes;
+    debt = debt_allowed ws s.last ea m.cell m.link_number dim rises.0.1 (seen ws m s) met refl trace.1 rises.1 owes;
   },
   standing_after ws header (seen ws m s) dim met trace.1 links.1 rises.1 cells.1 levels.1
       (subst (λ e. Linked ws m.cell e met) (sym rises.0.1) links.0) (subst (λ e. OwesNext ws m.cell e met) (sym rises.0.1) owes),
@@ -294,7 +294,7 @@ standing_head ws pos head met rises linked =
         link = λ d l.
             rw (le-leb 0 d (omega arith))
             (sym (read_unowing ws 0 d head.owed)
-            ∙ linked d (omega arith) l ∙ sym (sharing-is-next ws pos 0 d met rises l) ∙ ap (λ k. first_sharing b D k d (row_in ws met)) head.key);
+            ∙ linked d (omega arith) l ∙ sym (sharing_is_next ws pos 0 d met rises l) ∙ ap (λ k. first_sharing b D k d (row_in ws met)) head.key);
       };
       debt = λ o. absurd (false≢true o);
     }

@@ -27,15 +27,15 @@ use Rattle.meaning.proofs.Pictures.State.{Sound, base_positive, base_above, base
 use Rattle.meaning.proofs.Pictures.StateCells.{free_distinct, free_range, free_length}
 use Rattle.meaning.proofs.Pictures.Picture.{picture_length, picture_free, free_found}
 use Rattle.meaning.proofs.Pictures.ReadBack.{Follow, distinct_follow, list_is_picture, list_sound}
-use Rattle.meaning.proofs.Cells.WalkRead.{places-read}
-use Rattle.meaning.proofs.Cells.Placed.{free-cell-first, free-cell-rest}
+use Rattle.meaning.proofs.Cells.WalkRead.{places_read}
+use Rattle.meaning.proofs.Cells.Placed.{free_cell_first, free_cell_rest}
 use Rattle.account.specs.Tree.{path_run, children, head_right, at_head, free_right, chain_right, header_right, seen_all, accepts}
-use Rattle.account.proofs.CompleteOrder.{last_below, agreed_with, agreed_up_to, seen_at, LinksRead, Entered, Ready, below-keeps, last-any}
-use Rattle.account.proofs.CompleteOrder.{children-read}
-use Rattle.account.proofs.CompletePath.{Stands, PlaceOnPath, run-agreed, position_here, position-apart}
+use Rattle.account.proofs.CompleteOrder.{last_below, agreed_with, agreed_up_to, seen_at, LinksRead, Entered, Ready, below_keeps, last_any}
+use Rattle.account.proofs.CompleteOrder.{children_read}
+use Rattle.account.proofs.CompletePath.{Stands, PlaceOnPath, run_agreed, position_here, position_apart}
 use Rattle.account.proofs.AcceptedTests.{all_true}
-use Rattle.account.proofs.CompleteCell.{and_then, or_left, or_right, Shown, enters-after}
-use Rattle.account.proofs.CompleteShown.{position_stands, places-shown}
+use Rattle.account.proofs.CompleteCell.{and_then, or_left, or_right, Shown, enters_after}
+use Rattle.account.proofs.CompleteShown.{position_stands, places_shown}
 
 -- The position among the standing cells
 
@@ -70,14 +70,14 @@ passed_last : (b D key : ℕ) (p : Place) → Passing key p → leb key (last_be
 passed_last b D key p ahead =
     le-leb key last.node.key
     (at (subst (ToCome key last.node)
-    (last-any b D p.node.key p.node p.dimension p.before p.before_dimension p.later) passing.1))
+    (last_any b D p.node.key p.node p.dimension p.before p.before_dimension p.later) passing.1))
   where
     last : Place
     last = last_below b D 0 p
 
     passing : Passing key last
     passing =
-        below-keeps b D (Passing key) (λ q y later is h.
+        below_keeps b D (Passing key) (λ q y later is h.
         let asc : Asc q.node.key (y ∷ later) = subst (Asc q.node.key) is h.0 in
         (asc.1, ahead_next key q.node y later asc.0 (subst (ToCome key q.node) is h.1))) 0 p ahead
 
@@ -88,36 +88,36 @@ passed_last b D key p ahead =
 -- Every standing cell is right when it is read
 
 module _ (ws : List ℕ) (key free : ℕ) (pos : 0 < base_at ws) (some : 0 < dimensions_at ws) where
-  after-entered : (x : Node) (e : ℕ) (a : Node) (f : ℕ) (later : List Node) →
+  after_entered : (x : Node) (e : ℕ) (a : Node) (f : ℕ) (later : List Node) →
       Shown ws key (record { node = x; dimension = e; before = a; before_dimension = f; later = later }) →
       All (Shown ws key) (places_after (base_at ws) (dimensions_at ws) x e later) →
       All (LinksRead ws (base_at ws)) (places_after (base_at ws) (dimensions_at ws) x e later) →
       ToCome key x later → All (Entered ws (base_at ws) key free) (places_after (base_at ws) (dimensions_at ws) x e later)
   unfolding places_after
-  after-entered x e a f [] shown after links ahead = tt
-  after-entered x e a f (y ∷ later) shown after links ahead = (
+  after_entered x e a f [] shown after links ahead = tt
+  after_entered x e a f (y ∷ later) shown after links ahead = (
     record {
       positive = shown.later.0.0;
       links = links.0;
-      enters = enters-after ws key x e a f y later free pos some shown after.0 (gap key x y later shown.ascends ahead);
+      enters = enters_after ws key x e a f y later free pos some shown after.0 (gap key x y later shown.ascends ahead);
     },
-    after-entered y (shared (base_at ws) (dimensions_at ws) x.key y.key) x e later after.0 after.1 links.1
+    after_entered y (shared (base_at ws) (dimensions_at ws) x.key y.key) x e later after.0 after.1 links.1
         (ahead_next key x y later shown.ascends.0 ahead),
   )
 
 -- The head
 
 module _ (ws : List ℕ) (key free : ℕ) (row : List Node) (some : 0 < dimensions_at ws) (on : PlaceOnPath ws (base_at ws) key (head_place row)) where
-  head-agreed : path_run ws 0 0 (dimensions_at ws) ≡ shared (base_at ws) (dimensions_at ws) 0 key
-  head-agreed =
+  head_agreed : path_run ws 0 0 (dimensions_at ws) ≡ shared (base_at ws) (dimensions_at ws) 0 key
+  head_agreed =
       let D = dimensions_at ws in
       let all : D ≡ D - 0 = omega arith in
-      ap (path_run ws 0 0) all ∙ run-agreed ws (base_at ws) key (head_place row) on 0 (omega arith) (omega arith)
+      ap (path_run ws 0 0) all ∙ run_agreed ws (base_at ws) key (head_place row) on 0 (omega arith) (omega arith)
 
   -- what has been seen at the head
-  head-seen : cells_at ws - 1 ≡ length row + free → at_head ws ≡ seen_at (base_at ws) (dimensions_at ws) key free (head_place row)
+  head_seen : cells_at ws - 1 ≡ length row + free → at_head ws ≡ seen_at (base_at ws) (dimensions_at ws) key free (head_place row)
   unfolding at_head
-  head-seen left = λ i. record { right = right i; left = left i; last = 0; agreed = agreed i; reached = reached i }
+  head_seen left = λ i. record { right = right i; left = left i; last = 0; agreed = agreed i; reached = reached i }
     where
       b : ℕ
       b = base_at ws
@@ -126,10 +126,10 @@ module _ (ws : List ℕ) (key free : ℕ) (row : List Node) (some : 0 < dimensio
       D = dimensions_at ws
 
       agreed : path_run ws 0 0 D ≡ agreed_with b D key 0
-      agreed = head-agreed ∙ agreed_up_to b D key 0 (omega arith)
+      agreed = head_agreed ∙ agreed_up_to b D key 0 (omega arith)
 
       apart : (0 ≡ key → ⊥) → position_at ws ≡ 0 → ⊥
-      apart ne e = position-apart ws b key (head_place row) on some ne (sym e)
+      apart ne e = position_apart ws b key (head_place row) on some ne (sym e)
 
       here : 0 ≡ key → position_at ws ≡ 0
       here e = sym (position_here ws b key (head_place row) on some some e)
@@ -140,7 +140,7 @@ module _ (ws : List ℕ) (key free : ℕ) (row : List Node) (some : 0 < dimensio
           at : Dec (0 ≡ key) → (not (eqb (position_at ws) 0) || eqb (path_run ws 0 0 D) D) ≡ true
           at (yes e) =
               or_right (not (eqb (position_at ws) 0)) (eqb (path_run ws 0 0 D) D)
-              (eq-eqb (path_run ws 0 0 D) D (head-agreed ∙ ap (shared b D 0) (sym e) ∙ shared_same b D 0))
+              (eq-eqb (path_run ws 0 0 D) D (head_agreed ∙ ap (shared b D 0) (sym e) ∙ shared_same b D 0))
           at (no ne) =
               or_left (not (eqb (position_at ws) 0)) (eqb (path_run ws 0 0 D) D) (ap not (ne_eqb (position_at ws) 0 (apart ne)))
 
@@ -183,11 +183,11 @@ all_seen ws key free row pos some stands cells shown links =
     record {
       ascends = shown.0.ascends;
       links = links.0;
-      later = after-entered ws key free pos some head_node 0 head_node 0 row shown.0 shown.1 links.1 (head_ahead key row stands);
+      later = after_entered ws key free pos some head_node 0 head_node 0 row shown.0 shown.1 links.1 (head_ahead key row stands);
       enough = omega arith;
     } in
-    ap (children C ws D 0) (head-seen ws key free row some shown.0.path (omega arith))
-    ∙ children-read ws b key free C pos some D (omega arith) (head_place row) (omega arith) ready
+    ap (children C ws D 0) (head_seen ws key free row some shown.0.path (omega arith))
+    ∙ children_read ws b key free C pos some D (omega arith) (head_place row) (omega arith) ready
     ∙ ap (λ m. seen_at b D key free (last_below b D m (head_place row))) lowest
 
 -- The picture of a state in order
@@ -218,67 +218,67 @@ module _ (s : State) (v : Sound s) where
   free_right_lem c h found =
       and_then (lt-ltb c s.settings.cells h)
       (all_true (λ j. eqb (word_at (picture s) c j) 0) 1 (cell_words s.settings.dimensions - 1)
-      (λ j k l. eq-eqb (word_at (picture s) c j) 0 (free-cell-rest s c h found j k (omega arith))))
+      (λ j k l. eq-eqb (word_at (picture s) c j) 0 (free_cell_rest s c h found j k (omega arith))))
 
-  chain-right : (cs : List ℕ) → Follow s.free cs → All (λ c. (0 < c) × (c < s.settings.cells)) cs →
+  chain_right_lem : (cs : List ℕ) → Follow s.free cs → All (λ c. (0 < c) × (c < s.settings.cells)) cs →
       All (λ c. place_of c (places s.settings.base s.settings.dimensions s.row) ≡ none) cs →
       chain_right (picture s) (length cs) (first_number cs) ≡ true
   unfolding chain_right
-  chain-right [] follow range found = refl
-  chain-right (c ∷ cs) follow range found =
+  chain_right_lem [] follow range found = refl
+  chain_right_lem (c ∷ cs) follow range found =
       rw (free_right_lem c range.0.1 found.0)
-      (ap (chain_right (picture s) (length cs)) (free-cell-first s c range.0.1 found.0 ∙ follow.0) ∙ chain-right cs follow.1 range.1 found.1)
+      (ap (chain_right (picture s) (length cs)) (free_cell_first s c range.0.1 found.0 ∙ follow.0) ∙ chain_right_lem cs follow.1 range.1 found.1)
 
   -- all standing cells, read to the end of the row
-  picture-seen : seen_all (picture s) ≡
+  picture_seen : seen_all (picture s) ≡
       seen_at s.settings.base s.settings.dimensions (position_key s) (length s.free)
       (last_below s.settings.base s.settings.dimensions 0 (head_place s.row))
   unfolding picture
-  picture-seen =
+  picture_seen =
       let least = v.ranges.dimensions_least in
       let cells = v.ranges.cells_least in
       let count = free_length s v in
       all_seen (picture s) (position_key s) (length s.free) s.row (base_positive s v) (omega arith) (position_stands s v) (omega arith)
-      (places-shown s v) (all_map (λ p r. r.link) (places s.settings.base s.settings.dimensions s.row) (places-read s v))
+      (places_shown s v) (all_map (λ p r. r.link) (places s.settings.base s.settings.dimensions s.row) (places_read s v))
 
   -- how many cells are left when all standing cells are read
-  pub seen-all-left : (seen_all (picture s)).left ≡ length s.free
-  seen-all-left =
+  pub seen_all_left : (seen_all (picture s)).left ≡ length s.free
+  seen_all_left =
       let b = s.settings.base in
       let D = s.settings.dimensions in
-      let end = ap length (last-any b D 0 head_node 0 head_node 0 s.row) in
-      ap (λ t. t.left) picture-seen ∙ omega arith
+      let end = ap length (last_any b D 0 head_node 0 head_node 0 s.row) in
+      ap (λ t. t.left) picture_seen ∙ omega arith
 
-  seen-all-passed : (seen_all (picture s)).reached ≡ true
-  seen-all-passed =
-      ap (λ t. t.reached) picture-seen
+  seen_all_passed : (seen_all (picture s)).reached ≡ true
+  seen_all_passed =
+      ap (λ t. t.reached) picture_seen
       ∙ passed_last s.settings.base s.settings.dimensions (position_key s) (head_place s.row)
       (v.ascends, head_ahead (position_key s) s.row (position_stands s v))
 
-  seen-all-right : (seen_all (picture s)).right ≡ true
-  seen-all-right = ap (λ t. t.right) picture-seen
+  seen_all_right : (seen_all (picture s)).right ≡ true
+  seen_all_right = ap (λ t. t.right) picture_seen
 
-  head-shown : Shown (picture s) (position_key s) (head_place s.row)
+  head_shown : Shown (picture s) (position_key s) (head_place s.row)
   unfolding places
-  head-shown = (places-shown s v).0
+  head_shown = (places_shown s v).0
 
-  at-head-right : (at_head (picture s)).right ≡ true
+  at_head_right : (at_head (picture s)).right ≡ true
   unfolding picture
-  at-head-right =
+  at_head_right =
       let least = v.ranges.dimensions_least in
       let cells = v.ranges.cells_least in
       let count = free_length s v in
-      ap (λ t. t.right) (head-seen (picture s) (position_key s) (length s.free) s.row (omega arith) head-shown.path (omega arith))
+      ap (λ t. t.right) (head_seen (picture s) (position_key s) (length s.free) s.row (omega arith) head_shown.path (omega arith))
 
-  pub picture-accepts : accepts (picture s) ≡ true
+  pub picture_accepts : accepts (picture s) ≡ true
   unfolding accepts
-  picture-accepts =
+  picture_accepts =
       rw (header_right_lem, accepts)
-      (and_then (head_right_lem (picture s) (position_key s) s.row head-shown)
-      (and_then (and_then at-head-right seen-all-right)
-      (and_then seen-all-passed
-      (ap₂ (chain_right (picture s)) seen-all-left (picture_free s)
-      ∙ chain-right s.free (distinct_follow s.free (free_distinct s v)) (free_range s v) (free_found s v)))))
+      (and_then (head_right_lem (picture s) (position_key s) s.row head_shown)
+      (and_then (and_then at_head_right seen_all_right)
+      (and_then seen_all_passed
+      (ap₂ (chain_right (picture s)) seen_all_left (picture_free s)
+      ∙ chain_right_lem s.free (distinct_follow s.free (free_distinct s v)) (free_range s v) (free_found s v)))))
 
 pub list_accepts : (ws : List ℕ) → is_list ws ≡ true → accepts ws ≡ true
-list_accepts ws e = subst (λ xs. accepts xs ≡ true) (list_is_picture ws e) (picture-accepts (read ws) (list_sound ws e))
+list_accepts ws e = subst (λ xs. accepts xs ≡ true) (list_is_picture ws e) (picture_accepts (read ws) (list_sound ws e))

@@ -21,11 +21,11 @@ use Rattle.meaning.proofs.Rows.Keys.{shared_same, shared_le, shared_less}
 use Rattle.meaning.proofs.Rows.Blocks.{shared_by_blocks}
 use Rattle.meaning.proofs.Pictures.State.{Debt}
 use Rattle.meaning.proofs.Cells.WalkRead.{Held, between_is, between_not, link_owing, link_tested}
-use Rattle.meaning.proofs.Rows.Parent.{sharing-hits, sharing-above}
+use Rattle.meaning.proofs.Rows.Parent.{sharing_hits, sharing_above}
 use Rattle.account.specs.Tree.{all_from, follows, node_right, due_to, links_below, debt_right, agreed_at, agreed_after, path_right, cell_right, entered}
 use Rattle.account.proofs.AcceptedTests.{all_true}
 use Rattle.account.proofs.CompleteOrder.{place_after, agreed_with, agreed_up_to, seen_at, seen_before}
-use Rattle.account.proofs.CompletePath.{PlaceOnPath, agreed_is, position_here, position-apart}
+use Rattle.account.proofs.CompletePath.{PlaceOnPath, agreed_is, position_here, position_apart}
 
 -- Tests that hold
 
@@ -85,10 +85,10 @@ module _ (ws : List ℕ) (key : ℕ) (x : Node) (e : ℕ) (a : Node) (f : ℕ) (
   abbrev second : Place
   second = place_after (base_at ws) (dimensions_at ws) first y later
 
-  cell-follows : 0 < base_at ws → 0 < dimensions_at ws → Shown ws key first → Shown ws key second →
+  cell_follows : 0 < base_at ws → 0 < dimensions_at ws → Shown ws key first → Shown ws key second →
       follows ws x.cell y.cell second.dimension ≡ true
   unfolding follows
-  cell-follows pos some s t =
+  cell_follows pos some s t =
       let b = base_at ws in
       let D = dimensions_at ws in
       let n = shared b D x.key y.key in
@@ -101,9 +101,9 @@ module _ (ws : List ℕ) (key : ℕ) (x : Node) (e : ℕ) (a : Node) (f : ℕ) (
       (lt-ltb x.key (block_start b D y.key (suc n)) blocks.1))
 
   -- a link below the dimension is 0 if x does not owe it
-  link-below : (d : ℕ) → d < second.dimension → (x.owes && between e second.dimension d) ≡ false →
+  link_below : (d : ℕ) → d < second.dimension → (x.owes && between e second.dimension d) ≡ false →
       link (base_at ws) (dimensions_at ws) second d ≡ 0
-  link-below d h free =
+  link_below d h free =
       let b = base_at ws in
       let D = dimensions_at ws in
       link_tested b D second d free refl
@@ -126,9 +126,9 @@ module _ (ws : List ℕ) (key : ℕ) (x : Node) (e : ℕ) (a : Node) (f : ℕ) (
       (ap not (ne_eqb (owed_at ws x.cell) 0 (λ z. omega arith)))
       (between_is (low_at ws x.cell) (high_at ws x.cell) d (omega arith) (omega arith))
 
-  links-below : Shown ws key first → Shown ws key second → links_below ws x.cell y.cell second.dimension ≡ true
+  links_below_lem : Shown ws key first → Shown ws key second → links_below ws x.cell y.cell second.dimension ≡ true
   unfolding links_below
-  links-below s t =
+  links_below_lem s t =
       all_true (λ d. eqb (link_at ws y.cell d) 0 || due_to ws x.cell d) 0 n (λ d h l. at d (omega arith) x.owes refl (dec_le e d))
     where
       b : ℕ
@@ -146,7 +146,7 @@ module _ (ws : List ℕ) (key : ℕ) (x : Node) (e : ℕ) (a : Node) (f : ℕ) (
       unowed : (d : ℕ) → d < n → (x.owes && between e n d) ≡ false → (eqb (link_at ws y.cell d) 0 || due_to ws x.cell d) ≡ true
       unowed d l free =
           or_left (eqb (link_at ws y.cell d) 0) (due_to ws x.cell d)
-          (eq-eqb (link_at ws y.cell d) 0 (t.held.link d (omega (arith, inside)) ∙ link-below d l free))
+          (eq-eqb (link_at ws y.cell d) 0 (t.held.link d (omega (arith, inside)) ∙ link_below d l free))
 
       at : (d : ℕ) → d < n → (owes : Bool) → x.owes ≡ owes → Dec (e ≤ d) → (eqb (link_at ws y.cell d) 0 || due_to ws x.cell d) ≡ true
       at d l false o any = unowed d l (ap (λ t. t && between e n d) o)
@@ -166,18 +166,18 @@ module _ (ws : List ℕ) (key : ℕ) (x : Node) (e : ℕ) (a : Node) (f : ℕ) (
       (eq-eqb (high_at ws y.cell) 0 (t.held.high ∙ ap (λ u. cond u (shared b D y.key (first_of later).key) 0) o)))
 
   -- if y owes, x does not
-  before-unowing : Shown ws key first → y.owes ≡ true → x.owes ≡ false
-  before-unowing s o = at x.owes refl
+  before_unowing : Shown ws key first → y.owes ≡ true → x.owes ≡ false
+  before_unowing s o = at x.owes refl
     where
       at : (t : Bool) → x.owes ≡ t → x.owes ≡ false
       at false q = q
       at true q = absurd (let u = (s.debt q).unowing in let z : ◌≡◌ {A = ℕ} 0 1 = cc in omega arith)
 
   -- the only link of a y that owes is link high, to the owed cell
-  link-owing : 0 < base_at ws → Shown ws key second → x.owes ≡ false → y.owes ≡ true →
+  link_owing_lem : 0 < base_at ws → Shown ws key second → x.owes ≡ false → y.owes ≡ true →
       (c : Node) (rest : List Node) → later ≡ c ∷ rest → (d : ℕ) →
       link (base_at ws) (dimensions_at ws) second d ≡ cond (eqb d (shared (base_at ws) (dimensions_at ws) y.key c.key)) c.cell 0
-  link-owing pos t unowing owing c rest is d =
+  link_owing_lem pos t unowing owing c rest is d =
       link_tested b D second d (ap (λ u. u && between e m d) unowing) refl
       ∙ ap (λ u. cond (u && between (cond u m 0) (cond u (shared b D y.key (first_of later).key) 0) d) 0 (settled_link b D second d)) owing
       ∙ ap (λ r. cond (between m (shared b D y.key (first_of r).key) d) 0 (cond (leb m d) (first_sharing b D y.key d r) 0)) is
@@ -207,16 +207,16 @@ module _ (ws : List ℕ) (key : ℕ) (x : Node) (e : ℕ) (a : Node) (f : ℕ) (
       at (no k) (yes l) other = rw (between_is m n d (omega (arith, k)) l, ne_eqb d n (λ z. omega (arith, l))) refl
       at (no k) (no l) (yes z) =
           rw (between_not m n d (omega (arith, l)), le-leb m d (omega (arith, k)), eq-eqb d n z)
-          (sharing-hits b D y.key d c rest (sym z))
+          (sharing_hits b D y.key d c rest (sym z))
       at (no k) (no l) (no z) =
           rw (between_not m n d (omega (arith, l)), le-leb m d (omega (arith, k)), ne_eqb d n z)
-          (sharing-above b D pos y.key d c rest (let h = asc.0 in omega arith) asc.1 (omega (arith, l, z)))
+          (sharing_above b D pos y.key d c rest (let h = asc.0 in omega arith) asc.1 (omega (arith, l, z)))
 
   -- y owes
-  debt-some : 0 < base_at ws → 0 < dimensions_at ws → Shown ws key first → Shown ws key second → y.owes ≡ true →
+  debt_some : 0 < base_at ws → 0 < dimensions_at ws → Shown ws key first → Shown ws key second → y.owes ≡ true →
       debt_right ws x.cell y.cell second.dimension ≡ true
   unfolding debt_right
-  debt-some pos some s t o = at later refl t.ascends t.later
+  debt_some pos some s t o = at later refl t.ascends t.later
     where
       at : (l : List Node) → later ≡ l → Asc y.key l → All (λ z. (0 < z.cell) × (z.cell < cells_at ws)) l →
           debt_right ws x.cell y.cell second.dimension ≡ true
@@ -229,7 +229,7 @@ module _ (ws : List ℕ) (key : ℕ) (x : Node) (e : ℕ) (a : Node) (f : ℕ) (
           let positive = range.0.0 in
           let inside = range.0.1 in
           let lower = (t.debt o).lower in
-          let unowing = before-unowing s o in
+          let unowing = before_unowing s o in
           let is-n : shared b D y.key (first_of later).key ≡ n = ap (λ r. shared b D y.key (first_of r).key) is in
           let is-owed : owed_at ws y.cell ≡ c.cell =
           t.held.owed ∙ ap (λ u. cond u (first_of later).cell 0) o ∙ ap (λ r. (first_of r).cell) is in
@@ -243,16 +243,16 @@ module _ (ws : List ℕ) (key : ℕ) (x : Node) (e : ℕ) (a : Node) (f : ℕ) (
           (and_then (lt-ltb (owed_at ws y.cell) (cells_at ws) (omega arith))
           (all_true (λ d. eqb (link_at ws y.cell d) (cond (eqb d (high_at ws y.cell)) (owed_at ws y.cell) 0)) 0 D (λ d h l.
           eq-eqb (link_at ws y.cell d) (cond (eqb d (high_at ws y.cell)) (owed_at ws y.cell) 0)
-          (t.held.link d (omega arith) ∙ link-owing pos t unowing o c rest is d
+          (t.held.link d (omega arith) ∙ link_owing_lem pos t unowing o c rest is d
           ∙ sym (ap₂ (λ h z. cond (eqb d h) z 0) is-high is-owed)))))))))
 
-  debt-right : 0 < base_at ws → 0 < dimensions_at ws → Shown ws key first → Shown ws key second →
+  debt_right_lem : 0 < base_at ws → 0 < dimensions_at ws → Shown ws key first → Shown ws key second →
       debt_right ws x.cell y.cell second.dimension ≡ true
-  debt-right pos some s t = at y.owes refl
+  debt_right_lem pos some s t = at y.owes refl
     where
       at : (owes : Bool) → y.owes ≡ owes → debt_right ws x.cell y.cell second.dimension ≡ true
       at false o = debt_none t o
-      at true o = debt-some pos some s t o
+      at true o = debt_some pos some s t o
 
   -- where y is the position, all path words agree
   path_right_lem : (free : ℕ) → 0 < base_at ws → 0 < dimensions_at ws → Shown ws key second →
@@ -275,7 +275,7 @@ module _ (ws : List ℕ) (key : ℕ) (x : Node) (e : ℕ) (a : Node) (f : ℕ) (
           ∙ ap (λ k. shared b D y.key k) (sym e) ∙ shared_same b D y.key))
       at (no ne) =
           or_left (not (eqb y.cell (position_at ws))) (eqb agreed D)
-          (ap not (ne_eqb y.cell (position_at ws) (position-apart ws b key second t.path some ne)))
+          (ap not (ne_eqb y.cell (position_at ws) (position_apart ws b key second t.path some ne)))
 
       -- whether or not it has been read before y
       before : (u : Bool) →
@@ -285,24 +285,24 @@ module _ (ws : List ℕ) (key : ℕ) (x : Node) (e : ℕ) (a : Node) (f : ℕ) (
       before false = at (ℕ_discrete y.key key)
 
   -- how many path words agree, up to y
-  agreed-next : (free : ℕ) → 0 < base_at ws → Shown ws key first → Shown ws key second → (key ≤ x.key) ⊎ (y.key ≤ key) →
+  agreed_next : (free : ℕ) → 0 < base_at ws → Shown ws key first → Shown ws key second → (key ≤ x.key) ⊎ (y.key ≤ key) →
       agreed_after ws y.cell second.dimension (seen_before (base_at ws) (dimensions_at ws) key free second)
       ≡ agreed_with (base_at ws) (dimensions_at ws) key y.key
-  agreed-next free pos s t (inl h) =
+  agreed_next free pos s t (inl h) =
       let rise = s.ascends.0 in
       rw (le-leb key x.key h, le-leb key y.key (omega arith)) refl
-  agreed-next free pos s t (inr h) =
+  agreed_next free pos s t (inr h) =
       let rise = s.ascends.0 in
       rw (lt-leb key x.key (omega arith))
       (agreed_is ws (base_at ws) key second t.path pos x.key refl ∙ agreed_up_to (base_at ws) (dimensions_at ws) key y.key h)
 
   -- the position has been read, up to y
-  passed-next : 0 < dimensions_at ws → Shown ws key first → Shown ws key second → (key ≤ x.key) ⊎ (y.key ≤ key) →
+  passed_next : 0 < dimensions_at ws → Shown ws key first → Shown ws key second → (key ≤ x.key) ⊎ (y.key ≤ key) →
       (leb key x.key || eqb y.cell (position_at ws)) ≡ leb key y.key
-  passed-next some s t (inl h) =
+  passed_next some s t (inl h) =
       let rise = s.ascends.0 in
       or_left (leb key x.key) (eqb y.cell (position_at ws)) (le-leb key x.key h) ∙ sym (le-leb key y.key (omega arith))
-  passed-next some s t (inr h) = at (ℕ_discrete y.key key)
+  passed_next some s t (inr h) = at (ℕ_discrete y.key key)
     where
       b : ℕ
       b = base_at ws
@@ -323,7 +323,7 @@ module _ (ws : List ℕ) (key : ℕ) (x : Node) (e : ℕ) (a : Node) (f : ℕ) (
           rw (
             lt-leb key x.key (omega (arith, rise, h)),
             lt-leb key y.key (omega (arith, ne, h)),
-            ne_eqb y.cell (position_at ws) (position-apart ws b key second t.path some ne),
+            ne_eqb y.cell (position_at ws) (position_apart ws b key second t.path some ne),
           ) refl
 
   cell_right_lem : (free : ℕ) → 0 < base_at ws → 0 < dimensions_at ws → Shown ws key first → Shown ws key second →
@@ -334,19 +334,19 @@ module _ (ws : List ℕ) (key : ℕ) (x : Node) (e : ℕ) (a : Node) (f : ℕ) (
       and_then
       (and_then (lt-ltb 0 (suc (length later) + free) (omega arith))
       (and_then (lt-ltb y.cell (cells_at ws) t.cell)
-      (and_then (cell-follows pos some s t)
+      (and_then (cell_follows pos some s t)
       (and_then (node_right_lem ws key second t gap)
-      (and_then (links-below s t) (debt-right pos some s t))))))
+      (and_then (links_below_lem s t) (debt_right_lem pos some s t))))))
       (path_right_lem free pos some t)
 
-  pub enters-after : (free : ℕ) → 0 < base_at ws → 0 < dimensions_at ws → Shown ws key first → Shown ws key second →
+  pub enters_after : (free : ℕ) → 0 < base_at ws → 0 < dimensions_at ws → Shown ws key first → Shown ws key second →
       (key ≤ x.key) ⊎ (y.key ≤ key) →
       entered ws y.cell second.dimension (seen_before (base_at ws) (dimensions_at ws) key free second)
       ≡ seen_at (base_at ws) (dimensions_at ws) key free second
   unfolding entered
-  enters-after free pos some s t gap =
+  enters_after free pos some s t gap =
       let fewer : suc (length later) + free - 1 ≡ length later + free = omega arith in
-      let agreed = agreed-next free pos s t gap in
-      let reached = passed-next some s t gap in
+      let agreed = agreed_next free pos s t gap in
+      let reached = passed_next some s t gap in
       rw (cell_right_lem free pos some s t gap)
       (λ i. record { right = true; left = fewer i; last = y.cell; agreed = agreed i; reached = reached i })

@@ -17,7 +17,7 @@ use Rattle.meaning.specs.Words.{dimensions_at}
 use Rattle.meaning.proofs.Rows.AscendingRow.{Asc, asc_above}
 use Rattle.meaning.proofs.Rows.Keys.{shared_same, shared_less, ultra}
 use Rattle.meaning.proofs.Cells.WalkRead.{settled_above}
-use Rattle.meaning.proofs.Rows.Parent.{sharing-skips, sharing-hits, sharing-above}
+use Rattle.meaning.proofs.Rows.Parent.{sharing_skips, sharing_hits, sharing_above}
 use Rattle.account.specs.declared.Seen.{Seen}
 use Rattle.account.specs.Tree.{entered, along, children}
 
@@ -42,10 +42,10 @@ last_below b D m p = last_sharing b D p.node.key m p.node p.dimension p.before p
 -- Where the last place is
 
 module _ (b D : ℕ) where
-  last-stops : (key m : ℕ) (x : Node) (e : ℕ) (a : Node) (f : ℕ) (y : Node) (later : List Node) → shared b D key y.key < m →
+  last_stops : (key m : ℕ) (x : Node) (e : ℕ) (a : Node) (f : ℕ) (y : Node) (later : List Node) → shared b D key y.key < m →
       last_sharing b D key m x e a f (y ∷ later) ≡ record { node = x; dimension = e; before = a; before_dimension = f; later = y ∷ later }
   unfolding last_sharing
-  last-stops key m x e a f y later h = rw (lt-ltb (shared b D key y.key) m h) refl
+  last_stops key m x e a f y later h = rw (lt-ltb (shared b D key y.key) m h) refl
 
   last_goes : (key m : ℕ) (x : Node) (e : ℕ) (a : Node) (f : ℕ) (y : Node) (later : List Node) → m ≤ shared b D key y.key →
       last_sharing b D key m x e a f (y ∷ later) ≡ last_sharing b D key m y (shared b D x.key y.key) x e later
@@ -53,23 +53,23 @@ module _ (b D : ℕ) where
   last_goes key m x e a f y later h = rw (le-ltb (shared b D key y.key) m h) refl
 
   -- the same for two keys, where each later node shares m with both or with neither
-  last-same : (key other m : ℕ) (x : Node) (e : ℕ) (a : Node) (f : ℕ) (later : List Node) →
+  last_same : (key other m : ℕ) (x : Node) (e : ℕ) (a : Node) (f : ℕ) (later : List Node) →
       All (λ y. ltb (shared b D key y.key) m ≡ ltb (shared b D other y.key) m) later →
       last_sharing b D key m x e a f later ≡ last_sharing b D other m x e a f later
   unfolding last_sharing
-  last-same key other m x e a f [] h = refl
-  last-same key other m x e a f (y ∷ later) h =
-      rw (h.0, last-same key other m y (shared b D x.key y.key) x e later h.1) refl
+  last_same key other m x e a f [] h = refl
+  last_same key other m x e a f (y ∷ later) h =
+      rw (h.0, last_same key other m y (shared b D x.key y.key) x e later h.1) refl
 
   -- what goes on from each place to the place after it goes on to the last one
-  last-keeps : (P : Place → Type 0) →
+  last_keeps : (P : Place → Type 0) →
       ((p : Place) (y : Node) (later : List Node) → p.later ≡ y ∷ later → P p → P (place_after b D p y later)) →
       (key m : ℕ) (x : Node) (e : ℕ) (a : Node) (f : ℕ) (later : List Node) →
       P (record { node = x; dimension = e; before = a; before_dimension = f; later = later }) → P (last_sharing b D key m x e a f later)
   unfolding last_sharing
-  last-keeps P step key m x e a f [] h = h
-  last-keeps P step key m x e a f (y ∷ later) h =
-      at (ltb (shared b D key y.key) m) (last-keeps P step key m y (shared b D x.key y.key) x e later (step here y later refl h))
+  last_keeps P step key m x e a f [] h = h
+  last_keeps P step key m x e a f (y ∷ later) h =
+      at (ltb (shared b D key y.key) m) (last_keeps P step key m y (shared b D x.key y.key) x e later (step here y later refl h))
     where
       here : Place
       here = record { node = x; dimension = e; before = a; before_dimension = f; later = y ∷ later }
@@ -79,24 +79,24 @@ module _ (b D : ℕ) where
       at true more = h
       at false more = more
 
-  pub below-keeps : (P : Place → Type 0) →
+  pub below_keeps : (P : Place → Type 0) →
       ((p : Place) (y : Node) (later : List Node) → p.later ≡ y ∷ later → P p → P (place_after b D p y later)) →
       (m : ℕ) (p : Place) → P p → P (last_below b D m p)
-  below-keeps P step m p h = last-keeps P step p.node.key m p.node p.dimension p.before p.before_dimension p.later h
+  below_keeps P step m p h = last_keeps P step p.node.key m p.node p.dimension p.before p.before_dimension p.later h
 
   -- no later node shares D coordinates
   last_none : 0 < D → (x : Node) (e : ℕ) (a : Node) (f : ℕ) (later : List Node) → Asc x.key later →
       last_sharing b D x.key D x e a f later ≡ record { node = x; dimension = e; before = a; before_dimension = f; later = later }
   last_none pos x e a f [] h = unfold last_sharing in refl
   last_none pos x e a f (y ∷ later) h =
-      last-stops x.key D x e a f y later (shared_less b D x.key y.key pos (λ e. let k = h.0 in omega arith))
+      last_stops x.key D x e a f y later (shared_less b D x.key y.key pos (λ e. let k = h.0 in omega arith))
 
   -- all nodes share 0 coordinates
-  pub last-any : (key : ℕ) (x : Node) (e : ℕ) (a : Node) (f : ℕ) (later : List Node) →
+  pub last_any : (key : ℕ) (x : Node) (e : ℕ) (a : Node) (f : ℕ) (later : List Node) →
       (last_sharing b D key 0 x e a f later).later ≡ []
-  last-any key x e a f [] = unfold last_sharing in refl
-  last-any key x e a f (y ∷ later) =
-      ap (λ q. q.later) (last_goes key 0 x e a f y later (omega arith)) ∙ last-any key y (shared b D x.key y.key) x e later
+  last_any key x e a f [] = unfold last_sharing in refl
+  last_any key x e a f (y ∷ later) =
+      ap (λ q. q.later) (last_goes key 0 x e a f y later (omega arith)) ∙ last_any key y (shared b D x.key y.key) x e later
 
 -- The next sibling
 
@@ -109,9 +109,9 @@ data Next (b D e : ℕ) (q : Place) (to : ℕ) (end : Place) : Type 0 where
 
 module _ (b D : ℕ) (pos : 0 < b) where
   -- later than a y that shares e with a key, a node shares e with both or with neither
-  sharing-alike : (key e : ℕ) (y : Node) (later : List Node) → key ≤ y.key → shared b D key y.key ≡ e → Asc y.key later →
+  sharing_alike : (key e : ℕ) (y : Node) (later : List Node) → key ≤ y.key → shared b D key y.key ≡ e → Asc y.key later →
       All (λ z. ltb (shared b D key z.key) e ≡ ltb (shared b D y.key z.key) e) later
-  sharing-alike key e y later h is asc =
+  sharing_alike key e y later h is asc =
       all_map (λ z k. at z (dec_lt (shared b D y.key z.key) e) (ultra b D key y.key z.key pos h (let l = k in omega arith)))
       later (asc_above y.key later asc)
     where
@@ -143,23 +143,23 @@ module _ (b D : ℕ) (pos : 0 < b) where
           Next b D e (last_sharing b D key (suc e) x dim a f (y ∷ later)) (first_sharing b D key e (y ∷ later))
           (last_sharing b D key e x dim a f (y ∷ later))
       at (yes l) q on =
-          rw (last-stops b D key (suc e) x dim a f y later (omega (arith, l)), last-stops b D key e x dim a f y later l)
-          (none (sharing-above b D pos key e y later rise asc.1 l) refl)
+          rw (last_stops b D key (suc e) x dim a f y later (omega (arith, l)), last_stops b D key e x dim a f y later l)
+          (none (sharing_above b D pos key e y later rise asc.1 l) refl)
       at (no l) (yes g) on =
           rw (
             last_goes b D key (suc e) x dim a f y later g,
             last_goes b D key e x dim a f y later (omega (arith, g)),
-            sharing-skips b D key e (y ∷ []) later ((λ q. omega (arith, g)), tt),
+            sharing_skips b D key e (y ∷ []) later ((λ q. omega (arith, g)), tt),
           ) (on g)
       at (no l) (no g) on =
           let is : shared b D key y.key ≡ e = omega (arith, l, g) in
           rw (
-            last-stops b D key (suc e) x dim a f y later (omega arith),
+            last_stops b D key (suc e) x dim a f y later (omega arith),
             last_goes b D key e x dim a f y later (omega arith),
-            sharing-hits b D key e y later is,
+            sharing_hits b D key e y later is,
           )
           (sibling y later refl (omega (arith, near)) refl
-          (last-same b D key y.key e y (shared b D x.key y.key) x dim later (sharing-alike key e y later rise is asc.1)))
+          (last_same b D key y.key e y (shared b D x.key y.key) x dim later (sharing_alike key e y later rise is asc.1)))
 
 -- Reading along the siblings
 
@@ -217,10 +217,10 @@ along_step higher ws e fuel x s = refl
 
 module _ (ws : List ℕ) (b key free full : ℕ) (pos : 0 < b) where
   -- a sibling, which is right when it is read
-  onward-goes : (higher : ℕ → Seen → Seen) (e fuel : ℕ) (t : Seen) (p : Place) → t.right ≡ true → 0 < p.node.cell →
+  onward_goes : (higher : ℕ → Seen → Seen) (e fuel : ℕ) (t : Seen) (p : Place) → t.right ≡ true → 0 < p.node.cell →
       entered ws p.node.cell e t ≡ seen_at b (dimensions_at ws) key free p →
       way_on higher ws e fuel t p.node.cell ≡ along higher ws e fuel p.node.cell (seen_at b (dimensions_at ws) key free p)
-  onward-goes higher e fuel t p right positive is =
+  onward_goes higher e fuel t p right positive is =
       let y = p.node.cell in
       let u = entered ws y e t in
       ap (λ r. cond r (cond (eqb y 0) t (cond u.right (along higher ws e fuel y u) u)) t) right
@@ -228,10 +228,10 @@ module _ (ws : List ℕ) (b key free full : ℕ) (pos : 0 < b) where
       ∙ ap (λ v. cond v.right (along higher ws e fuel y v) v) is
 
   -- the next place is right when it is read, and ready
-  ready-next : (p : Place) (y : Node) (later : List Node) → p.later ≡ y ∷ later → Ready ws b key free full p →
+  ready_next : (p : Place) (y : Node) (later : List Node) → p.later ≡ y ∷ later → Ready ws b key free full p →
       Entered ws b key free (place_after b (dimensions_at ws) p y later) × Ready ws b key free full (place_after b (dimensions_at ws) p y later)
   unfolding places_after
-  ready-next p y later is r =
+  ready_next p y later is r =
       let D = dimensions_at ws in
       let asc : Asc p.node.key (y ∷ later) = subst (Asc p.node.key) is r.ascends in
       let all : All (Entered ws b key free) (places_after b D p.node p.dimension (y ∷ later)) =
@@ -240,29 +240,29 @@ module _ (ws : List ℕ) (b key free full : ℕ) (pos : 0 < b) where
       let m = ap length is in
       (all.0, record { ascends = asc.1; links = all.0.links; later = all.1; enough = omega arith })
 
-  ready-last : (m : ℕ) (p : Place) → Ready ws b key free full p → Ready ws b key free full (last_below b (dimensions_at ws) m p)
-  ready-last m p r = below-keeps b (dimensions_at ws) (Ready ws b key free full) (λ q y later is h. (ready-next q y later is h).1) m p r
+  ready_last : (m : ℕ) (p : Place) → Ready ws b key free full p → Ready ws b key free full (last_below b (dimensions_at ws) m p)
+  ready_last m p r = below_keeps b (dimensions_at ws) (Ready ws b key free full) (λ q y later is h. (ready_next q y later is h).1) m p r
 
-  last-shorter : (m : ℕ) (p : Place) → length (last_below b (dimensions_at ws) m p).later ≤ length p.later
-  last-shorter m p =
-      below-keeps b (dimensions_at ws) (λ q. length q.later ≤ length p.later) (λ q y later is h. let n = ap length is in omega arith)
+  last_shorter : (m : ℕ) (p : Place) → length (last_below b (dimensions_at ws) m p).later ≤ length p.later
+  last_shorter m p =
+      below_keeps b (dimensions_at ws) (λ q. length q.later ≤ length p.later) (λ q y later is h. let n = ap length is in omega arith)
       m p (omega arith)
 
   -- the children by link e, where those by higher links are read as stated
-  along-read : (higher : ℕ → Seen → Seen) (e : ℕ) → e < dimensions_at ws →
+  along_read : (higher : ℕ → Seen → Seen) (e : ℕ) → e < dimensions_at ws →
       ((p : Place) → p.dimension ≤ suc e → Ready ws b key free full p →
       higher p.node.cell (seen_at b (dimensions_at ws) key free p)
       ≡ seen_at b (dimensions_at ws) key free (last_below b (dimensions_at ws) (suc e) p)) →
       (fuel : ℕ) (p : Place) → p.dimension ≤ e → Ready ws b key free full p → length p.later < fuel →
       along higher ws e fuel p.node.cell (seen_at b (dimensions_at ws) key free p)
       ≡ seen_at b (dimensions_at ws) key free (last_below b (dimensions_at ws) e p)
-  along-read higher e inside above zero p dim r enough = absurd (omega arith)
-  along-read higher e inside above (suc fuel) p dim r enough =
+  along_read higher e inside above zero p dim r enough = absurd (omega arith)
+  along_read higher e inside above (suc fuel) p dim r enough =
       along_step higher ws e fuel p.node.cell (seen_at b D key free p)
       ∙ ap₂ (way_on higher ws e fuel) (above p (omega arith) r) (r.links e dim inside ∙ settled_above b D p e dim)
       ∙ at (next b D pos p.node.key e p.node p.dimension p.before p.before_dimension p.later
       (omega arith) (omega (arith, shared_same b D p.node.key)) r.ascends)
-      (λ n d s l. along-read higher e inside above fuel n d s l)
+      (λ n d s l. along_read higher e inside above fuel n d s l)
     where
       D : ℕ
       D = dimensions_at ws
@@ -277,30 +277,30 @@ module _ (ws : List ℕ) (b key free full : ℕ) (pos : 0 < b) where
           ≡ seen_at b D key free (last_below b D e p)
       at (none to end) more = ap (way_on higher ws e fuel (seen_at b D key free q)) to ∙ ap (seen_at b D key free) (sym end)
       at (sibling y later is dimension to end) more =
-          let next = ready-next q y later is (ready-last (suc e) p r) in
-          let n = last-shorter (suc e) p in
+          let next = ready_next q y later is (ready_last (suc e) p r) in
+          let n = last_shorter (suc e) p in
           let m = ap length is in
           ap (way_on higher ws e fuel (seen_at b D key free q)) to
-          ∙ onward-goes higher e fuel (seen_at b D key free q) (place_after b D q y later) refl next.0.positive
+          ∙ onward_goes higher e fuel (seen_at b D key free q) (place_after b D q y later) refl next.0.positive
           (ap₂ (entered ws y.cell) (sym dimension) (ap (λ l. seen_with b D key q.node (length l + free)) is) ∙ next.0.enters)
           ∙ more (place_after b D q y later) (omega arith) next.1 (omega arith)
           ∙ ap (seen_at b D key free) (sym end)
 
   -- the children by links D-1 down to D-n
-  pub children-read : 0 < dimensions_at ws → (n : ℕ) → n ≤ dimensions_at ws → (p : Place) → p.dimension ≤ dimensions_at ws - n →
+  pub children_read : 0 < dimensions_at ws → (n : ℕ) → n ≤ dimensions_at ws → (p : Place) → p.dimension ≤ dimensions_at ws - n →
       Ready ws b key free full p →
       children full ws n p.node.cell (seen_at b (dimensions_at ws) key free p)
       ≡ seen_at b (dimensions_at ws) key free (last_below b (dimensions_at ws) (dimensions_at ws - n) p)
   unfolding children
-  children-read some zero h p dim r =
+  children_read some zero h p dim r =
       let D = dimensions_at ws in
       let highest : D - 0 ≡ D = omega arith in
       ap (seen_at b D key free)
       (sym (ap (λ m. last_below b D m p) highest
       ∙ last_none b D some p.node p.dimension p.before p.before_dimension p.later r.ascends))
-  children-read some (suc n) h p dim r =
+  children_read some (suc n) h p dim r =
       let D = dimensions_at ws in
       let lower : D - n ≡ suc (D - suc n) = omega arith in
-      along-read (children full ws n) (D - suc n) (omega arith)
-      (λ q d s. children-read some n (omega arith) q (omega arith) s ∙ ap (λ m. seen_at b D key free (last_below b D m q)) lower)
+      along_read (children full ws n) (D - suc n) (omega arith)
+      (λ q d s. children_read some n (omega arith) q (omega arith) s ∙ ap (λ m. seen_at b D key free (last_below b D m q)) lower)
       full p dim r r.enough

@@ -20,7 +20,7 @@ use Rattle.meaning.specs.Picture.{first_with}
 use Rattle.meaning.specs.Words.{dimensions_at, position_at}
 use Rattle.meaning.proofs.Rows.AscendingRow.{Asc}
 use Rattle.meaning.proofs.Rows.Keys.{shared_same, shared_sym, shared_le, shared_less, ultra, triangle}
-use Rattle.meaning.proofs.Rows.Parent.{first-skips, first-hits}
+use Rattle.meaning.proofs.Rows.Parent.{first_skips, first_hits}
 use Rattle.meaning.proofs.Paths.Path.{first_alike}
 use Rattle.account.specs.Tree.{path_run, agreed_at}
 
@@ -33,16 +33,16 @@ Stands key (x ∷ row) = (x.key ≡ key) ⊎ Stands key row
 
 module _ (b D : ℕ) where
   -- it is not a cell c if what has that cell shares less
-  first-other : (key n c : ℕ) → n ≤ D → (row : List Node) → Stands key row → All (λ x. x.cell ≡ c → shared b D x.key key < n) row →
+  first_other : (key n c : ℕ) → n ≤ D → (row : List Node) → Stands key row → All (λ x. x.cell ≡ c → shared b D x.key key < n) row →
       first_with b D key n row ≡ c → ⊥
-  first-other key n c h [] stands less is = stands
-  first-other key n c h (x ∷ row) stands less is = at (dec_lt (shared b D x.key key) n) stands (first-other key n c h row)
+  first_other key n c h [] stands less is = stands
+  first_other key n c h (x ∷ row) stands less is = at (dec_lt (shared b D x.key key) n) stands (first_other key n c h row)
     where
       at : Dec (shared b D x.key key < n) → Stands key (x ∷ row) →
           (Stands key row → All (λ y. y.cell ≡ c → shared b D y.key key < n) row → first_with b D key n row ≡ c → ⊥) → ⊥
       at (yes l) (inl e) more = omega (arith, l, h, ap (λ k. shared b D k key) e, shared_same b D key)
-      at (yes l) (inr later) more = more later less.1 (sym (first-skips b D key n x row l) ∙ is)
-      at (no l) any more = l (less.0 (sym (first-hits b D key n x row (omega (arith, l))) ∙ is))
+      at (yes l) (inr later) more = more later less.1 (sym (first_skips b D key n x row l) ∙ is)
+      at (no l) any more = l (less.0 (sym (first_hits b D key n x row (omega (arith, l))) ∙ is))
 
 -- Cells and their keys
 
@@ -79,8 +79,8 @@ module _ (ws : List ℕ) (b key : ℕ) (all : List Node) (pos : 0 < b) (stands :
   abbrev Own : Node → Type 0
   Own y = All (λ x. x.cell ≡ y.cell → x.key ≡ y.key) all
 
-  on-path : (p : Place) → WayDown p → Own p.node → PlaceOnPath ws b key p
-  on-path p way own =
+  on_path : (p : Place) → WayDown p → Own p.node → PlaceOnPath ws b key p
+  on_path p way own =
       let D = dimensions_at ws in
       record {
         here = λ d h l.
@@ -89,7 +89,7 @@ module _ (ws : List ℕ) (b key : ℕ) (all : List Node) (pos : 0 < b) (stands :
             ∙ sym (first_alike b D pos p.node.key key (suc d) l all)
             ∙ way d h (omega arith);
         apart = λ d h l is.
-            first-other b D key (suc d) p.node.cell l all stands
+            first_other b D key (suc d) p.node.cell l all stands
             (all_map (λ x f e. let q = ap (λ k. shared b D k key) (f e) in omega arith) all own)
             (sym (words d l) ∙ is);
       }
@@ -98,21 +98,21 @@ module _ (ws : List ℕ) (b key : ℕ) (all : List Node) (pos : 0 < b) (stands :
   past_next x y later h past k n le less =
       let D = dimensions_at ws in
       let u = ultra b D x.key y.key k pos (omega arith) le in
-      past k n (omega arith) (omega arith) ∙ first-skips b D k n y later less
+      past k n (omega arith) (omega arith) ∙ first_skips b D k n y later less
 
   way_next : (x y : Node) (e : ℕ) (later : List Node) → x.key < y.key → Past x (y ∷ later) →
       WayDown (record { node = y; dimension = shared b (dimensions_at ws) x.key y.key; before = x; before_dimension = e; later = later })
   way_next x y e later h past d le less =
       let D = dimensions_at ws in
-      past y.key (suc d) (omega arith) (omega arith) ∙ first-hits b D y.key (suc d) y later (omega (arith, shared_same b D y.key))
+      past y.key (suc d) (omega arith) (omega arith) ∙ first_hits b D y.key (suc d) y later (omega (arith, shared_same b D y.key))
 
-  after-on-path : (x : Node) (e : ℕ) (later : List Node) → Asc x.key later → Past x later → All Own later →
+  after_on_path : (x : Node) (e : ℕ) (later : List Node) → Asc x.key later → Past x later → All Own later →
       All (PlaceOnPath ws b key) (places_after b (dimensions_at ws) x e later)
   unfolding places_after
-  after-on-path x e [] asc past own = tt
-  after-on-path x e (y ∷ later) asc past own = (
-    on-path _ (way_next x y e later asc.0 past) own.0,
-    after-on-path y (shared b (dimensions_at ws) x.key y.key) later asc.1 (past_next x y later asc.0 past) own.1,
+  after_on_path x e [] asc past own = tt
+  after_on_path x e (y ∷ later) asc past own = (
+    on_path _ (way_next x y e later asc.0 past) own.0,
+    after_on_path y (shared b (dimensions_at ws) x.key y.key) later asc.1 (past_next x y later asc.0 past) own.1,
   )
 
 pub places_on_path : (ws : List ℕ) (b key : ℕ) (row : List Node) → 0 < b → Asc 0 row → Distinct (0 ∷ map (λ x. x.cell) row) →
@@ -124,9 +124,9 @@ places_on_path ws b key row pos asc distinct stands words =
     let D = dimensions_at ws in
     let all : List Node = head_node ∷ row in
     let own = distinct_keys all distinct in (
-      on-path ws b key all pos stands words (head_place row)
-          (λ d h l. first-hits b D 0 (suc d) head_node row (omega (arith, shared_same b D 0))) own.0,
-      after-on-path ws b key all pos stands words head_node 0 row asc (λ k n le less. first-skips b D k n head_node row less) own.1,
+      on_path ws b key all pos stands words (head_place row)
+          (λ d h l. first_hits b D 0 (suc d) head_node row (omega (arith, shared_same b D 0))) own.0,
+      after_on_path ws b key all pos stands words head_node 0 row asc (λ k n le less. first_skips b D k n head_node row less) own.1,
     )
 
 -- How many path words agree
@@ -150,9 +150,9 @@ run_is ws y d (suc n) m low high same other = at (ℕ_discrete d m) (run_is ws y
 
 module _ (ws : List ℕ) (b key : ℕ) (p : Place) (on : PlaceOnPath ws b key p) where
   -- from p's dimension on, the words that are p's cell run up to what it shares with the position
-  pub run-agreed : (d : ℕ) → p.dimension ≤ d → d ≤ shared b (dimensions_at ws) p.node.key key →
+  pub run_agreed : (d : ℕ) → p.dimension ≤ d → d ≤ shared b (dimensions_at ws) p.node.key key →
       path_run ws p.node.cell d (dimensions_at ws - d) ≡ shared b (dimensions_at ws) p.node.key key
-  run-agreed d h l =
+  run_agreed d h l =
       let D = dimensions_at ws in
       let le = shared_le b D p.node.key key in
       run_is ws p.node.cell d (D - d) (shared b D p.node.key key) l (omega arith)
@@ -178,7 +178,7 @@ module _ (ws : List ℕ) (b key : ℕ) (p : Place) (on : PlaceOnPath ws b key p)
           (omega (arith, l, is, triangle b D x y key pos, triangle b D y x key pos, shared_sym b D x y))
       at (no l) =
           rw (le-ltb (shared b D x key) p.dimension (omega (arith, l)))
-          (run-agreed p.dimension (omega arith) (omega (arith, l, is, triangle b D y x key pos, shared_sym b D x y)))
+          (run_agreed p.dimension (omega arith) (omega (arith, l, is, triangle b D y x key pos, shared_sym b D x y)))
 
   -- p is the position exactly if its key is the position's
   pub position_here : 0 < dimensions_at ws → p.dimension < dimensions_at ws → p.node.key ≡ key → p.node.cell ≡ position_at ws
@@ -188,8 +188,8 @@ module _ (ws : List ℕ) (b key : ℕ) (p : Place) (on : PlaceOnPath ws b key p)
       sym (ap (λ i. get_or ws i 0) last
       ∙ on.here (D - 1) (omega arith) (omega (arith, ap (λ k. shared b D p.node.key k) (sym e), shared_same b D p.node.key)))
 
-  pub position-apart : 0 < dimensions_at ws → (p.node.key ≡ key → ⊥) → p.node.cell ≡ position_at ws → ⊥
-  position-apart some ne e =
+  pub position_apart : 0 < dimensions_at ws → (p.node.key ≡ key → ⊥) → p.node.cell ≡ position_at ws → ⊥
+  position_apart some ne e =
       let D = dimensions_at ws in
       let last : header_words + D - 1 ≡ header_words + (D - 1) = omega arith in
       on.apart (D - 1) (omega (arith, shared_less b D p.node.key key some ne)) (omega arith) (sym (e ∙ ap (λ i. get_or ws i 0) last))

@@ -17,8 +17,8 @@ use Rattle.meaning.proofs.Pictures.State.{Debt, Sound, base_positive, base_above
 use Rattle.meaning.proofs.Pictures.StateCells.{cells_distinct, row_range}
 use Rattle.meaning.proofs.Pictures.Picture.{picture_path, places_later}
 use Rattle.meaning.proofs.Rows.Places.{key_of_same, key_of_other}
-use Rattle.meaning.proofs.Cells.WalkRead.{Held, all_places, places-held}
-use Rattle.meaning.proofs.BothWays.SentencesRow.{places-ascend}
+use Rattle.meaning.proofs.Cells.WalkRead.{Held, all_places, places_held}
+use Rattle.meaning.proofs.BothWays.SentencesRow.{places_ascend}
 use Rattle.account.proofs.CompletePath.{Stands, PlaceOnPath, places_on_path}
 use Rattle.account.proofs.CompleteCell.{Shown}
 
@@ -85,16 +85,16 @@ module _ (s : State) (v : Sound s) where
         path = path;
       }
 
-  path-shown : All (PlaceOnPath (picture s) s.settings.base (position_key s)) (places s.settings.base s.settings.dimensions s.row)
+  path_shown : All (PlaceOnPath (picture s) s.settings.base (position_key s)) (places s.settings.base s.settings.dimensions s.row)
   unfolding picture
-  path-shown =
+  path_shown =
       places_on_path (picture s) s.settings.base (position_key s) s.row (base_positive s v) v.ascends
       (distinct_left (0 ∷ map (λ x. x.cell) s.row) s.free (cells_distinct s v)) (position_stands s v) (picture_path s)
 
-  pub places-shown : All (Shown (picture s) (position_key s)) (places s.settings.base s.settings.dimensions s.row)
-  places-shown =
-      each standing (places-held s v) (places_kept s v) v.debts (places-ascend b D s.row v.ascends)
-      (places_later (λ z. (0 < z.cell) × (z.cell < s.settings.cells)) b D s.row (row_range s v)) path-shown
+  pub places_shown : All (Shown (picture s) (position_key s)) (places s.settings.base s.settings.dimensions s.row)
+  places_shown =
+      each standing (places_held s v) (places_kept s v) v.debts (places_ascend b D s.row v.ascends)
+      (places_later (λ z. (0 < z.cell) × (z.cell < s.settings.cells)) b D s.row (row_range s v)) path_shown
     where
       b : ℕ
       b = s.settings.base

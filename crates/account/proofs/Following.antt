@@ -96,16 +96,16 @@ followed_once ws l pending t = refl
 
 module _ (ws : List ℕ) (fuel : ℕ) where
   -- the links of x of number e, and those of higher numbers, which are read as the children by them are
-  along-followed : (n e : ℕ) → dimensions_at ws - e ≡ suc n →
+  along_followed : (n e : ℕ) → dimensions_at ws - e ≡ suc n →
       ((x : ℕ) (pending : List Link) (s : Seen) → s.right ≡ true → s.left < fuel →
       followed_all ws (put_from (link_read ws x) (suc e) n pending) s ≡ followed_after ws pending (children fuel ws n x s)) →
       (rest x : ℕ) (pending : List Link) (s : Seen) → s.right ≡ true → s.left < fuel → s.left < rest →
       followed_all ws (put_from (link_read ws x) e (suc n) pending) s ≡ followed_after ws pending (along (children fuel ws n) ws e rest x s)
-  along-followed n e up higher zero x pending s right h l = absurd (omega arith)
-  along-followed n e up higher (suc rest) x pending s right h l =
+  along_followed n e up higher zero x pending s right h l = absurd (omega arith)
+  along_followed n e up higher (suc rest) x pending s right h l =
       ap (λ p. followed_all ws p s) (put_once (link_read ws x) e n pending)
       ∙ higher x (put y e pending) s right h
-      ∙ at t.right refl (eqb y 0) refl u.right refl (along-followed n e up higher rest y pending)
+      ∙ at t.right refl (eqb y 0) refl u.right refl (along_followed n e up higher rest y pending)
       ∙ ap (followed_after ws pending) (sym (along_once (children fuel ws n) ws e rest x s))
     where
       t : Seen
@@ -123,8 +123,8 @@ module _ (ws : List ℕ) (fuel : ℕ) where
       way : Bool → Bool → Bool → Seen
       way r none goes = cond r (cond none t (cond goes (along (children fuel ws n) ws e rest y u) u)) t
 
-      way-is : {r none goes : Bool} → t.right ≡ r → eqb y 0 ≡ none → u.right ≡ goes → way t.right (eqb y 0) u.right ≡ way r none goes
-      way-is {r} {none} q z w = ap (λ b. way b (eqb y 0) u.right) q ∙ ap (λ b. way r b u.right) z ∙ ap (way r none) w
+      way_is : {r none goes : Bool} → t.right ≡ r → eqb y 0 ≡ none → u.right ≡ goes → way t.right (eqb y 0) u.right ≡ way r none goes
+      way_is {r} {none} q z w = ap (λ b. way b (eqb y 0) u.right) q ∙ ap (λ b. way r b u.right) z ∙ ap (way r none) w
 
       at : (r : Bool) → t.right ≡ r → (none : Bool) → eqb y 0 ≡ none → (goes : Bool) → u.right ≡ goes →
           ((w : Seen) → w.right ≡ true → w.left < fuel → w.left < rest →
@@ -132,15 +132,15 @@ module _ (ws : List ℕ) (fuel : ℕ) where
           followed_after ws (put y e pending) t ≡ followed_after ws pending (way t.right (eqb y 0) u.right)
       at false q none z goes w more =
           ap (λ r. cond r (followed_all ws (put y e pending) t) t) q
-          ∙ sym (ap (followed_after ws pending) (way-is q z w) ∙ ap (λ r. cond r (followed_all ws pending t) t) q)
+          ∙ sym (ap (followed_after ws pending) (way_is q z w) ∙ ap (λ r. cond r (followed_all ws pending t) t) q)
       at true q true z goes w more =
-          ap (λ none. followed_after ws (cond none pending (link ∷ pending)) t) z ∙ sym (ap (followed_after ws pending) (way-is q z w))
+          ap (λ none. followed_after ws (cond none pending (link ∷ pending)) t) z ∙ sym (ap (followed_after ws pending) (way_is q z w))
       at true q false z false w more =
           ap (λ none. followed_after ws (cond none pending (link ∷ pending)) t) z
           ∙ ap (λ r. cond r (followed_all ws (link ∷ pending) t) t) q
           ∙ followed_once ws link pending t
           ∙ ap (λ r. cond r (followed t.left ws (put_links ws y e pending) u) u) w
-          ∙ sym (ap (followed_after ws pending) (way-is q z w) ∙ ap (λ r. cond r (followed_all ws pending u) u) w)
+          ∙ sym (ap (followed_after ws pending) (way_is q z w) ∙ ap (λ r. cond r (followed_all ws pending u) u) w)
       at true q false z true w more =
           let falls = entered_falls ws y e t w in
           let less = children_left fuel ws n x s in
@@ -151,19 +151,19 @@ module _ (ws : List ℕ) (fuel : ℕ) where
           ∙ followed_enough t.left (suc u.left) ws (put_links ws y e pending) u falls (omega arith)
           ∙ ap (λ m. followed_all ws (put_from (link_read ws y) e m pending) u) up
           ∙ more u w (omega arith) (omega arith)
-          ∙ sym (ap (followed_after ws pending) (way-is q z w))
+          ∙ sym (ap (followed_after ws pending) (way_is q z w))
 
   -- the links of x of the n highest numbers
-  children-followed : (n : ℕ) → n ≤ dimensions_at ws → (x : ℕ) (pending : List Link) (s : Seen) → s.right ≡ true → s.left < fuel →
+  children_followed : (n : ℕ) → n ≤ dimensions_at ws → (x : ℕ) (pending : List Link) (s : Seen) → s.right ≡ true → s.left < fuel →
       followed_all ws (put_from (link_read ws x) (dimensions_at ws - n) n pending) s ≡ followed_after ws pending (children fuel ws n x s)
   unfolding children put_from
-  children-followed zero h x pending s right l = sym (ap (λ r. cond r (followed_all ws pending s) s) right)
-  children-followed (suc n) h x pending s right l =
+  children_followed zero h x pending s right l = sym (ap (λ r. cond r (followed_all ws pending s) s) right)
+  children_followed (suc n) h x pending s right l =
       let e = dimensions_at ws - suc n in
       let up : dimensions_at ws - e ≡ suc n = omega arith in
       let next : dimensions_at ws - n ≡ suc e = omega arith in
-      along-followed n e up
-      (λ z p w r m. ap (λ d. followed_all ws (put_from (link_read ws z) d n p) w) (sym next) ∙ children-followed n (omega arith) z p w r m) fuel x pending s
+      along_followed n e up
+      (λ z p w r m. ap (λ d. followed_all ws (put_from (link_read ws z) d n p) w) (sym next) ∙ children_followed n (omega arith) z p w r m) fuel x pending s
       right l l
 
 -- all links of the head followed
@@ -174,7 +174,7 @@ head_followed ws right less =
     let all : D - 0 ≡ D = omega arith in
     let none : D - D ≡ 0 = omega arith in
     ap₂ (λ d n. followed_all ws (put_from (link_read ws 0) d n []) (at_head ws)) (sym none) all
-    ∙ children-followed ws (cells_at ws) D (omega arith) 0 [] (at_head ws) right less
+    ∙ children_followed ws (cells_at ws) D (omega arith) 0 [] (at_head ws) right less
     ∙ same (seen_all ws).right (seen_all ws)
   where
     same : (r : Bool) (t : Seen) → cond r t t ≡ t

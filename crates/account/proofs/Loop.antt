@@ -214,37 +214,37 @@ put_owing ws y e pending o =
 
 module _ (ws : List ℕ) {x e from : ℕ} (h : Hung ws x e from) (y : ℕ) (inside : e ≤ dimensions_at ws) (pending : List Link) (s : Seen) where
   -- its links are wrong
-  pub links-wrong : links_none ws y from ≡ false → verdict (left_over ws x y e from pending s) ≡ no_list
-  links-wrong f =
+  pub links_wrong : links_none ws y from ≡ false → verdict (left_over ws x y e from pending s) ≡ no_list
+  links_wrong f =
       ap (λ t. verdict (cond (t && debt_right ws x y e) (followed_all ws (put_links ws y e (put_from (link_at ws y) from (e - from) pending)) s) (wrong s)))
       (links_tested h y ∙ f)
 
   module _ (links : links_none ws y from ≡ true) where
-    hangs-is : hangs_right ws x y e ≡ debt_right ws x y e
-    hangs-is = ap (λ t. t && debt_right ws x y e) (links_tested h y ∙ links)
+    hangs_is : hangs_right ws x y e ≡ debt_right ws x y e
+    hangs_is = ap (λ t. t && debt_right ws x y e) (links_tested h y ∙ links)
 
     -- it owes nothing: its links are put
-    pub goes-free : owes_nothing ws y ≡ true →
+    pub goes_free : owes_nothing ws y ≡ true →
         left_over ws x y e from pending s ≡ followed_all ws (put_from (link_at ws y) from (dimensions_at ws - from) pending) s
-    goes-free none =
-        ap (λ t. cond t (followed_all ws (put_links ws y e (put_from (link_at ws y) from (e - from) pending)) s) (wrong s)) (hangs-is ∙ debt_none ws x y e none)
+    goes_free none =
+        ap (λ t. cond t (followed_all ws (put_links ws y e (put_from (link_at ws y) from (e - from) pending)) s) (wrong s)) (hangs_is ∙ debt_none ws x y e none)
         ∙ ap (λ p. followed_all ws p s) (put_free ws y e from pending (owes_none ws y none) (hung_least h) inside)
 
     module _ (some : owes_nothing ws y ≡ false) where
       -- it owes otherwise than a cell may
-      pub debt-wrong : eqb from e && owes_right ws y e ≡ false → verdict (left_over ws x y e from pending s) ≡ no_list
-      debt-wrong f =
+      pub debt_wrong : eqb from e && owes_right ws y e ≡ false → verdict (left_over ws x y e from pending s) ≡ no_list
+      debt_wrong f =
           ap (λ t. verdict (cond t (followed_all ws (put_links ws y e (put_from (link_at ws y) from (e - from) pending)) s) (wrong s)))
-          (hangs-is ∙ debt_tested h y some ∙ f)
+          (hangs_is ∙ debt_tested h y some ∙ f)
 
       -- it owes: its one link is followed
-      pub goes-owing : from ≡ e → owes_right ws y e ≡ true →
+      pub goes_owing : from ≡ e → owes_right ws y e ≡ true →
           left_over ws x y e from pending s
           ≡ followed_all ws (record { cell = owed_at ws y; number = high_at ws y } ∷ put_from (link_at ws (owed_at ws y)) e (high_at ws y - e) pending) s
-      goes-owing same owes =
+      goes_owing same owes =
           let none : e - from ≡ 0 = omega arith in
           ap (λ t. cond t (followed_all ws (put_links ws y e (put_from (link_at ws y) from (e - from) pending)) s) (wrong s))
-          (hangs-is ∙ debt_tested h y some ∙ ap₂ ◌&&◌ (eq-eqb from e same) owes)
+          (hangs_is ∙ debt_tested h y some ∙ ap₂ ◌&&◌ (eq-eqb from e same) owes)
           ∙ ap (λ n. followed_all ws (put_links ws y e (put_from (link_at ws y) from n pending)) s) none
           ∙ ap (λ p. followed_all ws (put_links ws y e p) s) (put_zero (link_at ws y) from pending)
           ∙ ap (λ p. followed_all ws p s) (put_owing ws y e pending (owes_told ws y e owes))
@@ -281,16 +281,16 @@ met_left ws y e s t = ltb-true 0 s.left (both (ltb 0 s.left) _ (both (alone_righ
 
 module _ (ws : List ℕ) (y e : ℕ) (pending : List Link) (s : Seen) where
   -- it is wrong
-  pub met-wrong : met_right ws y e s ≡ false → verdict (followed_all ws (record { cell = y; number = e } ∷ pending) s) ≡ no_list
-  met-wrong f =
+  pub met_wrong : met_right ws y e s ≡ false → verdict (followed_all ws (record { cell = y; number = e } ∷ pending) s) ≡ no_list
+  met_wrong f =
       ap verdict (followed_once ws (record { cell = y; number = e }) pending s)
       ∙ ap (λ u. verdict (cond u.right (followed s.left ws (put_links ws y e pending) u) u))
       (entered_is ws y e s ∙ ap (λ t. cond (t && hangs_right ws s.last y e) (met ws y e s) (wrong s)) f)
 
   -- it is right, and what is left is to be done
-  pub met-goes : met_right ws y e s ≡ true → (other : List Link) (from : ℕ) → pending ≡ put_from (link_at ws y) from (e - from) other →
+  pub met_goes : met_right ws y e s ≡ true → (other : List Link) (from : ℕ) → pending ≡ put_from (link_at ws y) from (e - from) other →
       verdict (followed_all ws (record { cell = y; number = e } ∷ pending) s) ≡ verdict (left_over ws s.last y e from other (met ws y e s))
-  met-goes t other from is =
+  met_goes t other from is =
       ap verdict (followed_once ws (record { cell = y; number = e }) pending s)
       ∙ ap (λ u. verdict (cond u.right (followed s.left ws (put_links ws y e pending) u) u))
       (entered_is ws y e s ∙ ap (λ b. cond (b && hangs_right ws s.last y e) (met ws y e s) (wrong s)) t)

@@ -1,8 +1,10 @@
 // How the check for refusal 3 reads a buffer: cell by cell in ascending order of keys, each child's own children in turn. This crate
 // has the account of it on the words (specs/Tree.antt) and the proof that it accepts exactly the lists; the code is crate is_list.
+#![tactic(auto)]
+
 
 // What the check knows when it has read some cells.
-#[derive(Drop)]
+#[derive(Clone, Copy)]
 pub struct Seen {
     // nothing wrong so far
     pub right: bool,

@@ -26,7 +26,7 @@ pub data Refusal : Type 0 where
   -- set up, read: length not the exact one
   wrong_length : Refusal
   -- the buffer is not a list (all but set up and read)
-  not_aList : Refusal
+  not_a_list : Refusal
   -- key 0 or above K
   bad_key : Refusal
   -- insert: key is live
@@ -58,7 +58,7 @@ pub data Refusal : Type 0 where
 abbrev pub answer_of : Refusal → Answer
 answer_of out_of_range = answer 1 0 0 0
 answer_of wrong_length = answer 2 0 0 0
-answer_of not_aList = answer 3 0 0 0
+answer_of not_a_list = answer 3 0 0 0
 answer_of bad_key = answer 4 0 0 0
 answer_of (key_live key looked) = answer 5 key 0 looked
 answer_of (no_free_cell key looked) = answer 6 key 0 looked

@@ -1,10 +1,12 @@
 // What every call answers: four numbers, the first of which is 0 or a refusal of the table. And the five operations on a list that has been set up.
+#![tactic(auto)]
+
 ghost use Rattle.std.specs.Prelude.{◌≡◌};
 ghost use Rattle.answers.specs.Refusals.{answer};
 
 // The operations: every call answers four numbers.
 #[repr(C)]
-#[derive(Drop)]
+#[derive(Clone, Copy)]
 pub struct Answer {
     pub refusal: u32,
     pub key: u32,
@@ -13,7 +15,7 @@ pub struct Answer {
 }
 
 // The five operations on a list that has been set up, with their numbers.
-#[derive(Drop)]
+#[derive(Clone, Copy)]
 pub enum Operation {
     // key, value
     Insert(u32, u32),

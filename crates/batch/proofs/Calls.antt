@@ -27,15 +27,15 @@ module _ (words : List ℕ) (i : ℕ) (h : i < length words / 3) where
   after : 3 * i + 3 ≡ 3 * (i + 1)
   after = omega arith
 
-  pub kinds-more : are_calls (drop (3 * i) words) ≡ is_kind (get_or words (3 * i) 0) && are_calls (drop (3 * (i + 1)) words)
+  pub kinds_more : are_calls (drop (3 * i) words) ≡ is_kind (get_or words (3 * i) 0) && are_calls (drop (3 * (i + 1)) words)
   unfolding are_calls
-  kinds-more = rw (three (3 * i) words (omega arith), after) refl
+  kinds_more = rw (three (3 * i) words (omega arith), after) refl
 
-  pub calls-more :
+  pub calls_more :
       calls_in (drop (3 * i) words) ≡
       operation_of (get_or words (3 * i) 0) (get_or words (3 * i + 1) 0) (get_or words (3 * i + 2) 0) ∷ calls_in (drop (3 * (i + 1)) words)
   unfolding calls_in
-  calls-more = rw (three (3 * i) words (omega arith), after) refl
+  calls_more = rw (three (3 * i) words (omega arith), after) refl
 
 -- fewer than three words are left
 few_calls : (words : List ℕ) → length words < 3 → (are_calls words ≡ eqb (length words) 0) × (calls_in words ≡ [])
@@ -49,11 +49,11 @@ module _ (words : List ℕ) (i : ℕ) (h : length words / 3 ≤ i) (least : i �
   left_over : length (drop (3 * i) words) ≡ length words % 3
   left_over = omega (arith, length-drop (3 * i) words)
 
-  pub kinds-end : are_calls (drop (3 * i) words) ≡ eqb (length words % 3) 0
-  kinds-end = (few_calls (drop (3 * i) words) (omega (arith, left_over))).0 ∙ ap (λ n. eqb n 0) left_over
+  pub kinds_end : are_calls (drop (3 * i) words) ≡ eqb (length words % 3) 0
+  kinds_end = (few_calls (drop (3 * i) words) (omega (arith, left_over))).0 ∙ ap (λ n. eqb n 0) left_over
 
-  pub calls-end : calls_in (drop (3 * i) words) ≡ []
-  calls-end = (few_calls (drop (3 * i) words) (omega (arith, left_over))).1
+  pub calls_end : calls_in (drop (3 * i) words) ≡ []
+  calls_end = (few_calls (drop (3 * i) words) (omega (arith, left_over))).1
 
 pub calls_length : (words : List ℕ) → length (calls_in words) ≡ length words / 3
 unfolding calls_in
@@ -80,13 +80,13 @@ are_calls_lem {r} {t} is all = at r all is
 -- Whether the calls fit, test by test.
 
 module _ (calls answers : List ℕ) where
-  pub no-calls-fit : are_calls calls ≡ false → false ≡ fits calls answers
+  pub no_calls_fit : are_calls calls ≡ false → false ≡ fits calls answers
   unfolding fits
-  no-calls-fit e = rw e refl
+  no_calls_fit e = rw e refl
 
-  pub no-room-fits : are_calls calls ≡ true → length answers / 4 < length calls / 3 → false ≡ fits calls answers
+  pub no_room_fits : are_calls calls ≡ true → length answers / 4 < length calls / 3 → false ≡ fits calls answers
   unfolding fits
-  no-room-fits e h =
+  no_room_fits e h =
       let n = calls_length calls in
       rw (e, lt-leb (4 * length (calls_in calls)) (length answers) (omega arith)) refl
 

@@ -15,14 +15,14 @@ use Rattle.calls.specs.Batch.{BatchLent, calls_in, fits, batch_done, batch_out}
 use Rattle.calls.proofs.Listed.{operation_listed}
 
 module _ (calls : List ℕ) (lent : BatchLent) {r : Answer} {s : Settings} (listed : reading_of lent.words ≡ IsList s) where
-  pub bad-batch : fits calls lent.answers ≡ false → r ≡ answer 19 0 0 0 → Meets (batch_out calls lent) r lent
+  pub bad_batch : fits calls lent.answers ≡ false → r ≡ answer 19 0 0 0 → Meets (batch_out calls lent) r lent
   unfolding batch_out
-  bad-batch bad answers = rw (listed, bad) (record { answered = answers; left = refl })
+  bad_batch bad answers = rw (listed, bad) (record { answered = answers; left = refl })
 
-  pub batch-done :
+  pub batch_done_lem :
       {after : BatchLent} → fits calls lent.answers ≡ true → Meets (batch_done (calls_in calls) lent) r after → Meets (batch_out calls lent) r after
   unfolding batch_out
-  batch-done good met = rw (listed, good) met
+  batch_done_lem good met = rw (listed, good) met
 
 pub operations_listed : {s : Settings} (calls : List Operation) {ws : List ℕ} → Listed ws s → Listed (after_calls (map operated calls) ws) s
 unfolding after_calls outcome

@@ -1,4 +1,6 @@
 // Many calls on a list that has been checked once: a call takes a list to a list, so the next one needs no check.
+#![tactic(auto)]
+
 ghost use Rattle.std.specs.Prelude.{◌≡◌, true, ◌+◌, ◌≤◌, length};
 ghost use Rattle.std.proofs.lemmas.List.Edits.{sets};
 ghost use Rattle.settings.specs.Levels.{PowersOf};

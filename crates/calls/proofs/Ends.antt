@@ -15,7 +15,7 @@ use Rattle.files.specs.declared.Contents.{Contents}
 use Rattle.files.specs.declared.Contents.TheVariants.{IsFile, NotAFile}
 use Rattle.calls.specs.Pairs.{live_pairs}
 use Rattle.meaning.specs.Reading.{settings_at, is_list, reading_of}
-use Rattle.answers.specs.Refusals.{Outcome, Refusal, wrong_length, not_aList, bad_file, no_room, answer_of, refused}
+use Rattle.answers.specs.Refusals.{Outcome, Refusal, wrong_length, not_a_list, bad_file, no_room, answer_of, refused}
 use Rattle.meaning.specs.Operations.{insert_out, operation_out}
 use Rattle.calls.specs.Records.{Lent, lent_of, Asked, nothing, insertion, note_asks, recorded, asked_out, note_on, note_out, record_out}
 use Rattle.calls.specs.Saved.{FileLent, file_lent, write_on, write_out, read_from, read_out}
@@ -27,7 +27,7 @@ use Rattle.answers.specs.declared.Operation.TheVariants.{Insert, Find, Finish, T
 use Rattle.calls.specs.declared.Call.TheVariants.{SetUp, Operate, Record, Write, Read}
 use Rattle.meaning.specs.declared.Reading.{Reading}
 use Rattle.meaning.specs.declared.Reading.TheVariants.{IsList, NotAList}
-use Rattle.meaning.proofs.Outcomes.{set-up-has, insert-has, find-has, finish-has, take-has, sweep-has}
+use Rattle.meaning.proofs.Outcomes.{set_up_has, insert_has, find_has, finish_has, take_has, sweep_has}
 use Rattle.answers.proofs.Refusals.{table}
 
 data Ends {Lent : Type 0} (lent : Lent) (o : Outcome Lent) : Type 0 where
@@ -47,7 +47,7 @@ ends_file lent o (well z) = well z
 ends_file lent o (refusing r e) = refusing r (ap (on_file lent) e)
 
 insert_ends : (ws : List ℕ) (key value : ℕ) → Ends ws (insert_out ws key value)
-insert_ends ws key value = insert-has (Ends ws) ws (turned_away ws) key value (λ count s. well refl)
+insert_ends ws key value = insert_has (Ends ws) ws (turned_away ws) key value (λ count s. well refl)
 
 -- a refused insert advances no last number
 ends_recorded : (lent : Lent) (number : ℕ) (o : Outcome (List ℕ)) → Ends lent.words o → Ends lent (recorded lent number o)
@@ -68,7 +68,7 @@ write_ends lent = at (reading_of lent.words)
     at (IsList s) =
         let file = file_of s (live_pairs lent.words) in
         cond_has (Ends lent) (leb (length file) (length lent.file)) _ _ (well refl) (turned_away lent no_room)
-    at NotAList = turned_away lent not_aList
+    at NotAList = turned_away lent not_a_list
 
 read_ends : (lent : FileLent) → Ends lent (read_out lent)
 unfolding read_out
@@ -81,20 +81,20 @@ read_ends lent = at (contents_of lent.file)
 
 operation_ends : (ws : List ℕ) (operation : Operation) → Ends ws (operation_out operation ws)
 operation_ends ws (Insert key value) = insert_ends ws key value
-operation_ends ws (Find key) = find-has (Ends ws) ws (turned_away ws) key (λ value count. well refl)
-operation_ends ws (Finish key) = finish-has (Ends ws) ws (turned_away ws) key (λ count s. well refl)
-operation_ends ws Take = take-has (Ends ws) ws (turned_away ws) (λ key value count s. well refl)
-operation_ends ws Sweep = sweep-has (Ends ws) ws (turned_away ws) (λ count s. well refl)
+operation_ends ws (Find key) = find_has (Ends ws) ws (turned_away ws) key (λ value count. well refl)
+operation_ends ws (Finish key) = finish_has (Ends ws) ws (turned_away ws) key (λ count s. well refl)
+operation_ends ws Take = take_has (Ends ws) ws (turned_away ws) (λ key value count s. well refl)
+operation_ends ws Sweep = sweep_has (Ends ws) ws (turned_away ws) (λ count s. well refl)
 
 ends : (call : Call) (lent : Lent) → Ends lent (outcome call lent)
 unfolding outcome record_out note_out
-ends (SetUp D K C) lent = ends_lent lent _ (set-up-has (Ends lent.words) lent.words (turned_away lent.words) D K C (well refl))
+ends (SetUp D K C) lent = ends_lent lent _ (set_up_has (Ends lent.words) lent.words (turned_away lent.words) D K C (well refl))
 ends (Operate operation) lent = ends_lent lent _ (operation_ends lent.words operation)
 ends Record lent = at (reading_of lent.words)
   where
     at : (reading : Reading) → Ends lent (note_on lent (note_by lent.bytes) reading)
     at (IsList s) = asked_ends lent (note_asks lent.last (note_by lent.bytes))
-    at NotAList = refusing not_aList refl
+    at NotAList = refusing not_a_list refl
 ends Write lent = ends_file lent _ (write_ends (file_lent lent.words lent.bytes))
 ends Read lent = ends_file lent _ (read_ends (file_lent lent.words lent.bytes))
 

@@ -15,7 +15,7 @@ use Rattle.settings.specs.Numbers.{is_key, in_range, length_of}
 use Rattle.lists.specs.Lists.{those}
 use Rattle.lists.proofs.All.{All, all_each, all_mapped}
 use Rattle.lists.proofs.Tests.{both}
-use Rattle.lists.proofs.Those.{those_map, those-most, those-same}
+use Rattle.lists.proofs.Those.{those_map, those_most, those_same}
 use Rattle.answers.specs.declared.Answer.{Answer}
 use Rattle.answers.specs.Refusals.{Outcome, accepted, answer, refused, bad_key, key_live, no_free_cell}
 use Rattle.answers.specs.declared.Operation.{Operation}
@@ -38,7 +38,7 @@ use Rattle.calls.specs.Promises.{RunPasses, RunPassesAtMost, RunWithInsertsPasse
 use Rattle.calls.specs.declared.Call.TheVariants.{SetUp, Operate, Record, Write, Read}
 use Rattle.calls.specs.declared.Call.{Call}
 use Rattle.meaning.proofs.Pictures.ReadBack.{list_sound, list_is_picture}
-use Rattle.meaning.proofs.BothWays.Sentences.{position-key-is}
+use Rattle.meaning.proofs.BothWays.Sentences.{position_key_is}
 use Rattle.meaning.proofs.Promised.FallsBack.{late_inserts}
 use Rattle.calls.proofs.Ends.{record_asks, refused_alters_nothing}
 use Rattle.calls.proofs.Booked.Book.{calls_keep_lists, operation_booked, calls_are_booked}
@@ -100,7 +100,7 @@ unfolding marked
 counts_marked test key value live row =
     ap (λ (r : List StandingKey). length r) (those_map mark (λ x. test x.key) row)
     ∙ length-map (those (λ x. test (mark x).key) row) mark
-    ∙ ap (λ (r : List StandingKey). length r) (those-same (λ x. test (mark x).key) (λ x. test x.key) row
+    ∙ ap (λ (r : List StandingKey). length r) (those_same (λ x. test (mark x).key) (λ x. test x.key) row
     (all_each (λ x. ap test (same x (eqb x.key key) refl)) row))
   where
     mark : StandingKey → StandingKey
@@ -280,7 +280,7 @@ run_passes_at_most calls ws list ok =
     omega (
       arith,
       run_passes calls ws list ok,
-      those-most (λ x. ltb (book_of ws).position x.key && leb x.key (book_of (after_calls calls ws)).position) (book_of ws).row,
+      those_most (λ x. ltb (book_of ws).position x.key && leb x.key (book_of (after_calls calls ws)).position) (book_of ws).row,
     )
 
 -- With inserts
@@ -339,7 +339,7 @@ take_passes k key value passed = at (live_on k.row)
 
 -- the position's key, on the words
 position_words : (ws : List ℕ) → is_list ws ≡ true → key_at ws (position_at ws) ≡ (book_of ws).position
-position_words ws list = ap (λ us. key_at us (position_at us)) (sym (list_is_picture ws list)) ∙ position-key-is (list_sound ws list)
+position_words ws list = ap (λ us. key_at us (position_at us)) (sym (list_is_picture ws list)) ∙ position_key_is (list_sound ws list)
 
 -- what an accepted insert adds to the keys ahead
 insert_adds_lem : (key value : ℕ) (ws : List ℕ) → is_list ws ≡ true → (insert_out ws key value).answered.refusal ≡ 0 →

@@ -1,7 +1,7 @@
 -- Many calls after one check: The operations 8.
 use Rattle.std.specs.Prelude.{Bool, true, false, cond, ◌&&◌, List, [], ◌∷◌, ◌++◌, map, ℕ, ◌*◌, eqb, leb, length, drop}
 use Rattle.meaning.specs.Reading.{reading_of}
-use Rattle.answers.specs.Refusals.{Outcome, accepted, not_aList, bad_batch, refused}
+use Rattle.answers.specs.Refusals.{Outcome, accepted, not_a_list, bad_batch, refused}
 use Rattle.answers.specs.declared.Operation.{Operation}
 use Rattle.answers.specs.declared.Operation.TheVariants.{Insert, Find, Finish, Take, Sweep}
 use Rattle.calls.specs.Calls.{operated, made_on, after_calls}
@@ -67,7 +67,7 @@ batch_done calls lent =
 
 abbrev pub batch_on : List ℕ → BatchLent → Reading → Outcome BatchLent
 batch_on calls lent (IsList s) = cond (fits calls lent.answers) (batch_done (calls_in calls) lent) (refused bad_batch lent)
-batch_on calls lent NotAList = refused not_aList lent
+batch_on calls lent NotAList = refused not_a_list lent
 
 -- The operations 8: a batch answers the number of its calls.
 unfoldable pub batch_out : List ℕ → BatchLent → Outcome BatchLent

@@ -10,7 +10,7 @@ use Rattle.notes.specs.declared.Logged.TheVariants.{Note, NoNote}
 use Rattle.full_number.specs.declared.FullNumber.{FullNumber}
 use Rattle.full_number.specs.declared.FullNumber.TheVariants.{Fits, Outside}
 use Rattle.meaning.specs.Reading.{reading_of}
-use Rattle.answers.specs.Refusals.{Outcome, Refusal, not_aList, bad_record, number_outside, refused}
+use Rattle.answers.specs.Refusals.{Outcome, Refusal, not_a_list, bad_record, number_outside, refused}
 use Rattle.meaning.specs.Operations.{insert_out}
 use Rattle.meaning.specs.declared.Reading.{Reading}
 use Rattle.meaning.specs.declared.Reading.TheVariants.{IsList, NotAList}
@@ -50,7 +50,7 @@ asked_out lent (insertion key number) = recorded lent number (insert_out lent.wo
 -- Refusals 1: first 3, then 13 and 14, then insert's own.
 abbrev pub note_on : Lent → Logged → Reading → Outcome Lent
 note_on lent logged (IsList s) = asked_out lent (note_asks lent.last logged)
-note_on lent logged NotAList = refused not_aList lent
+note_on lent logged NotAList = refused not_a_list lent
 
 -- what a note does
 unfoldable pub note_out : Logged → Lent → Outcome Lent

@@ -7,7 +7,7 @@ use Rattle.files.specs.Files.{Pair, file_of, pairs_in, contents_of}
 use Rattle.files.specs.declared.Contents.{Contents}
 use Rattle.files.specs.declared.Contents.TheVariants.{IsFile, NotAFile}
 use Rattle.meaning.specs.Reading.{reading_of}
-use Rattle.answers.specs.Refusals.{Outcome, accepted, wrong_length, not_aList, bad_file, no_room, refused}
+use Rattle.answers.specs.Refusals.{Outcome, accepted, wrong_length, not_a_list, bad_file, no_room, refused}
 use Rattle.meaning.specs.Operations.{set_up_out, insert_out, finish_out}
 use Rattle.calls.specs.Pairs.{live_pairs}
 use Rattle.meaning.specs.declared.Reading.{Reading}
@@ -33,7 +33,7 @@ written lent file =
 -- Refusals 1: 3, then 12
 abbrev pub write_on : FileLent → Reading → Outcome FileLent
 write_on lent (IsList s) = written lent (file_of s (live_pairs lent.words))
-write_on lent NotAList = refused not_aList lent
+write_on lent NotAList = refused not_a_list lent
 
 unfoldable pub write_out : FileLent → Outcome FileLent
 write_out lent = write_on lent (reading_of lent.words)

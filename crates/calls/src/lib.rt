@@ -1,7 +1,9 @@
 // A call of the list, with its numbers, as the definitions and the code share it.
+#![tactic(auto)]
+
 use answers::Operation;
 
-#[derive(Drop)]
+#[derive(Clone, Copy)]
 pub enum Call {
     // D, K, C
     SetUp(u32, u32, u32),

@@ -34,9 +34,9 @@ module _ {ws : List ℕ} {s : Settings} (h : Shaped ws s) {powers : List ℕ} (p
       ∙ ap (λ b. block_start b s.dimensions (key_at ws y) d) (shaped_base h)
       ∙ sym (e ∙ ap (λ n. key - key % n) (p.level d l) ∙ ap (λ m. m - m % (s.base ^ (s.dimensions - d))) k)
 
-  pub follows-not : {before key n : ℕ} → before ≡ key_at ws x → key ≡ key_at ws y → n ≡ key - key % get_or powers e 0 → before < n → false ≡ follows ws x y e
+  pub follows_not : {before key n : ℕ} → before ≡ key_at ws x → key ≡ key_at ws y → n ≡ key - key % get_or powers e 0 → before < n → false ≡ follows ws x y e
   unfolding follows
-  follows-not b k f less = sym (rw (start_is e (omega arith) k f, ← b, lt-leb _ _ less) refl)
+  follows_not b k f less = sym (rw (start_is e (omega arith) k f, ← b, lt-leb _ _ less) refl)
 
   pub follows_to : {before key n m : ℕ} → before ≡ key_at ws x → key ≡ key_at ws y → n ≡ key - key % get_or powers e 0 → n ≤ before →
       m ≡ key - key % get_or powers (e + 1) 0 → ltb before m ≡ follows ws x y e
@@ -48,13 +48,13 @@ module _ {ws : List ℕ} {s : Settings} (h : Shaped ws s) {powers : List ℕ} (p
 -- The key, the mark and the value
 
 module _ (ws : List ℕ) (y : ℕ) (reached : Bool) where
-  pub node-high : largest_at ws < key_at ws y → node_right ws y reached ≡ false
+  pub node_high : largest_at ws < key_at ws y → node_right ws y reached ≡ false
   unfolding node_right
-  node-high h = rw (lt-leb (key_at ws y) (largest_at ws) h) refl
+  node_high h = rw (lt-leb (key_at ws y) (largest_at ws) h) refl
 
-  pub node-dead : key_at ws y ≤ largest_at ws → mark_at ws y ≡ 2 → node_right ws y reached ≡ eqb (value_at ws y) 0
+  pub node_dead : key_at ws y ≤ largest_at ws → mark_at ws y ≡ 2 → node_right ws y reached ≡ eqb (value_at ws y) 0
   unfolding node_right
-  node-dead h mark =
+  node_dead h mark =
       rw (
         le-leb (key_at ws y) (largest_at ws) h,
         eq-eqb (mark_at ws y) 2 mark,
@@ -63,14 +63,14 @@ module _ (ws : List ℕ) (y : ℕ) (reached : Bool) where
       )
       refl
 
-  pub node-live : key_at ws y ≤ largest_at ws → mark_at ws y ≡ 1 → node_right ws y reached ≡ reached
+  pub node_live : key_at ws y ≤ largest_at ws → mark_at ws y ≡ 1 → node_right ws y reached ≡ reached
   unfolding node_right
-  node-live h mark =
+  node_live h mark =
       rw (le-leb (key_at ws y) (largest_at ws) h, ne_eqb (mark_at ws y) 2 (λ e. omega arith), eq-eqb (mark_at ws y) 1 mark) refl
 
-  pub node-neither : (mark_at ws y ≡ 2 → ⊥) → (mark_at ws y ≡ 1 → ⊥) → node_right ws y reached ≡ false
+  pub node_neither : (mark_at ws y ≡ 2 → ⊥) → (mark_at ws y ≡ 1 → ⊥) → node_right ws y reached ≡ false
   unfolding node_right
-  node-neither dead live = rw (ne_eqb (mark_at ws y) 2 dead, ne_eqb (mark_at ws y) 1 live, and-false) refl
+  node_neither dead live = rw (ne_eqb (mark_at ws y) 2 dead, ne_eqb (mark_at ws y) 1 live, and-false) refl
 
 -- The links below a number
 
@@ -81,26 +81,26 @@ links_start ws y n = all_start (λ i. eqb (link_at ws y i) 0) n
 -- The debt
 
 module _ (ws : List ℕ) (y : ℕ) where
-  pub nothing-owed : (owed_at ws y ≡ 0 → ⊥) → false ≡ owes_nothing ws y
+  pub nothing_owed : (owed_at ws y ≡ 0 → ⊥) → false ≡ owes_nothing ws y
   unfolding owes_nothing
-  nothing-owed some = rw (ne_eqb (owed_at ws y) 0 some) refl
+  nothing_owed some = rw (ne_eqb (owed_at ws y) 0 some) refl
 
-  pub nothing-low : (low_at ws y ≡ 0 → ⊥) → false ≡ owes_nothing ws y
+  pub nothing_low : (low_at ws y ≡ 0 → ⊥) → false ≡ owes_nothing ws y
   unfolding owes_nothing
-  nothing-low some = rw (ne_eqb (low_at ws y) 0 some, and-false) refl
+  nothing_low some = rw (ne_eqb (low_at ws y) 0 some, and-false) refl
 
-  pub nothing-high : owed_at ws y ≡ 0 → low_at ws y ≡ 0 → owes_nothing ws y ≡ eqb (high_at ws y) 0
+  pub nothing_high : owed_at ws y ≡ 0 → low_at ws y ≡ 0 → owes_nothing ws y ≡ eqb (high_at ws y) 0
   unfolding owes_nothing
-  nothing-high owed low = rw (eq-eqb (owed_at ws y) 0 owed, eq-eqb (low_at ws y) 0 low) refl
+  nothing_high owed low = rw (eq-eqb (owed_at ws y) 0 owed, eq-eqb (low_at ws y) 0 low) refl
 
   pub owes_not : (e : ℕ) → (Owes ws y e → ⊥) → false ≡ owes_right ws y e
   owes_not e never = sym (refuted (owes_right ws y e) (λ t. never (owes_told ws y e t)))
 
-  pub owes-links :
+  pub owes_links :
       (e : ℕ) {high owed : ℕ} → owed ≡ owed_at ws y → high ≡ high_at ws y → (owed ≡ 0 → ⊥) → low_at ws y ≡ e → e < high → high < dimensions_at ws →
       owed < cells_at ws → owes_right ws y e ≡ only_link ws y high owed
   unfolding owes_right
-  owes-links e {high} {owed} p q some low above inside cell =
+  owes_links e {high} {owed} p q some low above inside cell =
       rw (
         ← p,
         ← q,
@@ -131,9 +131,9 @@ module _ (ws : List ℕ) (y e : ℕ) (s : Seen) where
         node = t.1.1.1.0;
       }
 
-  pub alone-not : (Alone ws y e s → ⊥) → false ≡ alone_right ws y e s
-  alone-not never = sym (refuted (alone_right ws y e s) (λ t. never (alone t)))
+  pub alone_not : (Alone ws y e s → ⊥) → false ≡ alone_right ws y e s
+  alone_not never = sym (refuted (alone_right ws y e s) (λ t. never (alone t)))
 
-  pub alone-node :
+  pub alone_node :
       0 < s.left → y < cells_at ws → follows ws s.last y e ≡ true → alone_right ws y e s ≡ node_right ws y s.reached
-  alone-node left inside comes = rw (lt-ltb 0 s.left left, lt-ltb y (cells_at ws) inside, comes) refl
+  alone_node left inside comes = rw (lt-ltb 0 s.left left, lt-ltb y (cells_at ws) inside, comes) refl

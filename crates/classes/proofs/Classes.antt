@@ -9,12 +9,12 @@ use lib.Dec.{eqb, leb}
 use lib.ListN.{length, get_or, set, replicate}
 use borrow.Author.Tests.{eq-eqb, ne_eqb, le-leb, lt-leb, lt-ltb, le-ltb}
 use Rattle.lists.specs.Lists.{those, numbers_from}
-use Rattle.lists.proofs.Blocks.{blocks-length, block-word}
+use Rattle.lists.proofs.Blocks.{blocks_length, block_word}
 use Rattle.lists.proofs.Numbers.{numbers_length, numbers_at}
 use Rattle.answers.specs.Refusals.{answer, Meets}
 use Rattle.answers.specs.declared.Answer.{Answer}
 use Rattle.meaning.specs.Row.{Node, put}
-use Rattle.meaning.proofs.Cells.Folded.{put-folded}
+use Rattle.meaning.proofs.Cells.Folded.{put_folded}
 use Rattle.classes.specs.Classes.{class_of, number_of_classes, record_words, live_keys_in, keys_in, lesser, least_of, class_words, classes_in, count_at, least_at}
 use Rattle.classes.specs.Classes.{class_out}
 use Rattle.classes.specs.Tallying.{with_key_in, with_key}
@@ -78,12 +78,12 @@ lesser_swap a b n = at (ℕ_discrete a 0) (ℕ_discrete b 0) (dec_le a b)
 
 pub classes_length : (keys : List ℕ) → length (classes_in keys) ≡ record_words
 unfolding classes_in numbers_from
-classes_length keys = blocks-length (λ class. class_words (keys_in class keys)) 2 (λ class. refl) (numbers_from 0 number_of_classes)
+classes_length keys = blocks_length (λ class. class_words (keys_in class keys)) 2 (λ class. refl) (numbers_from 0 number_of_classes)
 
 word_of_lem : (keys : List ℕ) (class j : ℕ) → class < number_of_classes → j < 2 → get_or (classes_in keys) (class * 2 + j) 0 ≡ get_or (class_words (keys_in class keys)) j 0
 unfolding classes_in
 word_of_lem keys class j h l =
-    block-word (λ c. class_words (keys_in c keys)) 2 (λ c. refl) (numbers_from 0 number_of_classes) class j 0
+    block_word (λ c. class_words (keys_in c keys)) 2 (λ c. refl) (numbers_from 0 number_of_classes) class j 0
     (omega (arith, numbers_length 0 number_of_classes)) l
     ∙ ap (λ c. get_or (class_words (keys_in c keys)) j 0) (numbers_at 0 number_of_classes class 0 h ∙ omega arith)
 
@@ -105,32 +105,32 @@ with_at i key l = set (set l i (suc (get_or l i 0))) (suc i) (lesser key (get_or
 
 module _ (key : ℕ) (keys : List ℕ) where
   -- the words of n classes from i on
-  wordsFrom : List ℕ → ℕ → ℕ → List ℕ
-  wordsFrom ks i n = flat_map (λ class. class_words (keys_in class ks)) (numbers_from i n)
+  words_from : List ℕ → ℕ → ℕ → List ℕ
+  words_from ks i n = flat_map (λ class. class_words (keys_in class ks)) (numbers_from i n)
 
-  pub other-class : (class : ℕ) → (class_of key ≡ class → ⊥) → keys_in class (key ∷ keys) ≡ keys_in class keys
+  pub other_class : (class : ℕ) → (class_of key ≡ class → ⊥) → keys_in class (key ∷ keys) ≡ keys_in class keys
   unfolding those
-  other-class class ne = rw (ne_eqb (class_of key) class ne) refl
+  other_class class ne = rw (ne_eqb (class_of key) class ne) refl
 
-  pub own-class : (class : ℕ) → class_of key ≡ class → keys_in class (key ∷ keys) ≡ key ∷ keys_in class keys
+  pub own_class : (class : ℕ) → class_of key ≡ class → keys_in class (key ∷ keys) ≡ key ∷ keys_in class keys
   unfolding those
-  own-class class e = rw (eq-eqb (class_of key) class e) refl
+  own_class class e = rw (eq-eqb (class_of key) class e) refl
 
-  words-past : (i n : ℕ) → class_of key < i → wordsFrom (key ∷ keys) i n ≡ wordsFrom keys i n
-  unfolding wordsFrom numbers_from flat_map
-  words-past i zero h = refl
-  words-past i (suc n) h = ap₂ (λ ks l. class_words ks ++ l) (other-class i (λ e. omega arith)) (words-past (suc i) n (omega arith))
+  words_past : (i n : ℕ) → class_of key < i → words_from (key ∷ keys) i n ≡ words_from keys i n
+  unfolding words_from numbers_from flat_map
+  words_past i zero h = refl
+  words_past i (suc n) h = ap₂ (λ ks l. class_words ks ++ l) (other_class i (λ e. omega arith)) (words_past (suc i) n (omega arith))
 
-  words_more : (i n d : ℕ) → class_of key ≡ i + d → wordsFrom (key ∷ keys) i n ≡ with_at (d * 2) key (wordsFrom keys i n)
-  unfolding wordsFrom numbers_from flat_map least_of
+  words_more : (i n d : ℕ) → class_of key ≡ i + d → words_from (key ∷ keys) i n ≡ with_at (d * 2) key (words_from keys i n)
+  unfolding words_from numbers_from flat_map least_of
   words_more i zero d e = refl
-  words_more i (suc n) zero e = ap₂ (λ ks l. class_words ks ++ l) (own-class i (omega arith)) (words-past (suc i) n (omega arith))
+  words_more i (suc n) zero e = ap₂ (λ ks l. class_words ks ++ l) (own_class i (omega arith)) (words_past (suc i) n (omega arith))
   words_more i (suc n) (suc d) e =
       let two : suc d * 2 ≡ suc (suc (d * 2)) = omega arith in
-      rw two (ap₂ (λ ks l. class_words ks ++ l) (other-class i (λ f. omega arith)) (words_more (suc i) n d (omega arith)))
+      rw two (ap₂ (λ ks l. class_words ks ++ l) (other_class i (λ f. omega arith)) (words_more (suc i) n d (omega arith)))
 
   pub one_key : classes_in (key ∷ keys) ≡ with_key key (classes_in keys)
-  unfolding classes_in with_key_in wordsFrom
+  unfolding classes_in with_key_in words_from
   one_key =
       let next : least_at (class_of key) ≡ suc (count_at (class_of key)) = omega arith in
       words_more 0 number_of_classes (class_of key) (omega arith) ∙ rw next refl
@@ -139,20 +139,20 @@ module _ (key : ℕ) (keys : List ℕ) where
 
 -- what is told of some keys, and takes one more by a step, is told so of a live node put in anywhere
 module _ {A : Type 0} (H : List ℕ → A) (step : ℕ → A → A) (first : (key : ℕ) (keys : List ℕ) → H (key ∷ keys) ≡ step key (H keys)) where
-  abbrev liveStep : Node → A → A
-  liveStep x a = cond x.live (step x.key a) a
+  abbrev live_step : Node → A → A
+  live_step x a = cond x.live (step x.key a) a
 
-  live-first : (x : Node) (row : List Node) → H (live_keys_in (x ∷ row)) ≡ liveStep x (H (live_keys_in row))
+  live_first : (x : Node) (row : List Node) → H (live_keys_in (x ∷ row)) ≡ live_step x (H (live_keys_in row))
   unfolding those
-  live-first x row = at x.live
+  live_first x row = at x.live
     where
       at : (t : Bool) → H (map (λ y. y.key) (cond t (x ∷ those (λ y. y.live) row) (those (λ y. y.live) row))) ≡ cond t (step x.key (H (live_keys_in row))) (H (live_keys_in row))
       at true = first x.key (live_keys_in row)
       at false = refl
 
-  live-put : ((j k : ℕ) (a : A) → step j (step k a) ≡ step k (step j a)) → (x : Node) (row : List Node) →
+  live_put : ((j k : ℕ) (a : A) → step j (step k a) ≡ step k (step j a)) → (x : Node) (row : List Node) →
       H (live_keys_in (put x row)) ≡ H (live_keys_in (x ∷ row))
-  live-put swap x row = put-folded (λ r. H (live_keys_in r)) liveStep live-first both x row ∙ sym (live-first x row)
+  live_put swap x row = put_folded (λ r. H (live_keys_in r)) live_step live_first both x row ∙ sym (live_first x row)
     where
       at : (t u : Bool) (j k : ℕ) (a : A) → cond t (step j (cond u (step k a) a)) (cond u (step k a) a) ≡ cond u (step k (cond t (step j a) a)) (cond t (step j a) a)
       at true true j k a = swap j k a
@@ -160,25 +160,25 @@ module _ {A : Type 0} (H : List ℕ → A) (step : ℕ → A → A) (first : (ke
       at false true j k a = refl
       at false false j k a = refl
 
-      both : (y z : Node) (a : A) → liveStep y (liveStep z a) ≡ liveStep z (liveStep y a)
+      both : (y z : Node) (a : A) → live_step y (live_step z a) ≡ live_step z (live_step y a)
       both y z a = at y.live z.live y.key z.key a
 
 -- .. where a key counts only in its class
 module _ (class : ℕ) {A : Type 0} (H : List ℕ → A) (step : ℕ → A → A) (first : (key : ℕ) (keys : List ℕ) → H (key ∷ keys) ≡ step key (H keys))
     (swap : (j k : ℕ) (a : A) → step j (step k a) ≡ step k (step j a)) where
-  abbrev classStep : ℕ → A → A
-  classStep key a = cond (eqb (class_of key) class) (step key a) a
+  abbrev class_step : ℕ → A → A
+  class_step key a = cond (eqb (class_of key) class) (step key a) a
 
-  class-first : (key : ℕ) (keys : List ℕ) → H (keys_in class (key ∷ keys)) ≡ classStep key (H (keys_in class keys))
+  class_first : (key : ℕ) (keys : List ℕ) → H (keys_in class (key ∷ keys)) ≡ class_step key (H (keys_in class keys))
   unfolding those
-  class-first key keys = at (eqb (class_of key) class)
+  class_first key keys = at (eqb (class_of key) class)
     where
       at : (t : Bool) → H (cond t (key ∷ keys_in class keys) (keys_in class keys)) ≡ cond t (step key (H (keys_in class keys))) (H (keys_in class keys))
       at true = first key (keys_in class keys)
       at false = refl
 
-  class-swap : (j k : ℕ) (a : A) → classStep j (classStep k a) ≡ classStep k (classStep j a)
-  class-swap j k a = at (eqb (class_of j) class) (eqb (class_of k) class)
+  class_swap : (j k : ℕ) (a : A) → class_step j (class_step k a) ≡ class_step k (class_step j a)
+  class_swap j k a = at (eqb (class_of j) class) (eqb (class_of k) class)
     where
       at : (t u : Bool) → cond t (step j (cond u (step k a) a)) (cond u (step k a) a) ≡ cond u (step k (cond t (step j a) a)) (cond t (step j a) a)
       at true true = swap j k a
@@ -186,8 +186,8 @@ module _ (class : ℕ) {A : Type 0} (H : List ℕ → A) (step : ℕ → A → A
       at false true = refl
       at false false = refl
 
-  class-put : (x : Node) (row : List Node) → H (keys_in class (live_keys_in (put x row))) ≡ H (keys_in class (live_keys_in (x ∷ row)))
-  class-put = live-put (λ keys. H (keys_in class keys)) classStep class-first class-swap
+  class_put : (x : Node) (row : List Node) → H (keys_in class (live_keys_in (put x row))) ≡ H (keys_in class (live_keys_in (x ∷ row)))
+  class_put = live_put (λ keys. H (keys_in class keys)) class_step class_first class_swap
 
 -- a node put in its place changes the record as one in front does
 put_classes : (x : Node) (row : List Node) → classes_in (live_keys_in (put x row)) ≡ classes_in (live_keys_in (x ∷ row))
@@ -195,32 +195,32 @@ unfolding classes_in least_of
 put_classes x row = λ i. flat_map (λ class. counts class i ∷ leasts class i ∷ []) (numbers_from 0 number_of_classes)
   where
     counts : (class : ℕ) → length (keys_in class (live_keys_in (put x row))) ≡ length (keys_in class (live_keys_in (x ∷ row)))
-    counts class = class-put class length (λ key n. suc n) (λ key keys. refl) (λ j k n. refl) x row
+    counts class = class_put class length (λ key n. suc n) (λ key keys. refl) (λ j k n. refl) x row
 
     leasts : (class : ℕ) → least_of (keys_in class (live_keys_in (put x row))) ≡ least_of (keys_in class (live_keys_in (x ∷ row)))
-    leasts class = class-put class least_of lesser (λ key keys. refl) lesser_swap x row
+    leasts class = class_put class least_of lesser (λ key keys. refl) lesser_swap x row
 
 -- .. which is one key more if it is live
 pub one_node : (x : Node) (row : List Node) →
     classes_in (live_keys_in (put x row)) ≡ cond x.live (with_key x.key (classes_in (live_keys_in row))) (classes_in (live_keys_in row))
-one_node x row = put_classes x row ∙ live-first classes_in with_key one_key x row
+one_node x row = put_classes x row ∙ live_first classes_in with_key one_key x row
 
 -- The question about one class
 
 module _ (class : ℕ) (classes : List ℕ) {r : Answer} where
-  pub other-length-meets : (length classes ≡ record_words → ⊥) → r ≡ answer 15 0 0 0 → Meets (class_out class classes) r classes
+  pub other_length_meets : (length classes ≡ record_words → ⊥) → r ≡ answer 15 0 0 0 → Meets (class_out class classes) r classes
   unfolding class_out
-  other-length-meets ne is = rw (ne_eqb (length classes) record_words ne) (record { answered = is; left = refl })
+  other_length_meets ne is = rw (ne_eqb (length classes) record_words ne) (record { answered = is; left = refl })
 
   module _ (long : length classes ≡ record_words) where
-    pub no-class-meets : number_of_classes ≤ class → r ≡ answer 4 0 0 0 → Meets (class_out class classes) r classes
+    pub no_class_meets : number_of_classes ≤ class → r ≡ answer 4 0 0 0 → Meets (class_out class classes) r classes
     unfolding class_out
-    no-class-meets h is = rw (eq-eqb (length classes) record_words long, le-ltb class number_of_classes h) (record { answered = is; left = refl })
+    no_class_meets h is = rw (eq-eqb (length classes) record_words long, le-ltb class number_of_classes h) (record { answered = is; left = refl })
 
-    pub class-meets :
+    pub class_meets :
         class < number_of_classes → {at : ℕ} → at ≡ count_at class → r ≡ answer 0 (get_or classes (at + 1) 0) 0 (get_or classes at 0) →
         Meets (class_out class classes) r classes
     unfolding class_out
-    class-meets h here is =
+    class_meets h here is =
         rw (eq-eqb (length classes) record_words long, lt-ltb class number_of_classes h)
         (record { answered = is ∙ ap (λ i. answer 0 (get_or classes (i + 1) 0) 0 (get_or classes i 0)) here; left = refl })

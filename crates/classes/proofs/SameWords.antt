@@ -14,20 +14,20 @@ use Rattle.classes.proofs.Classes.{classes_length}
 
 module _ (one other : List ℕ) (long : length one ≡ length other) (i : ℕ) where
   module _ (inside : i < length one) where
-    pub words-differ : (get_or one i 0 ≡ get_or other i 0 → ⊥) → same (drop i one) (drop i other) ≡ false
+    pub words_differ : (get_or one i 0 ≡ get_or other i 0 → ⊥) → same (drop i one) (drop i other) ≡ false
     unfolding same
-    words-differ ne =
+    words_differ ne =
         rw (drop-cons one i 0 inside, drop-cons other i 0 (omega arith), ne_eqb (get_or one i 0) (get_or other i 0) ne) refl
 
-    pub words-agree : get_or one i 0 ≡ get_or other i 0 → same (drop i one) (drop i other) ≡ same (drop (i + 1) one) (drop (i + 1) other)
+    pub words_agree : get_or one i 0 ≡ get_or other i 0 → same (drop i one) (drop i other) ≡ same (drop (i + 1) one) (drop (i + 1) other)
     unfolding same
-    words-agree e =
+    words_agree e =
         let next : i + 1 ≡ suc i = omega arith in
         rw (drop-cons one i 0 inside, drop-cons other i 0 (omega arith), eq-eqb (get_or one i 0) (get_or other i 0) e, next) refl
 
-  pub words-end : length one ≤ i → same (drop i one) (drop i other) ≡ true
+  pub words_end : length one ≤ i → same (drop i one) (drop i other) ≡ true
   unfolding same
-  words-end h = rw (drop_of_length-le one h, drop_of_length-le other (let l : length other ≤ i = omega arith in l)) refl
+  words_end h = rw (drop_of_length-le one h, drop_of_length-le other (let l : length other ≤ i = omega arith in l)) refl
 
 -- words of another length are no full reading
 pub other_length : (ws classes : List ℕ) → (length classes ≡ record_words → ⊥) → false ≡ agrees ws classes

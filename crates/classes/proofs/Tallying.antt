@@ -9,11 +9,11 @@ use lib.ListN.{length, get_or, set, replicate, length-map}
 use borrow.Author.Tests.{eq-eqb, ne_eqb}
 use Rattle.settings.specs.declared.Settings.{Settings}
 use Rattle.lists.specs.Lists.{those}
-use Rattle.lists.proofs.Those.{those-most}
+use Rattle.lists.proofs.Those.{those_most}
 use Rattle.meaning.specs.Row.{Node, put}
 use Rattle.meaning.specs.Words.{key_at, mark_at}
 use Rattle.meaning.specs.Layer.Listed.{Listed}
-use Rattle.meaning.proofs.Cells.Folded.{row_from, no_cells, row_from_lem, put-folded, row-folded, live-folded}
+use Rattle.meaning.proofs.Cells.Folded.{row_from, no_cells, row_from_lem, put_folded, row_folded, live_folded}
 use Rattle.words.proofs.Listed.{listed_shaped, listed_cells}
 use Rattle.classes.specs.Classes.{class_of, number_of_classes, record_words, live_keys_in, lesser, classes_in, classes_of, count_at}
 use Rattle.classes.specs.Tallying.{with_key_in, with_key, with_cell, Roomy}
@@ -38,12 +38,12 @@ none_added ws x classes ne = rw (ne_eqb (mark_at ws x) 1 ne) refl
 -- No count is above the number of cells
 
 put_length : (x : Node) (row : List Node) → length (put x row) ≡ suc (length row)
-put_length = put-folded length (λ x n. suc n) (λ x row. refl) (λ x y n. refl)
+put_length = put_folded length (λ x n. suc n) (λ x row. refl) (λ x y n. refl)
 
 row_most : (ws : List ℕ) (x n : ℕ) → length (row_from ws x n) ≤ n
 row_most ws x zero = rw (no_cells ws x) (omega arith)
 row_most ws x (suc n) =
-    rw (row-folded length (λ y m. suc m) put_length ws x n) (at (eqb (mark_at ws x) 0) (row_most ws (suc x) n))
+    rw (row_folded length (λ y m. suc m) put_length ws x n) (at (eqb (mark_at ws x) 0) (row_most ws (suc x) n))
   where
     at : (t : Bool) → length (row_from ws (suc x) n) ≤ n → cond t (length (row_from ws (suc x) n)) (suc (length (row_from ws (suc x) n))) ≤ suc n
     at true h = omega arith
@@ -54,9 +54,9 @@ count_most row class h =
     omega (
       arith,
       count_word (live_keys_in row) class h,
-      those-most (λ key. eqb (class_of key) class) (live_keys_in row),
+      those_most (λ key. eqb (class_of key) class) (live_keys_in row),
       length-map (those (λ x. x.live) row) (λ x. x.key),
-      those-most (λ x. x.live) row,
+      those_most (λ x. x.live) row,
     )
 
 -- The pass
@@ -107,7 +107,7 @@ tallied_more {ws} {classes} {s} {x} t h =
     told row = classes_in (live_keys_in row)
 
     one_cell : (y n : ℕ) → told (row_from ws y (suc n)) ≡ with_cell ws y (told (row_from ws (suc y) n))
-    one_cell y n = live-folded told (λ z a. with_key z.key a) one_node ws y n
+    one_cell y n = live_folded told (λ z a. with_key z.key a) one_node ws y n
 
 pub tallied_all : {ws classes : List ℕ} {s : Settings} {x : ℕ} → Listed ws s → Tallied ws s classes x → x ≤ 1 → classes ≡ classes_of ws
 tallied_all {ws} {classes} {s} {x} listed t h =

@@ -1,5 +1,7 @@
 // The class record, 32 words lent beside a list: for each class its live count, then its least live key. It is written by one pass over the cells in
 // memory order, two words a cell, and compared by such a pass into words of its own. The question about one class reads two words.
+#![tactic(auto)]
+
 ghost use Rattle.std.specs.Prelude.{◌≡◌, ◌*◌, ◌≤◌, ◌<◌, length};
 ghost use Rattle.lists.specs.Lists.{same};
 ghost use Rattle.answers.specs.Refusals.{Meets};

@@ -37,19 +37,19 @@ use Rattle.counted.specs.Checked.{set_up_refusal, read_refusal}
 
 module _ (call : Call) (otherLength : Refusal) (lent : Lent) {r : Answer} {after : Lent} (met : Meets (outcome call lent) r after) (classes : List ℕ) where
   -- it was refused
-  anew-refused : (r.refusal ≡ 0 → ⊥) → Meets (anew_on lent_words otherLength (outcome call) (beside lent classes)) r (beside after classes)
+  anew_refused : (r.refusal ≡ 0 → ⊥) → Meets (anew_on lent_words otherLength (outcome call) (beside lent classes)) r (beside after classes)
   unfolding anew_on
-  anew-refused ne =
+  anew_refused ne =
       let refusal : (outcome call lent).answered.refusal ≡ 0 → ⊥ = λ z. ne (ap (λ (a : Answer). a.refusal) met.answered ∙ z) in
       rw (ne_eqb (outcome call lent).answered.refusal 0 refusal)
       (record { answered = met.answered; left = λ i. beside ((met.left ∙ refused_alters_nothing call lent refusal) i) classes })
 
   -- .. or accepted, with a record that has its length
-  anew-done :
+  anew_done :
       r.refusal ≡ 0 → length classes ≡ record_words → {left : List ℕ} → left ≡ classes_of after.words →
       Meets (anew_on lent_words otherLength (outcome call) (beside lent classes)) r (beside after left)
   unfolding anew_on
-  anew-done z long full =
+  anew_done z long full =
       let accepts = ap (λ (a : Answer). a.refusal) (sym met.answered) ∙ z in
       rw (eq-eqb (outcome call lent).answered.refusal 0 accepts, eq-eqb (length classes) record_words long)
       (record {
@@ -60,16 +60,16 @@ module _ (call : Call) (otherLength : Refusal) (lent : Lent) {r : Answer} {after
 -- Set up
 
 module _ (D K C : ℕ) (ws : List ℕ) where
-  set-up-met : {r : Answer} {us : List ℕ} → Meets (set_up_out D K C ws) r us → Meets (outcome (SetUp D K C) (lent_of ws [] 0)) r (lent_of us [] 0)
+  set_up_met : {r : Answer} {us : List ℕ} → Meets (set_up_out D K C ws) r us → Meets (outcome (SetUp D K C) (lent_of ws [] 0)) r (lent_of us [] 0)
   unfolding outcome
-  set-up-met met = record { answered = met.answered; left = ap (λ us. lent_of us [] 0) met.left }
+  set_up_met met = record { answered = met.answered; left = ap (λ us. lent_of us [] 0) met.left }
 
   -- a record of another length: 1, then 2
-  pub no-set-up :
+  pub no_set_up :
       (classes : List ℕ) {r : Answer} → (length classes ≡ record_words → ⊥) → r ≡ set_up_refusal D K C →
       Meets (counted_out (SetUp D K C) (words_beside ws classes)) r (words_beside ws classes)
   unfolding counted_out anew_on outcome
-  no-set-up classes {r} other is = at (in_range D K C) refl (ℕ_discrete (length ws) (length_of D C))
+  no_set_up classes {r} other is = at (in_range D K C) refl (ℕ_discrete (length ws) (length_of D C))
     where
       at : (t : Bool) → in_range D K C ≡ t → Dec (length ws ≡ length_of D C) →
           Meets (counted_out (SetUp D K C) (words_beside ws classes)) r (words_beside ws classes)
@@ -79,22 +79,22 @@ module _ (D K C : ℕ) (ws : List ℕ) where
           rw (set_up_outcome D K C ws e l, ne_eqb (length classes) record_words other) (record { answered = rw e at is; left = refl })
 
   -- a fresh list has nothing live
-  fresh-classes : in_range D K C ≡ true → classes_of (picture (fresh D K C)) ≡ replicate record_words 0
+  fresh_classes : in_range D K C ≡ true → classes_of (picture (fresh D K C)) ≡ replicate record_words 0
   unfolding fresh those
-  fresh-classes range = ap (λ (s : State). classes_in (live_keys_in s.row)) (read_of_picture (fresh D K C) (fresh_sound D K C range)) ∙ no_keys
+  fresh_classes range = ap (λ (s : State). classes_in (live_keys_in s.row)) (read_of_picture (fresh D K C) (fresh_sound D K C range)) ∙ no_keys
 
-  set-up-classes : (set_up_out D K C ws).answered.refusal ≡ 0 → classes_of (set_up_out D K C ws).left ≡ replicate record_words 0
-  set-up-classes z = at (in_range D K C) refl (ℕ_discrete (length ws) (length_of D C))
+  set_up_classes : (set_up_out D K C ws).answered.refusal ≡ 0 → classes_of (set_up_out D K C ws).left ≡ replicate record_words 0
+  set_up_classes z = at (in_range D K C) refl (ℕ_discrete (length ws) (length_of D C))
     where
       at : (t : Bool) → in_range D K C ≡ t → Dec (length ws ≡ length_of D C) → classes_of (set_up_out D K C ws).left ≡ replicate record_words 0
       at false e l = absurd (let r = ap (λ o. o.answered.refusal) (set_up_outcome_out_of_range D K C ws e) in omega arith)
       at true e (no l) = absurd (let r = ap (λ o. o.answered.refusal) (set_up_outcome_wrong_length D K C ws e l) in omega arith)
-      at true e (yes l) = ap (λ o. classes_of o.left) (set_up_outcome D K C ws e l) ∙ fresh-classes e
+      at true e (yes l) = ap (λ o. classes_of o.left) (set_up_outcome D K C ws e l) ∙ fresh_classes e
 
   module _ (classes : List ℕ) {r : Answer} {us : List ℕ} (met : Meets (set_up_out D K C ws) r us) where
-    pub set-up-refused : (r.refusal ≡ 0 → ⊥) → Meets (counted_out (SetUp D K C) (words_beside ws classes)) r (words_beside us classes)
+    pub set_up_refused : (r.refusal ≡ 0 → ⊥) → Meets (counted_out (SetUp D K C) (words_beside ws classes)) r (words_beside us classes)
     unfolding counted_out
-    set-up-refused = anew-refused (SetUp D K C) wrong_length (lent_of ws [] 0) (set-up-met met) classes
+    set_up_refused = anew_refused (SetUp D K C) wrong_length (lent_of ws [] 0) (set_up_met met) classes
 
     pub set_up_done :
         r.refusal ≡ 0 → length classes ≡ record_words → {left : List ℕ} → left ≡ replicate (length classes) 0 →
@@ -102,25 +102,25 @@ module _ (D K C : ℕ) (ws : List ℕ) where
     unfolding counted_out
     set_up_done z long zeros =
         let accepts = ap (λ (a : Answer). a.refusal) (sym met.answered) ∙ z in
-        anew-done (SetUp D K C) wrong_length (lent_of ws [] 0) (set-up-met met) classes z long
-        (zeros ∙ ap (λ n. replicate n 0) long ∙ sym (set-up-classes accepts) ∙ ap classes_of (sym met.left))
+        anew_done (SetUp D K C) wrong_length (lent_of ws [] 0) (set_up_met met) classes z long
+        (zeros ∙ ap (λ n. replicate n 0) long ∙ sym (set_up_classes accepts) ∙ ap classes_of (sym met.left))
 
 -- Read
 
 -- what a read answers to a record of another length, by what the bytes are read as
 module _ (ws file : List ℕ) {r : Answer} where
-  pub no-file-answer : contents_of file ≡ NotAFile → r ≡ answer 11 0 0 0 → r ≡ read_refusal (file_lent ws file)
+  pub no_file_answer : contents_of file ≡ NotAFile → r ≡ answer 11 0 0 0 → r ≡ read_refusal (file_lent ws file)
   unfolding read_out
-  no-file-answer none is = rw none is
+  no_file_answer none is = rw none is
 
   module _ {s : Settings} {n : ℕ} (says : contents_of file ≡ IsFile s n) where
-    pub other-words-answer : (length ws ≡ length_of s.dimensions s.cells → ⊥) → r ≡ answer 2 0 0 0 → r ≡ read_refusal (file_lent ws file)
+    pub other_words_answer : (length ws ≡ length_of s.dimensions s.cells → ⊥) → r ≡ answer 2 0 0 0 → r ≡ read_refusal (file_lent ws file)
     unfolding read_out
-    other-words-answer other is = rw (says, ne_eqb (length ws) (length_of s.dimensions s.cells) other) is
+    other_words_answer other is = rw (says, ne_eqb (length ws) (length_of s.dimensions s.cells) other) is
 
-    pub other-record-answer : length ws ≡ length_of s.dimensions s.cells → r ≡ answer 15 0 0 0 → r ≡ read_refusal (file_lent ws file)
+    pub other_record_answer : length ws ≡ length_of s.dimensions s.cells → r ≡ answer 15 0 0 0 → r ≡ read_refusal (file_lent ws file)
     unfolding read_out
-    other-record-answer long is = rw (says, eq-eqb (length ws) (length_of s.dimensions s.cells) long) is
+    other_record_answer long is = rw (says, eq-eqb (length ws) (length_of s.dimensions s.cells) long) is
 
 module _ (ws file classes : List ℕ) {r : Answer} where
   pub no_read :
@@ -138,17 +138,17 @@ module _ (ws file classes : List ℕ) {r : Answer} where
           rw e (record { answered = rw e at is; left = refl })
 
   module _ {us : List ℕ} (met : Meets (read_out (file_lent ws file)) r (file_lent us file)) where
-    read-met : Meets (outcome Read (lent_of ws file 0)) r (lent_of us file 0)
+    read_met : Meets (outcome Read (lent_of ws file 0)) r (lent_of us file 0)
     unfolding outcome
-    read-met = record { answered = met.answered; left = λ i. lent_of (met.left i).words (met.left i).file 0 }
+    read_met = record { answered = met.answered; left = λ i. lent_of (met.left i).words (met.left i).file 0 }
 
-    pub read-refused : (r.refusal ≡ 0 → ⊥) → Meets (counted_out Read (beside (lent_of ws file 0) classes)) r (beside (lent_of us file 0) classes)
+    pub read_refused : (r.refusal ≡ 0 → ⊥) → Meets (counted_out Read (beside (lent_of ws file 0) classes)) r (beside (lent_of us file 0) classes)
     unfolding counted_out
-    read-refused = anew-refused Read bad_classes (lent_of ws file 0) read-met classes
+    read_refused = anew_refused Read bad_classes (lent_of ws file 0) read_met classes
 
     -- what is read is a list with the settings in its header
-    pub read-listed : r.refusal ≡ 0 → Listed us (settings_at us)
-    read-listed z =
+    pub read_listed : r.refusal ≡ 0 → Listed us (settings_at us)
+    read_listed z =
         let accepts = ap (λ (a : Answer). a.refusal) (sym met.answered) ∙ z in
         let left = ap (λ (l : FileLent). l.words) met.left in
         record { list = rw left (read_gives_list (file_lent ws file) accepts).list; settings = refl }
@@ -157,4 +157,4 @@ module _ (ws file classes : List ℕ) {r : Answer} where
         r.refusal ≡ 0 → length classes ≡ record_words → {left : List ℕ} → left ≡ classes_of us →
         Meets (counted_out Read (beside (lent_of ws file 0) classes)) r (beside (lent_of us file 0) left)
     unfolding counted_out
-    read_done z long full = anew-done Read bad_classes (lent_of ws file 0) read-met classes z long full
+    read_done z long full = anew_done Read bad_classes (lent_of ws file 0) read_met classes z long full

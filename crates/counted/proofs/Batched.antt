@@ -10,23 +10,23 @@ use Rattle.classes.specs.Classes.{classes_of}
 use Rattle.counted.specs.Counted.{beside, batch_words, counted_batch_out}
 use Rattle.counted.specs.Checked.{Agreeing, CheckedBeside}
 use Rattle.counted.specs.declared.Pass.{Pass}
-use Rattle.counted.proofs.Outcomes.{agree_full, refused-so, done-so}
+use Rattle.counted.proofs.Outcomes.{agree_full, refused_so, done_so}
 
 module _ (calls : List ℕ) (lent : BatchLent) (classes : List ℕ) {r : Answer} where
-  pub batch-refused :
+  pub batch_refused :
       {p : Pass} → CheckedBeside lent.words classes p → (p.refusal ≡ 0 → ⊥) → r ≡ answer p.refusal 0 0 0 →
       Meets (counted_batch_out calls (beside lent classes)) r (beside lent classes)
   unfolding counted_batch_out
-  batch-refused = refused-so batch_words (batch_out calls) (beside lent classes)
+  batch_refused = refused_so batch_words (batch_out calls) (beside lent classes)
 
   module _ {s : Settings} (agreeing : Agreeing lent.words classes s) where
     -- where it alters nothing, the record is still that of the list
-    pub batch-bad : Meets (batch_out calls lent) r lent → Meets (counted_batch_out calls (beside lent classes)) r (beside lent classes)
+    pub batch_bad : Meets (batch_out calls lent) r lent → Meets (counted_batch_out calls (beside lent classes)) r (beside lent classes)
     unfolding counted_batch_out
-    batch-bad met = done-so batch_words (batch_out calls) (beside lent classes) agreeing met (agree_full lent.words classes agreeing.agree)
+    batch_bad met = done_so batch_words (batch_out calls) (beside lent classes) agreeing met (agree_full lent.words classes agreeing.agree)
 
-    pub batch-made :
+    pub batch_made :
         {after : BatchLent} {left : List ℕ} → Meets (batch_out calls lent) r after → left ≡ classes_of after.words →
         Meets (counted_batch_out calls (beside lent classes)) r (beside after left)
     unfolding counted_batch_out
-    batch-made = done-so batch_words (batch_out calls) (beside lent classes) agreeing
+    batch_made = done_so batch_words (batch_out calls) (beside lent classes) agreeing

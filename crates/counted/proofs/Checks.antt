@@ -13,21 +13,21 @@ use Rattle.counted.specs.Checked.{Agreeing, CheckedBeside, Renewed}
 use Rattle.counted.specs.declared.Pass.{Pass}
 
 module _ {ws classes : List ℕ} {p : Pass} where
-  pub no-list-checked : p.refusal ≡ 3 → is_list ws ≡ false → CheckedBeside ws classes p
-  no-list-checked three none =
+  pub no_list_checked : p.refusal ≡ 3 → is_list ws ≡ false → CheckedBeside ws classes p
+  no_list_checked three none =
       record { is = three ∙ rw none refl; agreeing = λ e. absurd (omega arith); levels = λ e. absurd (omega arith) }
 
-  pub other-record-checked : p.refusal ≡ 15 → is_list ws ≡ true → agrees ws classes ≡ false → CheckedBeside ws classes p
-  other-record-checked fifteen list other =
+  pub other_record_checked : p.refusal ≡ 15 → is_list ws ≡ true → agrees ws classes ≡ false → CheckedBeside ws classes p
+  other_record_checked fifteen list other =
       record { is = fifteen ∙ rw (list, other) refl; agreeing = λ e. absurd (omega arith); levels = λ e. absurd (omega arith) }
 
-  pub agreeing-checked : p.refusal ≡ 0 → Agreeing ws classes p.settings → PowersOf p.settings p.powers.of → CheckedBeside ws classes p
-  agreeing-checked none agreeing levels =
+  pub agreeing_checked : p.refusal ≡ 0 → Agreeing ws classes p.settings → PowersOf p.settings p.powers.of → CheckedBeside ws classes p
+  agreeing_checked none agreeing levels =
       record { is = none ∙ rw (agreeing.listed.list, agreeing.agree) refl; agreeing = λ e. agreeing; levels = λ e. levels }
 
 module _ {a : Answer} (ws before : List ℕ) where
-  pub record-kept : (a.refusal ≡ 0 → ⊥) → Renewed a ws before a before
-  record-kept ne = record { answer = refl; classes = rw (ne_eqb a.refusal 0 ne) refl }
+  pub record_kept : (a.refusal ≡ 0 → ⊥) → Renewed a ws before a before
+  record_kept ne = record { answer = refl; classes = rw (ne_eqb a.refusal 0 ne) refl }
 
-  pub record-anew : a.refusal ≡ 0 → {after : List ℕ} → after ≡ classes_of ws → Renewed a ws before a after
-  record-anew z full = record { answer = refl; classes = full ∙ rw (eq-eqb a.refusal 0 z) refl }
+  pub record_anew : a.refusal ≡ 0 → {after : List ℕ} → after ≡ classes_of ws → Renewed a ws before a after
+  record_anew z full = record { answer = refl; classes = full ∙ rw (eq-eqb a.refusal 0 z) refl }

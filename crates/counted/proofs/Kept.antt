@@ -29,7 +29,7 @@ use Rattle.classes.specs.Classes.{live_keys, classes_in, classes_of}
 use Rattle.counted.specs.Counted.{beside, words_beside, lent_words, counted_on, counted_out}
 use Rattle.counted.specs.Checked.{Agreeing, CheckedBeside, Renewed}
 use Rattle.counted.specs.declared.Pass.{Pass}
-use Rattle.counted.proofs.Outcomes.{agree_full, refused-so, done-so, renewed-so}
+use Rattle.counted.proofs.Outcomes.{agree_full, refused_so, done_so, renewed_so}
 
 -- the keys of the live pairs
 keys_of : (row : List Node) → map (λ p. p.key) (map pair row) ≡ map (λ x. x.key) row
@@ -47,12 +47,12 @@ same_classes us ws e = ap classes_in (sym (pair_keys us) ∙ ap (map (λ p. p.ke
 
 module _ (call : Call) (ws bytes : List ℕ) (last : ℕ) (classes : List ℕ) {s : Settings} (agreeing : Agreeing ws classes s) {r : Answer} {after : Lent} where
   -- one after which the record is written anew, unless it was refused
-  pub call-renewed :
+  pub call_renewed :
       {a : Answer} {left : List ℕ} → Meets (outcome call (lent_of ws bytes last)) a after → Renewed a after.words classes r left →
       Meets (counted_on lent_words (outcome call) (beside (lent_of ws bytes last) classes)) r (beside after left)
-  call-renewed met renewed =
+  call_renewed met renewed =
       let lent = lent_of ws bytes last in
-      renewed-so lent_words (outcome call) (beside lent classes) agreeing met
+      renewed_so lent_words (outcome call) (beside lent classes) agreeing met
       (λ ne. met.left ∙ refused_alters_nothing call lent (λ z. ne (ap (λ (a : Answer). a.refusal) met.answered ∙ z))) renewed
 
   -- one that leaves the live pairs as they are
@@ -62,7 +62,7 @@ module _ (call : Call) (ws bytes : List ℕ) (last : ℕ) (classes : List ℕ) {
   call_kept keeps met =
       let made : Made = record { call = call; bytes = bytes; last = last } in
       let left = (made_on made ws).left.words in
-      done-so lent_words (outcome call) (beside (lent_of ws bytes last) classes) agreeing met
+      done_so lent_words (outcome call) (beside (lent_of ws bytes last) classes) agreeing met
       (agree_full ws classes agreeing.agree
       ∙ sym (same_classes left ws (pairs_kept made ws agreeing.listed.list keeps))
       ∙ ap (λ (l : Lent). classes_of l.words) (sym met.left))
@@ -70,54 +70,54 @@ module _ (call : Call) (ws bytes : List ℕ) (last : ℕ) (classes : List ℕ) {
 -- The five operations
 
 module _ (operation : Operation) (ws : List ℕ) where
-  operation-met :
+  operation_met :
       {us : List ℕ} {r : Answer} → Meets (operation_out operation ws) r us → Meets (outcome (Operate operation) (lent_of ws [] 0)) r (lent_of us [] 0)
   unfolding outcome
-  operation-met met = record { answered = met.answered; left = ap (λ us. lent_of us [] 0) met.left }
+  operation_met met = record { answered = met.answered; left = ap (λ us. lent_of us [] 0) met.left }
 
-  pub operation-after : {s : Settings} {r : Answer} {us : List ℕ} → Listed ws s → Meets (operation_out operation ws) r us → Listed us s
-  operation-after listed met = rw met.left (operation_listed operation listed)
+  pub operation_after : {s : Settings} {r : Answer} {us : List ℕ} → Listed ws s → Meets (operation_out operation ws) r us → Listed us s
+  operation_after listed met = rw met.left (operation_listed operation listed)
 
   module _ (classes : List ℕ) where
-    pub operation-refused :
+    pub operation_refused :
         {p : Pass} {r : Answer} → CheckedBeside ws classes p → (p.refusal ≡ 0 → ⊥) → r ≡ answer p.refusal 0 0 0 →
         Meets (counted_out (Operate operation) (words_beside ws classes)) r (words_beside ws classes)
     unfolding counted_out
-    operation-refused = refused-so lent_words (outcome (Operate operation)) (words_beside ws classes)
+    operation_refused = refused_so lent_words (outcome (Operate operation)) (words_beside ws classes)
 
-    pub operation-renewed :
+    pub operation_renewed :
         {s : Settings} {a r : Answer} {us left : List ℕ} → Agreeing ws classes s → Meets (operation_out operation ws) a us → Renewed a us classes r left →
         Meets (counted_out (Operate operation) (words_beside ws classes)) r (words_beside us left)
     unfolding counted_out
-    operation-renewed agreeing met = call-renewed (Operate operation) ws [] 0 classes agreeing (operation-met met)
+    operation_renewed agreeing met = call_renewed (Operate operation) ws [] 0 classes agreeing (operation_met met)
 
-    pub operation-kept :
+    pub operation_kept :
         {s : Settings} {r : Answer} {us : List ℕ} → Agreeing ws classes s → keeps_pairs (operation_effect operation) ≡ true → Meets (operation_out operation ws) r us →
         Meets (counted_out (Operate operation) (words_beside ws classes)) r (words_beside us classes)
     unfolding counted_out
-    operation-kept agreeing keeps met = call_kept (Operate operation) ws [] 0 classes agreeing keeps (operation-met met)
+    operation_kept agreeing keeps met = call_kept (Operate operation) ws [] 0 classes agreeing keeps (operation_met met)
 
 -- Record and write
 
 module _ (ws bytes : List ℕ) (last : ℕ) (classes : List ℕ) where
-  pub record-refused :
+  pub record_refused :
       {p : Pass} {r : Answer} → CheckedBeside ws classes p → (p.refusal ≡ 0 → ⊥) → r ≡ answer p.refusal 0 0 0 →
       Meets (counted_out Record (beside (lent_of ws bytes last) classes)) r (beside (lent_of ws bytes last) classes)
   unfolding counted_out
-  record-refused = refused-so lent_words (outcome Record) (beside (lent_of ws bytes last) classes)
+  record_refused = refused_so lent_words (outcome Record) (beside (lent_of ws bytes last) classes)
 
-  pub write-refused :
+  pub write_refused :
       {p : Pass} {r : Answer} → CheckedBeside ws classes p → (p.refusal ≡ 0 → ⊥) → r ≡ answer p.refusal 0 0 0 →
       Meets (counted_out Write (beside (lent_of ws bytes last) classes)) r (beside (lent_of ws bytes last) classes)
   unfolding counted_out
-  write-refused = refused-so lent_words (outcome Write) (beside (lent_of ws bytes last) classes)
+  write_refused = refused_so lent_words (outcome Write) (beside (lent_of ws bytes last) classes)
 
-  pub record-renewed :
+  pub record_renewed :
       {s : Settings} {a r : Answer} {us left : List ℕ} {after : ℕ} → Agreeing ws classes s →
       Meets (record_out (lent_of ws bytes last)) a (lent_of us bytes after) → Renewed a us classes r left →
       Meets (counted_out Record (beside (lent_of ws bytes last) classes)) r (beside (lent_of us bytes after) left)
   unfolding counted_out outcome
-  record-renewed agreeing met = call-renewed Record ws bytes last classes agreeing met
+  record_renewed agreeing met = call_renewed Record ws bytes last classes agreeing met
 
   pub write_kept :
       {s : Settings} {r : Answer} {us file : List ℕ} → Agreeing ws classes s → Meets (write_out (file_lent ws bytes)) r (file_lent us file) →

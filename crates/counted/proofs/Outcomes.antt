@@ -9,7 +9,7 @@ use lib.ListN.{length}
 use borrow.Author.Tests.{eq-eqb, ne_eqb}
 use Rattle.lists.proofs.Same.{same_eq}
 use Rattle.settings.specs.declared.Settings.{Settings}
-use Rattle.answers.specs.Refusals.{Outcome, Meets, answer, refused, not_aList, bad_classes}
+use Rattle.answers.specs.Refusals.{Outcome, Meets, answer, refused, not_a_list, bad_classes}
 use Rattle.answers.specs.declared.Answer.{Answer}
 use Rattle.meaning.specs.Reading.{is_list}
 use Rattle.classes.specs.Classes.{record_words, live_keys, classes_of, agrees}
@@ -27,24 +27,24 @@ agree_length ws classes e = ap length (agree_full ws classes e) ∙ classes_leng
 
 module _ {L : Type 0} (words : L → List ℕ) (call : L → Outcome L) (b : Beside L) {r : Answer} where
   -- 3 or 15, as the check of words and record answered
-  pub refused-so :
+  pub refused_so :
       {p : Pass} → CheckedBeside (words b.lent) b.classes p → (p.refusal ≡ 0 → ⊥) → r ≡ answer p.refusal 0 0 0 →
       Meets (counted_on words call b) r b
   unfolding counted_on
-  refused-so {p} checked ne is = at (is_list (words b.lent)) (agrees (words b.lent) b.classes) checked.is
+  refused_so {p} checked ne is = at (is_list (words b.lent)) (agrees (words b.lent) b.classes) checked.is
     where
       at : (t u : Bool) → p.refusal ≡ cond t (cond u 0 15) 3 →
-          Meets (cond t (cond u (read_anew words (call b.lent)) (refused bad_classes b)) (refused not_aList b)) r b
+          Meets (cond t (cond u (read_anew words (call b.lent)) (refused bad_classes b)) (refused not_a_list b)) r b
       at true true e = absurd (ne e)
       at true false e = record { answered = is ∙ ap (λ n. answer n 0 0 0) e; left = refl }
       at false u e = record { answered = is ∙ ap (λ n. answer n 0 0 0) e; left = refl }
 
   module _ {s : Settings} (agreeing : Agreeing (words b.lent) b.classes s) {after : L} where
     -- what the call alone does, where the record is the full reading of the words left
-    pub done-so :
+    pub done_so :
         {classes : List ℕ} → Meets (call b.lent) r after → classes ≡ classes_of (words after) → Meets (counted_on words call b) r (beside after classes)
     unfolding counted_on
-    done-so met full =
+    done_so met full =
         rw (agreeing.listed.list, agreeing.agree)
         (record {
           answered = met.answered;
@@ -52,11 +52,11 @@ module _ {L : Type 0} (words : L → List ℕ) (call : L → Outcome L) (b : Bes
         })
 
     -- .. or was kept, and so are the words: a refused call alters nothing
-    pub renewed-so :
+    pub renewed_so :
         {a : Answer} {classes : List ℕ} → Meets (call b.lent) a after → ((a.refusal ≡ 0 → ⊥) → after ≡ b.lent) →
         Renewed a (words after) b.classes r classes → Meets (counted_on words call b) r (beside after classes)
-    renewed-so {a} {classes} met alters renewed =
-        done-so (record { answered = renewed.answer ∙ met.answered; left = met.left }) (renewed.classes ∙ at (ℕ_discrete a.refusal 0))
+    renewed_so {a} {classes} met alters renewed =
+        done_so (record { answered = renewed.answer ∙ met.answered; left = met.left }) (renewed.classes ∙ at (ℕ_discrete a.refusal 0))
       where
         at : Dec (a.refusal ≡ 0) → cond (eqb a.refusal 0) (classes_of (words after)) b.classes ≡ classes_of (words after)
         at (yes z) = rw (eq-eqb a.refusal 0 z) refl

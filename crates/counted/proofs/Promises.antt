@@ -8,7 +8,7 @@ use native.Mathlib.Omega.{arith}
 use lib.Dec.{eqb, ltb}
 use lib.ListN.{length, get_or}
 use borrow.Author.Tests.{eq-eqb, eqb-true, eqb-false, lt-ltb}
-use Rattle.answers.specs.Refusals.{Outcome, Refusal, answer, accepted, refused, answer_of, wrong_length, not_aList, bad_key, bad_classes}
+use Rattle.answers.specs.Refusals.{Outcome, Refusal, answer, accepted, refused, answer_of, wrong_length, not_a_list, bad_key, bad_classes}
 use Rattle.answers.specs.declared.Operation.{Operation}
 use Rattle.answers.specs.declared.Operation.TheVariants.{Insert, Find, Finish, Take, Sweep}
 use Rattle.meaning.specs.Reading.{is_list}
@@ -42,18 +42,18 @@ data Ends {L : Type 0} (words : L → List ℕ) (call : L → Outcome L) (b : Be
   kept : o.left ≡ b → Ends words call b o
 
 module _ {L : Type 0} (words : L → List ℕ) (call : L → Outcome L) (b : Beside L) where
-  counted-on-ends : Ends words call b (counted_on words call b)
+  counted_on_ends : Ends words call b (counted_on words call b)
   unfolding counted_on
-  counted-on-ends = at (is_list (words b.lent)) (agrees (words b.lent) b.classes)
+  counted_on_ends = at (is_list (words b.lent)) (agrees (words b.lent) b.classes)
     where
-      at : (t u : Bool) → Ends words call b (cond t (cond u (read_anew words (call b.lent)) (refused bad_classes b)) (refused not_aList b))
+      at : (t u : Bool) → Ends words call b (cond t (cond u (read_anew words (call b.lent)) (refused bad_classes b)) (refused not_a_list b))
       at true true = anew refl
       at true false = kept refl
       at false u = kept refl
 
-  anew-on-ends : (other : Refusal) → Ends words call b (anew_on words other call b)
+  anew_on_ends : (other : Refusal) → Ends words call b (anew_on words other call b)
   unfolding anew_on
-  anew-on-ends other = at (eqb (call b.lent).answered.refusal 0) (eqb (length b.classes) record_words)
+  anew_on_ends other = at (eqb (call b.lent).answered.refusal 0) (eqb (length b.classes) record_words)
     where
       at : (t u : Bool) →
           Ends words call b (cond t (cond u (read_anew words (call b.lent)) (refused other b)) (record { answered = (call b.lent).answered; left = b }))
@@ -63,29 +63,29 @@ module _ {L : Type 0} (words : L → List ℕ) (call : L → Outcome L) (b : Bes
 
 counted_ends : (call : Call) (b : Beside Lent) → Ends lent_words (outcome call) b (counted_out call b)
 unfolding counted_out
-counted_ends (SetUp D K C) b = anew-on-ends lent_words (outcome (SetUp D K C)) b wrong_length
-counted_ends (Operate operation) b = counted-on-ends lent_words (outcome (Operate operation)) b
-counted_ends Record b = counted-on-ends lent_words (outcome Record) b
-counted_ends Write b = counted-on-ends lent_words (outcome Write) b
-counted_ends Read b = anew-on-ends lent_words (outcome Read) b bad_classes
+counted_ends (SetUp D K C) b = anew_on_ends lent_words (outcome (SetUp D K C)) b wrong_length
+counted_ends (Operate operation) b = counted_on_ends lent_words (outcome (Operate operation)) b
+counted_ends Record b = counted_on_ends lent_words (outcome Record) b
+counted_ends Write b = counted_on_ends lent_words (outcome Write) b
+counted_ends Read b = anew_on_ends lent_words (outcome Read) b bad_classes
 
 counted_batch_ends : (calls : List ℕ) (b : Beside BatchLent) → Ends batch_words (batch_out calls) b (counted_batch_out calls b)
 unfolding counted_batch_out
-counted_batch_ends calls b = counted-on-ends batch_words (batch_out calls) b
+counted_batch_ends calls b = counted_on_ends batch_words (batch_out calls) b
 
 -- 1. The record stays that of the list
 
 -- .. at either end
 module _ {L : Type 0} (words : L → List ℕ) (call : L → Outcome L) (b : Beside L) (list : is_list (words b.lent) ≡ true) (full : b.classes ≡ classes_of (words b.lent))
     (stays : is_list (words (call b.lent).left) ≡ true) where
-  agreed-after : (o : Outcome (Beside L)) → Ends words call b o → Agreed (beside (words o.left.lent) o.left.classes)
-  agreed-after o (anew e) =
+  agreed_after_lem : (o : Outcome (Beside L)) → Ends words call b o → Agreed (beside (words o.left.lent) o.left.classes)
+  agreed_after_lem o (anew e) =
       record {
         list = ap (λ (p : Outcome (Beside L)). is_list (words p.left.lent)) e ∙ stays;
         full =
             ap (λ (p : Outcome (Beside L)). p.left.classes) e ∙ ap (λ (p : Outcome (Beside L)). classes_of (words p.left.lent)) (sym e);
       }
-  agreed-after o (kept e) =
+  agreed_after_lem o (kept e) =
       record {
         list = ap (λ (c : Beside L). is_list (words c.lent)) e ∙ list;
         full = ap (λ (c : Beside L). c.classes) e ∙ full ∙ ap (λ (c : Beside L). classes_of (words c.lent)) (sym e);
@@ -103,12 +103,12 @@ pub classes_stay : ClassesStay
 unfolding after_counted
 classes_stay (single made) p agreed =
     let b = beside (lending made p.lent) p.classes in
-    agreed-after lent_words (outcome made.call) b agreed.list agreed.full (calls_keep_lists made p.lent agreed.list) (made_on_counted made p)
+    agreed_after_lem lent_words (outcome made.call) b agreed.list agreed.full (calls_keep_lists made p.lent agreed.list) (made_on_counted made p)
     (counted_ends made.call b)
 classes_stay (batched calls answers) p agreed =
     let lent = batch_lent p.lent answers in
     let b = beside lent p.classes in
-    agreed-after batch_words (batch_out calls) b agreed.list agreed.full (batch_keeps_list calls lent agreed.list) (batch_on_counted calls answers p)
+    agreed_after_lem batch_words (batch_out calls) b agreed.list agreed.full (batch_keeps_list calls lent agreed.list) (batch_on_counted calls answers p)
     (counted_batch_ends calls b)
 
 all_stay : (calls : List CountedMade) (p : CountedList) → Agreed p → Agreed (after_all_counted calls p)
@@ -150,7 +150,7 @@ classes_stay_from_fresh p from =
 -- 2. A counted call is the call
 
 -- on words that are no list every call but set up and read is refused by 3
-operation_no_list : (operation : Operation) (ws : List ℕ) → is_list ws ≡ false → operation_out operation ws ≡ refused not_aList ws
+operation_no_list : (operation : Operation) (ws : List ℕ) → is_list ws ≡ false → operation_out operation ws ≡ refused not_a_list ws
 operation_no_list (Insert key value) ws none = insert_outcome_not_a_list ws key value none
 operation_no_list (Find key) ws none = find_outcome_not_a_list ws key none
 operation_no_list (Finish key) ws none = finish_outcome_not_a_list ws key none
@@ -163,13 +163,13 @@ Same o alone-o = (o.answered ≡ alone-o.answered) × (o.left.lent ≡ alone-o.l
 
 counted_on_same :
     {L : Type 0} (words : L → List ℕ) (call : L → Outcome L) (b : Beside L) →
-    (is_list (words b.lent) ≡ false → call b.lent ≡ refused not_aList b.lent) →
+    (is_list (words b.lent) ≡ false → call b.lent ≡ refused not_a_list b.lent) →
     ((counted_on words call b).answered.refusal ≡ 15 → ⊥) → Same (counted_on words call b) (call b.lent)
 unfolding counted_on
 counted_on_same {L} words call b three ne = at (is_list (words b.lent)) (agrees (words b.lent) b.classes) refl ne
   where
     by : Bool → Bool → Outcome (Beside L)
-    by t u = cond t (cond u (read_anew words (call b.lent)) (refused bad_classes b)) (refused not_aList b)
+    by t u = cond t (cond u (read_anew words (call b.lent)) (refused bad_classes b)) (refused not_a_list b)
 
     at : (t u : Bool) → is_list (words b.lent) ≡ t → ((by t u).answered.refusal ≡ 15 → ⊥) → Same (by t u) (call b.lent)
     at true true e n = (refl, refl)
@@ -221,7 +221,7 @@ unfolding counted_on
 counted_on_alters_nothing {L} words call b alters ne = at (is_list (words b.lent)) (agrees (words b.lent) b.classes) refl ne
   where
     by : Bool → Bool → Outcome (Beside L)
-    by t u = cond t (cond u (read_anew words (call b.lent)) (refused bad_classes b)) (refused not_aList b)
+    by t u = cond t (cond u (read_anew words (call b.lent)) (refused bad_classes b)) (refused not_a_list b)
 
     at : (t u : Bool) → agrees (words b.lent) b.classes ≡ u → ((by t u).answered.refusal ≡ 0 → ⊥) → (by t u).left ≡ b
     at true true e n =

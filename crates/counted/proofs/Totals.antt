@@ -7,13 +7,13 @@ use native.Mathlib.Omega.{arith}
 use lib.ListN.{length, get_or, length-map}
 use Rattle.lists.specs.Lists.{those, numbers_from}
 use Rattle.lists.proofs.All.{All, all_map}
-use Rattle.lists.proofs.Those.{those-keep}
+use Rattle.lists.proofs.Those.{those_keep}
 use Rattle.meaning.specs.Row.{Node}
 use Rattle.meaning.specs.Reading.{read, is_list}
 use Rattle.meaning.proofs.Outcomes.{on_read_lists}
 use Rattle.calls.specs.Pairs.{pair}
 use Rattle.classes.specs.Classes.{class_of, number_of_classes, live_keys, keys_in, classes_in, count_at}
-use Rattle.classes.proofs.Classes.{count_word, other-class, own-class}
+use Rattle.classes.proofs.Classes.{count_word, other_class, own_class}
 use Rattle.counted.specs.Promises.{sum_of, counts_in, ClassesTotal}
 
 -- the counts of n classes from i on
@@ -25,15 +25,15 @@ counts_past : (key : ℕ) (keys : List ℕ) (i n : ℕ) → class_of key < i →
 unfolding counts numbers_from
 counts_past key keys i zero h = refl
 counts_past key keys i (suc n) h =
-    ap₂ {C = List ℕ} (λ ks ns. length ks ∷ ns) (other-class key keys i (λ e. omega arith)) (counts_past key keys (suc i) n (omega arith))
+    ap₂ {C = List ℕ} (λ ks ns. length ks ∷ ns) (other_class key keys i (λ e. omega arith)) (counts_past key keys (suc i) n (omega arith))
 
 sum_more : (key : ℕ) (keys : List ℕ) (i n d : ℕ) → class_of key ≡ i + d → d < n → sum_of (counts (key ∷ keys) i n) ≡ suc (sum_of (counts keys i n))
 unfolding counts numbers_from sum_of
 sum_more key keys i zero d e h = absurd (omega arith)
 sum_more key keys i (suc n) zero e h =
-    ap₂ (λ ks ns. length ks + sum_of ns) (own-class key keys i (omega arith)) (counts_past key keys (suc i) n (omega arith)) ∙ omega arith
+    ap₂ (λ ks ns. length ks + sum_of ns) (own_class key keys i (omega arith)) (counts_past key keys (suc i) n (omega arith)) ∙ omega arith
 sum_more key keys i (suc n) (suc d) e h =
-    omega (arith, ap length (other-class key keys i (λ f. omega arith)), sum_more key keys (suc i) n d (omega arith) (omega arith))
+    omega (arith, ap length (other_class key keys i (λ f. omega arith)), sum_more key keys (suc i) n d (omega arith) (omega arith))
 
 sum_none : (i n : ℕ) → sum_of (counts [] i n) ≡ 0
 unfolding counts numbers_from sum_of those
@@ -70,6 +70,6 @@ pub classes_total : ClassesTotal
 classes_total ws list =
     let lives = those (λ x. x.live) (read ws).row in
     ap sum_of (counts_are (live_keys ws))
-    ∙ sum_all (live_keys ws) (keys_below lives (those-keep (λ x. x.key ≤ 4294967295) (λ x. x.live) (read ws).row (row_below ws list)))
+    ∙ sum_all (live_keys ws) (keys_below lives (those_keep (λ x. x.key ≤ 4294967295) (λ x. x.live) (read ws).row (row_below ws list)))
     ∙ length-map lives (λ x. x.key)
     ∙ sym (length-map lives pair)

@@ -1,6 +1,6 @@
 -- The operations with a class record beside the list, in one definition over any call: The class record.
 use Rattle.std.specs.Prelude.{cond, List, [], ℕ, eqb, length}
-use Rattle.answers.specs.Refusals.{Outcome, Refusal, refused, wrong_length, not_aList, bad_classes}
+use Rattle.answers.specs.Refusals.{Outcome, Refusal, refused, wrong_length, not_a_list, bad_classes}
 use Rattle.meaning.specs.Reading.{is_list}
 use Rattle.calls.specs.Records.{Lent, lent_of}
 use Rattle.calls.specs.Calls.{outcome}
@@ -30,7 +30,7 @@ unfoldable pub counted_on : {L : Type 0} → (L → List ℕ) → (L → Outcome
 counted_on words call b =
     cond (is_list (words b.lent))
     (cond (agrees (words b.lent) b.classes) (read_anew words (call b.lent)) (refused bad_classes b))
-    (refused not_aList b)
+    (refused not_a_list b)
 
 -- A call that makes a list anew, whatever words and record held: what it refuses by itself, then a record that has not 32 words.
 unfoldable pub anew_on : {L : Type 0} → (L → List ℕ) → Refusal → (L → Outcome L) → Beside L → Outcome (Beside L)

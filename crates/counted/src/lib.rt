@@ -2,6 +2,8 @@
 // checks that the lent words are a list, then that the record is what a full reading of it gives, and calls the inner function of the crate of its
 // name; where the live keys may have changed, the record is written anew. No one has a `requires`, and each contract is the whole outcome of the
 // call: the four numbers, every word of list and record, the last number, and the bytes of a file.
+#![tactic(auto)]
+
 ghost use Rattle.std.specs.Prelude.{◌≡◌, ◌≤◌, length};
 ghost use Rattle.settings.specs.Numbers.{header_words};
 ghost use Rattle.answers.specs.Refusals.{Meets};
@@ -21,7 +23,7 @@ use files::Contents;
 use settings::{Powers, Settings};
 
 // What the check of words and record answers: 3, 15, or 0 with the list's settings and the powers of its base.
-#[derive(Drop)]
+#[derive(Clone, Copy)]
 struct Pass {
     refusal: u32,
     settings: Settings,

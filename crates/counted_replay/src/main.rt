@@ -9,6 +9,8 @@
 // (K and X as P does, C as a call does), and after that the checksum of the record's words.
 //
 // The file stdout has the answers of the separate ordered set: compare/ordered_set/target/release/ordered_set counted_replay < stdin > stdout
+#![tactic(auto)]
+
 ghost use Rattle.std.specs.Prelude.{◌≡◌, length};
 ghost use Rattle.text.specs.Lines.{most_bytes};
 ghost use Rattle.trace.specs.Lines.{most_words, most_held};
@@ -19,7 +21,7 @@ use counted_step::Sizes;
 use text::feed::Feed;
 
 // What is kept from one byte to the next, beside the arrays, the last number and the bytes of the line begun: how much is held.
-#[derive(Drop)]
+#[derive(Clone, Copy)]
 pub struct State {
     pub feed: Feed,
     pub sizes: Sizes,

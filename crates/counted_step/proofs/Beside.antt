@@ -6,7 +6,7 @@ use mathlib.Core.List.{List, []}
 use Prim.Native.Nat.{ℕ}
 use lib.Dec.{eqb}
 use lib.ListN.{length}
-use Rattle.answers.specs.Refusals.{Outcome, Meets, Refusal, refused, not_aList, bad_classes, wrong_length}
+use Rattle.answers.specs.Refusals.{Outcome, Meets, Refusal, refused, not_a_list, bad_classes, wrong_length}
 use Rattle.answers.specs.declared.Answer.{Answer}
 use Rattle.meaning.specs.Reading.{is_list}
 use Rattle.calls.specs.Records.{Lent, lent_of}
@@ -25,40 +25,40 @@ module _ (bytes_of : Lent → List ℕ) (last_of : Lent → ℕ) where
   abbrev pub through : Outcome Lent → Outcome Lent
   through o = record { answered = o.answered; left = other o.left }
 
-  abbrev pub throughBeside : Outcome (Beside Lent) → Outcome (Beside Lent)
-  throughBeside o = record { answered = o.answered; left = beside (other o.left.lent) o.left.classes }
+  abbrev pub through_beside : Outcome (Beside Lent) → Outcome (Beside Lent)
+  through_beside o = record { answered = o.answered; left = beside (other o.left.lent) o.left.classes }
 
   module _ (call : Lent → Outcome Lent) (l : Lent) (classes : List ℕ) (same : call (other l) ≡ through (call l)) where
-    on-other : counted_on lent_words call (beside (other l) classes) ≡ throughBeside (counted_on lent_words call (beside l classes))
+    on_other : counted_on lent_words call (beside (other l) classes) ≡ through_beside (counted_on lent_words call (beside l classes))
     unfolding counted_on
-    on-other = rw same (at (is_list l.words) (agrees l.words classes))
+    on_other = rw same (at (is_list l.words) (agrees l.words classes))
       where
         at : (list agree : Bool) →
-            cond list (cond agree (read_anew lent_words (through (call l))) (refused bad_classes (beside (other l) classes))) (refused not_aList (beside (other l) classes))
-            ≡ throughBeside (cond list (cond agree (read_anew lent_words (call l)) (refused bad_classes (beside l classes))) (refused not_aList (beside l classes)))
+            cond list (cond agree (read_anew lent_words (through (call l))) (refused bad_classes (beside (other l) classes))) (refused not_a_list (beside (other l) classes))
+            ≡ through_beside (cond list (cond agree (read_anew lent_words (call l)) (refused bad_classes (beside l classes))) (refused not_a_list (beside l classes)))
         at true true = refl
         at true false = refl
         at false agree = refl
 
-    anew-other : (length-refusal : Refusal) →
-        anew_on lent_words length-refusal call (beside (other l) classes) ≡ throughBeside (anew_on lent_words length-refusal call (beside l classes))
+    anew_other : (length-refusal : Refusal) →
+        anew_on lent_words length-refusal call (beside (other l) classes) ≡ through_beside (anew_on lent_words length-refusal call (beside l classes))
     unfolding anew_on
-    anew-other r = rw same (at (eqb (call l).answered.refusal 0) (eqb (length classes) record_words))
+    anew_other r = rw same (at (eqb (call l).answered.refusal 0) (eqb (length classes) record_words))
       where
         at : (accepts long : Bool) →
             cond accepts (cond long (read_anew lent_words (through (call l))) (refused r (beside (other l) classes)))
             (record { answered = (call l).answered; left = beside (other l) classes })
-            ≡ throughBeside (cond accepts (cond long (read_anew lent_words (call l)) (refused r (beside l classes)))
+            ≡ through_beside (cond accepts (cond long (read_anew lent_words (call l)) (refused r (beside l classes)))
             (record { answered = (call l).answered; left = beside l classes }))
         at true true = refl
         at true false = refl
         at false long = refl
 
-  meets-other :
+  meets_other :
       (call : Call) (l : Lent) (classes : List ℕ) {after : Lent} {now : List ℕ} {r : Answer} →
-      counted_out call (beside (other l) classes) ≡ throughBeside (counted_out call (beside l classes)) →
+      counted_out call (beside (other l) classes) ≡ through_beside (counted_out call (beside l classes)) →
       Meets (counted_out call (beside l classes)) r (beside after now) → Meets (counted_out call (beside (other l) classes)) r (beside (other after) now)
-  meets-other call l classes same m =
+  meets_other call l classes same m =
       record {
         answered = m.answered ∙ sym (ap (λ (o : Outcome (Beside Lent)). o.answered) same);
         left = ap (λ (d : Beside Lent). beside (other d.lent) d.classes) m.left ∙ sym (ap (λ (o : Outcome (Beside Lent)). o.left) same);
@@ -71,11 +71,11 @@ pub words_meets :
     Meets (counted_out call (beside (lent_of ws l.bytes l.last) classes)) r (beside (lent_of us l.bytes l.last) now)
 unfolding counted_out outcome
 words_meets (SetUp D K C) l ws classes {us} alone m =
-    meets-other (λ x. l.bytes) (λ x. l.last) (SetUp D K C) (lent_of ws [] 0) classes {after = lent_of us [] 0}
-    (anew-other (λ x. l.bytes) (λ x. l.last) (outcome (SetUp D K C)) (lent_of ws [] 0) classes refl wrong_length) m
+    meets_other (λ x. l.bytes) (λ x. l.last) (SetUp D K C) (lent_of ws [] 0) classes {after = lent_of us [] 0}
+    (anew_other (λ x. l.bytes) (λ x. l.last) (outcome (SetUp D K C)) (lent_of ws [] 0) classes refl wrong_length) m
 words_meets (Operate operation) l ws classes {us} alone m =
-    meets-other (λ x. l.bytes) (λ x. l.last) (Operate operation) (lent_of ws [] 0) classes {after = lent_of us [] 0}
-    (on-other (λ x. l.bytes) (λ x. l.last) (outcome (Operate operation)) (lent_of ws [] 0) classes refl) m
+    meets_other (λ x. l.bytes) (λ x. l.last) (Operate operation) (lent_of ws [] 0) classes {after = lent_of us [] 0}
+    (on_other (λ x. l.bytes) (λ x. l.last) (outcome (Operate operation)) (lent_of ws [] 0) classes refl) m
 words_meets Record l ws classes alone m = absurd (false≢true (sym alone))
 words_meets Write l ws classes alone m = absurd (false≢true (sym alone))
 words_meets Read l ws classes alone m = absurd (false≢true (sym alone))
@@ -87,13 +87,13 @@ module _ (last : ℕ) (ws bytes classes : List ℕ) {us file now : List ℕ} {r 
       Meets (counted_out Write (beside (lent_of ws bytes last) classes)) r (beside (lent_of us file last) now)
   unfolding counted_out outcome
   write_meets m =
-      meets-other (λ x. x.bytes) (λ x. last) Write (lent_of ws bytes 0) classes {after = lent_of us file 0}
-      (on-other (λ x. x.bytes) (λ x. last) (outcome Write) (lent_of ws bytes 0) classes refl) m
+      meets_other (λ x. x.bytes) (λ x. last) Write (lent_of ws bytes 0) classes {after = lent_of us file 0}
+      (on_other (λ x. x.bytes) (λ x. last) (outcome Write) (lent_of ws bytes 0) classes refl) m
 
   pub read_meets :
       Meets (counted_out Read (beside (lent_of ws bytes 0) classes)) r (beside (lent_of us file 0) now) →
       Meets (counted_out Read (beside (lent_of ws bytes last) classes)) r (beside (lent_of us file last) now)
   unfolding counted_out outcome
   read_meets m =
-      meets-other (λ x. x.bytes) (λ x. last) Read (lent_of ws bytes 0) classes {after = lent_of us file 0}
-      (anew-other (λ x. x.bytes) (λ x. last) (outcome Read) (lent_of ws bytes 0) classes refl bad_classes) m
+      meets_other (λ x. x.bytes) (λ x. last) Read (lent_of ws bytes 0) classes {after = lent_of us file 0}
+      (anew_other (λ x. x.bytes) (λ x. last) (outcome Read) (lent_of ws bytes 0) classes refl bad_classes) m

@@ -20,28 +20,28 @@ module _
     (holds : Holds most_words words n (buffer_after (kind_in line) before.lent.words))
     (holds-bytes : Holds most_held bytes m (bytes_after (kind_in line) text before.lent.bytes))
     (holds-classes : Holds most_classes classes h (classes_after line before.classes)) (is_last : last ≡ last_after (kind_in line) before.lent.last) where
-  altered-is : beside (lent_of (take (n - 0) words) (take (m - 0) bytes) last) (take (h - 0) classes) ≡ line_alters line text before
-  altered-is =
+  altered_is : beside (lent_of (take (n - 0) words) (take (m - 0) bytes) last) (take (h - 0) classes) ≡ line_alters line text before
+  altered_is =
       let first = ap (λ (k : ℕ). take k words) (sub-zero n) ∙ holds.is in
       let second = ap (λ (k : ℕ). take k bytes) (sub-zero m) ∙ holds-bytes.is in
       let third = ap (λ (k : ℕ). take k classes) (sub-zero h) ∙ holds-classes.is in
       λ i. beside (lent_of (first i) (second i) (is_last i)) (third i)
 
-  pub line-done :
+  pub line_done :
       {reply : Reply} {called called-bytes called-classes after after-bytes after-classes : List ℕ} {now-last : ℕ} →
       LineCalled line (beside (lent_of (take (n - 0) words) (take (m - 0) bytes) last) (take (h - 0) classes)) reply
       (beside (lent_of called called-bytes now-last) called-classes) → Held most_words after n → take n after ≡ called → Held most_held after-bytes m →
       take m after-bytes ≡ called-bytes → Held most_classes after-classes h → take h after-classes ≡ called-classes →
       LineDone line text before after after-bytes now-last after-classes (record { used = n; filled = m; classes = h; reply = reply })
   unfolding left_by
-  line-done made held first held_bytes second held-classes third =
-      let left = made.left ∙ ap (line_leaves line) altered-is in
+  line_done made held first held_bytes second held-classes third =
+      let left = made.left ∙ ap (line_leaves line) altered_is in
       record {
         words_are = record { held = held; is = first ∙ ap (λ (b : Beside Lent). b.lent.words) left };
         bytes_are = record { held = held_bytes; is = second ∙ ap (λ (b : Beside Lent). b.lent.bytes) left };
         last_is = ap (λ (b : Beside Lent). b.lent.last) left;
         classes_are = record { held = held-classes; is = third ∙ ap (λ (b : Beside Lent). b.classes) left };
-        reply_is = made.reply ∙ ap (line_reply line) altered-is;
+        reply_is = made.reply ∙ ap (line_reply line) altered_is;
       }
 
 -- what a line that is done leaves

@@ -1,5 +1,7 @@
 // A line of a trace of counted calls: what it says, its call on what is held, and what is printed for it. The format is at the head of the program
 // counted_replay.
+#![tactic(auto)]
+
 ghost use Rattle.std.specs.Prelude.{◌≡◌, ◌≤◌, length, take};
 ghost use Rattle.answers.specs.Refusals.{Meets};
 ghost use Rattle.calls.specs.Records.{lent_of};
@@ -23,7 +25,7 @@ pub const MOST_CLASSES: usize = 64;
 const LINE_BYTES: usize = report::ANSWER_BYTES + 4 * report::FIELD_BYTES;
 
 // What a line says.
-#[derive(Drop)]
+#[derive(Clone, Copy)]
 pub enum Line {
     // a line of the replay, its call made with the class record beside the list
     Listed(Kind),
@@ -36,7 +38,7 @@ pub enum Line {
 }
 
 // How many of the words, of the bytes and of the class record's words are held.
-#[derive(Drop)]
+#[derive(Clone, Copy)]
 pub struct Sizes {
     pub used: usize,
     pub filled: usize,
@@ -44,7 +46,7 @@ pub struct Sizes {
 }
 
 // After a line: what is held, and what the line is answered.
-#[derive(Drop)]
+#[derive(Clone, Copy)]
 struct Done {
     pub used: usize,
     pub filled: usize,

@@ -1,5 +1,7 @@
 // The two engines side by side: the list, and the plain row that a reader believes at a glance. Here is the comparison of their answers; that they
 // answer alike is promised in specs/Promises.antt.
+#![tactic(auto)]
+
 ghost use Rattle.std.specs.Prelude.{◌≡◌};
 ghost use Rattle.engines.specs.Alike.{alike};
 

@@ -1,9 +1,11 @@
 // Entries: a class, a unit and a serial, and the key that they make.
+#![tactic(auto)]
+
 ghost use Rattle.std.specs.Prelude.{◌≡◌};
 ghost use Rattle.entries.specs.Entries.{entry_of, entry_key, InRange};
 
 // Entries 1.
-#[derive(Drop)]
+#[derive(Clone, Copy)]
 pub struct Entry {
     pub class: u32,
     pub unit: u32,

@@ -1,4 +1,6 @@
 // The list of entries that the programs order and logger keep: D = 8, K = 4,294,967,295, C = 512, so that every entry has a key.
+#![tactic(auto)]
+
 ghost use Rattle.std.specs.Prelude.{◌≡◌, length, true};
 ghost use Rattle.meaning.specs.Reading.{is_list};
 ghost use Rattle.meaning.specs.Layer.Listed.{Listed};

@@ -21,7 +21,7 @@ use Rattle.files.specs.Promises.{Kept}
 use Rattle.files.specs.declared.Contents.TheVariants.{IsFile, NotAFile}
 use Rattle.files.proofs.Numbers.{Bytes, bytes_drop, bytes_all, big_endian_bytes}
 use Rattle.files.proofs.Parts.{number_there, next_there, number_first}
-use Rattle.files.proofs.Tags.{width_most, tag-byte, count_fits}
+use Rattle.files.proofs.Tags.{width_most, tag_byte, count_fits}
 use Rattle.files.proofs.Table.{body_bytes, table_length, table_tag}
 use Rattle.files.proofs.Written.{count_of, file_length_lem}
 use Rattle.files.proofs.Pairs.{pairs_in_length, pairs_are}
@@ -75,7 +75,7 @@ file_bytes s pairs =
     all table (d ++ r23) (
       omega arith,
       all (body_at 1 19 12) (body_at tag entries_start (count_width tag + 8 * length pairs)) (b 1 19 12 (omega arith))
-          (b tag entries_start (count_width tag + 8 * length pairs) (tag-byte (length pairs))),
+          (b tag entries_start (count_width tag + 8 * length pairs) (tag_byte (length pairs))),
     ) (
     all d r23 (big_endian_bytes 4 s.dimensions) (
     all k r27 (big_endian_bytes 4 s.largest) (
@@ -184,9 +184,9 @@ module _ (s : Settings) (pairs : List Pair) (kept : Kept s pairs) where
   unfolding from27
   at31 = next_there file from31 27 4 s.cells {j = 31} (omega arith) at27
 
-  at-pairs : drop (before (length pairs)) file ≡ pair_bytes pairs
+  at_pairs : drop (before (length pairs)) file ≡ pair_bytes pairs
   unfolding from31
-  at-pairs = next_there file (pair_bytes pairs) 31 (count_width (tag_for (length pairs))) (length pairs) {j = before (length pairs)} (omega arith) at31
+  at_pairs = next_there file (pair_bytes pairs) 31 (count_width (tag_for (length pairs))) (length pairs) {j = before (length pairs)} (omega arith) at31
 
   width_read : width_in file ≡ count_width (tag_for (length pairs))
   unfolding file from23 from27 from31
@@ -203,9 +203,9 @@ module _ (s : Settings) (pairs : List Pair) (kept : Kept s pairs) where
       ap (λ w. number_at w 31 file) width_read
       ∙ number_there file (pair_bytes pairs) 31 (count_width (tag_for n)) n (count_fits n (fits s pairs kept).number) at31
 
-  pub settings-read : settings_in (file_of s pairs) ≡ s
+  pub settings_read : settings_in (file_of s pairs) ≡ s
   unfolding file from23 from27
-  settings-read =
+  settings_read =
       let f = fits s pairs kept in
       rw (
         number_there file from23 19 4 s.dimensions f.dimensions at19,
@@ -215,20 +215,20 @@ module _ (s : Settings) (pairs : List Pair) (kept : Kept s pairs) where
       )
       refl
 
-  pub pairs-read : pairs_in (file_of s pairs) ≡ pairs
+  pub pairs_read : pairs_in (file_of s pairs) ≡ pairs
   unfolding pairs_in file
-  pairs-read =
+  pairs_read =
       ap₂ (λ n w. pairs_from n (drop (entries_start + w) file)) number_read width_read
-      ∙ ap (pairs_from (length pairs)) at-pairs
+      ∙ ap (pairs_from (length pairs)) at_pairs
       ∙ pairs_written pairs (fits s pairs kept).each
 
-  pub file-is-file : is_file (file_of s pairs) ≡ true
+  pub file_is_file : is_file (file_of s pairs) ≡ true
   unfolding is_file
-  file-is-file = rw (settings-read, pairs-read, kept.keeps_them) (same_refl (file_of s pairs))
+  file_is_file = rw (settings_read, pairs_read, kept.keeps_them) (same_refl (file_of s pairs))
 
-  pub contents-read : contents_of (file_of s pairs) ≡ IsFile s (length pairs)
+  pub contents_read : contents_of (file_of s pairs) ≡ IsFile s (length pairs)
   unfolding contents_of
-  contents-read = rw (file-is-file, settings-read, pairs-read) refl
+  contents_read = rw (file_is_file, settings_read, pairs_read) refl
 
 -- Bytes that pass the tests
 

@@ -131,16 +131,16 @@ module _ (bytes : List ℕ) (f below K i n : ℕ) (more : i < n) {key : ℕ} (is
   first : rising below K (pairs_from (n - i) (drop (f + 8 * i) bytes)) ≡ rising below K (pair_at bytes f i ∷ pairs_from (n - (i + 1)) (drop (f + 8 * (i + 1)) bytes))
   first = ap (rising below K) (pairs_next bytes f i n more)
 
-  pub rising-stops-low : key ≤ below → rising below K (pairs_from (n - i) (drop (f + 8 * i) bytes)) ≡ false
-  rising-stops-low h = first ∙ rising_low below K (pair_at bytes f i) (pairs_from (n - (i + 1)) (drop (f + 8 * (i + 1)) bytes)) (omega arith)
+  pub rising_stops_low : key ≤ below → rising below K (pairs_from (n - i) (drop (f + 8 * i) bytes)) ≡ false
+  rising_stops_low h = first ∙ rising_low below K (pair_at bytes f i) (pairs_from (n - (i + 1)) (drop (f + 8 * (i + 1)) bytes)) (omega arith)
 
-  pub rising-stops-high : K < key → rising below K (pairs_from (n - i) (drop (f + 8 * i) bytes)) ≡ false
-  rising-stops-high k = first ∙ rising_high below K (pair_at bytes f i) (pairs_from (n - (i + 1)) (drop (f + 8 * (i + 1)) bytes)) (omega arith)
+  pub rising_stops_high : K < key → rising below K (pairs_from (n - i) (drop (f + 8 * i) bytes)) ≡ false
+  rising_stops_high k = first ∙ rising_high below K (pair_at bytes f i) (pairs_from (n - (i + 1)) (drop (f + 8 * (i + 1)) bytes)) (omega arith)
 
-  pub rising-turn :
+  pub rising_turn :
       below < key → key ≤ K →
       rising below K (pairs_from (n - i) (drop (f + 8 * i) bytes)) ≡ rising key K (pairs_from (n - (i + 1)) (drop (f + 8 * (i + 1)) bytes))
-  rising-turn h k =
+  rising_turn h k =
       first
       ∙ rising_on below K (pair_at bytes f i) (pairs_from (n - (i + 1)) (drop (f + 8 * (i + 1)) bytes)) (omega arith) (omega arith)
       ∙ ap (λ b. rising b K (pairs_from (n - (i + 1)) (drop (f + 8 * (i + 1)) bytes))) (sym is)

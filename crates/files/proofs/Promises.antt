@@ -13,7 +13,7 @@ use Rattle.files.specs.Files.{before, number_at, settings_in, count_in, pairs_fr
 use Rattle.files.specs.Promises.{Kept, FilesExactly, WrittenIsRead}
 use Rattle.files.proofs.Numbers.{Bytes, bytes_drop}
 use Rattle.files.proofs.Parts.{number_at_below}
-use Rattle.files.proofs.Files.{tested, tested_length, tested_table, pairs_behind, file_keeps, file_bytes, settings-read, pairs-read, file-is-file, contents-read}
+use Rattle.files.proofs.Files.{tested, tested_length, tested_table, pairs_behind, file_keeps, file_bytes, settings_read, pairs_read, file_is_file, contents_read}
 
 -- values that are read out of bytes have 32 bits
 values_fit : (n : ℕ) (bytes : List ℕ) → Bytes bytes → 8 * n ≤ length bytes → All (λ p. ltb p.value 4294967296 ≡ true) (pairs_from n bytes)
@@ -42,8 +42,8 @@ read_kept bytes e =
 pub files_exactly : FilesExactly
 files_exactly bytes = (
   (λ e. record { settings = settings_in bytes; pairs = pairs_in bytes; kept = read_kept bytes e; is = sym (tested bytes e).is }),
-  (λ f. rw f.is (file-is-file f.settings f.pairs f.kept)),
+  (λ f. rw f.is (file_is_file f.settings f.pairs f.kept)),
 )
 
 pub written_is_read : WrittenIsRead
-written_is_read s pairs kept = (settings-read s pairs kept, (pairs-read s pairs kept, contents-read s pairs kept))
+written_is_read s pairs kept = (settings_read s pairs kept, (pairs_read s pairs kept, contents_read s pairs kept))

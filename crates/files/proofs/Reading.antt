@@ -58,11 +58,11 @@ module _ (bytes : List ℕ) {checked : Checked} (read : checked ≡ checked_of (
       pub too_many : s.cells ≤ n → contents_of bytes ≡ NotAFile
       too_many h = no_file bytes (λ t. omega (arith, h, is, cells, t.few))
 
-      pub wrong-length : {long : ℕ} → long ≡ file_length n → (length bytes ≡ long → ⊥) → contents_of bytes ≡ NotAFile
-      wrong-length e differ = no_file bytes (λ t. differ (tested_length bytes t ∙ ap file_length (sym is) ∙ sym e))
+      pub wrong_length : {long : ℕ} → long ≡ file_length n → (length bytes ≡ long → ⊥) → contents_of bytes ≡ NotAFile
+      wrong_length e differ = no_file bytes (λ t. differ (tested_length bytes t ∙ ap file_length (sym is) ∙ sym e))
 
-      pub wrong-table : {right : Bool} → right ≡ same (table_of n) (take 19 bytes) → right ≡ false → contents_of bytes ≡ NotAFile
-      wrong-table e fails =
+      pub wrong_table : {right : Bool} → right ≡ same (table_of n) (take 19 bytes) → right ≡ false → contents_of bytes ≡ NotAFile
+      wrong_table e fails =
           no_file bytes (λ t. false≢true (sym fails ∙ e ∙ rw (tested_table bytes t, is) (same_refl (table_of (count_in bytes)))))
 
       rises : {r : Bool} → take 19 bytes ≡ table_of (count_in bytes) → r ≡ rising 0 s.largest (pairs_from n (drop (before n) bytes)) →
@@ -71,8 +71,8 @@ module _ (bytes : List ℕ) {checked : Checked} (read : checked ≡ checked_of (
           e ∙ ap₂ (λ m (t : Settings). rising 0 t.largest (pairs_from m (drop (before m) bytes))) is settings.1
           ∙ ap (rising 0 (number_at 4 23 bytes)) (sym (pairs_behind bytes table))
 
-      pub not-rising : {r : Bool} → r ≡ rising 0 s.largest (pairs_from n (drop (before n) bytes)) → r ≡ false → contents_of bytes ≡ NotAFile
-      not-rising e fails = no_file bytes (λ t. false≢true (sym fails ∙ rises (tested_table bytes t) e ∙ t.rise))
+      pub not_rising : {r : Bool} → r ≡ rising 0 s.largest (pairs_from n (drop (before n) bytes)) → r ≡ false → contents_of bytes ≡ NotAFile
+      not_rising e fails = no_file bytes (λ t. false≢true (sym fails ∙ rises (tested_table bytes t) e ∙ t.rise))
 
       pub all_right :
           {long : ℕ} {right r : Bool} → Bytes bytes → long ≡ file_length n → length bytes ≡ long → right ≡ same (table_of n) (take 19 bytes) →

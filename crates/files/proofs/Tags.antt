@@ -25,16 +25,16 @@ many_tag n h = rw (lt-leb n most_under_tag2 h) refl
 
 -- each tag has a byte of its own, and the number of the pairs fits the bytes that it has under its tag
 module _ (n : ℕ) where
-  by-tag : (P : ℕ → Type 0) → (n ≤ most_under_tag2 → P 2) → (most_under_tag2 < n → P 3) → P (tag_for n)
-  by-tag P few many = at (leb n most_under_tag2) refl
+  by_tag : (P : ℕ → Type 0) → (n ≤ most_under_tag2 → P 2) → (most_under_tag2 < n → P 3) → P (tag_for n)
+  by_tag P few many = at (leb n most_under_tag2) refl
     where
       at : (t : Bool) → leb n most_under_tag2 ≡ t → P (tag_for n)
       at true e = let h = leb-true n most_under_tag2 e in rw (few_tag n h) (few h)
       at false e = let h = leb-false n most_under_tag2 e in rw (many_tag n h) (many h)
 
-  pub tag-byte : tag_for n < 256
-  tag-byte = by-tag (λ tag. tag < 256) (λ h. omega arith) (λ h. omega arith)
+  pub tag_byte : tag_for n < 256
+  tag_byte = by_tag (λ tag. tag < 256) (λ h. omega arith) (λ h. omega arith)
 
   pub count_fits : n < 4294967296 → n < 256 ^ count_width (tag_for n)
   unfolding count_width
-  count_fits fits = by-tag (λ tag. n < 256 ^ count_width tag) (λ h. omega arith) (λ h. omega arith)
+  count_fits fits = by_tag (λ tag. n < 256 ^ count_width tag) (λ h. omega arith) (λ h. omega arith)

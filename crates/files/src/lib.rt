@@ -1,5 +1,7 @@
 // The file that keeps a list over a restart: numbers in bytes, whether bytes are a file, the pairs in it, and its bytes written
 // (docs/REFERENCE.md, *Files*).
+#![tactic(auto)]
+
 ghost use Rattle.std.specs.Prelude.{◌≡◌, [], ◌∷◌, ◌++◌, ◌+◌, ◌*◌, ◌^◌, ◌≤◌, ◌<◌, length, take, drop};
 ghost use Rattle.std.proofs.lemmas.List.Edits.{sets};
 ghost use Rattle.settings.specs.Numbers.{most_cells};
@@ -11,7 +13,7 @@ ghost use Rattle.files.specs.Files.{table_of, front_of, number_on, number_at, pa
 use settings::{Checked, Settings};
 
 // What bytes are read as: a file, with the settings and the number of the pairs in it; or none, which is refused by number 11.
-#[derive(Drop)]
+#[derive(Clone, Copy)]
 pub enum Contents {
     IsFile(Settings, u32),
     NotAFile,

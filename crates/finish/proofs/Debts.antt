@@ -15,8 +15,8 @@ use Rattle.meaning.specs.Words.{low_at, high_at}
 use Rattle.meaning.specs.Layer.Listed.{Listed}
 use Rattle.meaning.proofs.Rows.Keys.{shared_le}
 use Rattle.meaning.proofs.Pictures.State.{Sound, Debt}
-use Rattle.meaning.proofs.Cells.Placed.{Placed, placed-has, place-low, place-high, free-cell-rest}
-use Rattle.meaning.proofs.Cells.CellsWithin.{owed-within}
+use Rattle.meaning.proofs.Cells.Placed.{Placed, placed_has, place_low, place_high, free_cell_rest}
+use Rattle.meaning.proofs.Cells.CellsWithin.{owed_within}
 use Rattle.words.proofs.Listed.{on_listed}
 use Rattle.finish.specs.Payable.{Payable}
 
@@ -31,8 +31,8 @@ debt_rises false m n h = omega arith
 
 module _ {t : State} (v : Sound t) where
   -- low and high of a cell
-  low-high : (x : ℕ) → x < t.settings.cells → (low_at (picture t) x ≤ high_at (picture t) x) × (high_at (picture t) x ≤ t.settings.dimensions)
-  low-high x h = at (place_of x (places_of t t.row)) refl
+  low_high : (x : ℕ) → x < t.settings.cells → (low_at (picture t) x ≤ high_at (picture t) x) × (high_at (picture t) x ≤ t.settings.dimensions)
+  low_high x h = at (place_of x (places_of t t.row)) refl
     where
       b : ℕ
       b = t.settings.base
@@ -42,20 +42,20 @@ module _ {t : State} (v : Sound t) where
 
       at : (o : Option Place) → place_of x (places_of t t.row) ≡ o → (low_at (picture t) x ≤ high_at (picture t) x) × (high_at (picture t) x ≤ D)
       at none e =
-          let low = free-cell-rest t x h e 4 (omega arith) (omega arith) in
-          let high = free-cell-rest t x h e 5 (omega arith) (omega arith) in
+          let low = free_cell_rest t x h e 4 (omega arith) (omega arith) in
+          let high = free_cell_rest t x h e 5 (omega arith) (omega arith) in
           (omega arith, omega arith)
       at (some p) e =
           let here : Placed t x p = record { found = e } in
-          let debt = placed-has here (λ m. m.node.owes ≡ true → Debt b D m) v.debts in
+          let debt = placed_has here (λ m. m.node.owes ≡ true → Debt b D m) v.debts in
           let share = shared b D p.node.key (first_of p.later).key in
-          rw (place-low v here, place-high v here) (
+          rw (place_low v here, place_high v here) (
             debt_rises p.node.owes p.dimension share (λ owes. (debt owes).lower),
             debt_most p.node.owes share D (shared_le b D p.node.key (first_of p.later).key),
           )
 
   pub payable : (x : ℕ) → x < t.settings.cells → Payable (picture t) t.settings x
-  payable x h = record { cell = h; owed = owed-within t v x h; high = (low-high x h).1 }
+  payable x h = record { cell = h; owed = owed_within t v x h; high = (low_high x h).1 }
 
 -- On a list
 
@@ -63,4 +63,4 @@ pub listed_payable : {ws : List ℕ} {s : Settings} → Listed ws s → (x : ℕ
 listed_payable = on_listed (λ t ws s. (x : ℕ) → x < s.cells → Payable ws s x) (λ t v. payable v)
 
 pub listed_low : {ws : List ℕ} {s : Settings} → Listed ws s → (x : ℕ) → x < s.cells → low_at ws x ≤ high_at ws x
-listed_low = on_listed (λ t ws s. (x : ℕ) → x < s.cells → low_at ws x ≤ high_at ws x) (λ t v x h. (low-high v x h).0)
+listed_low = on_listed (λ t ws s. (x : ℕ) → x < s.cells → low_at ws x ≤ high_at ws x) (λ t v x h. (low_high v x h).0)

@@ -1,4 +1,6 @@
 // Finish: what a cell owes is moved to it: Debts 5.
+#![tactic(auto)]
+
 ghost use Rattle.std.specs.Prelude.{◌≡◌, ◌-◌, ◌≤◌, ◌<◌};
 ghost use Rattle.settings.specs.Levels.{PowersOf};
 ghost use Rattle.answers.specs.Refusals.{Meets};

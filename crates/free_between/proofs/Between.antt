@@ -32,8 +32,8 @@ module _ {ws : List ℕ} {s : Settings} {x : ℕ} (k : Keyed ws s x) {powers : L
   zero_more h less =
       omega (arith, (shared_zeros s.base s.dimensions (key_at ws x) (suc d) k.base k.fits h).0 (omega (arith, less, is, level h)))
 
-  pub zero-last : d < s.dimensions → get_or powers (d + 1) 0 ≤ key → d ≡ zeros_of ws s x
-  zero-last h more =
+  pub zero_last : d < s.dimensions → get_or powers (d + 1) 0 ≤ key → d ≡ zeros_of ws s x
+  zero_last h more =
       omega (arith, upto, (shared_zeros s.base s.dimensions (key_at ws x) (suc d) k.base k.fits h).1 (omega (arith, more, is, level h)))
 
   pub zero_all : s.dimensions ≤ d → d ≡ zeros_of ws s x
@@ -69,23 +69,23 @@ take_all D ws x path d {number} h =
 -- the part lent is the words after word j of cell x
 module _ {ws : List ℕ} {s : Settings} (h : Shaped ws s) {x j : ℕ} (w : Within s x j) {at end size : ℕ} (from : at ≡ word_index s.dimensions x j)
     (sized : size ≡ cell_words s.dimensions) (to : end ≡ at + 1 + size - 1 - j) where
-  pub rest-inside : end ≤ length ws
-  rest-inside =
+  pub rest_inside : end ≤ length ws
+  rest_inside =
       let D = s.dimensions in
       omega (arith, w.field, part_inside h w.cell (suc j) (cell_words D - suc j) (omega (arith, w.field)))
 
-  pub rest-written : (before : List ℕ) (v : ℕ) {ys : List ℕ} → ws ≡ store s.dimensions before x j v →
+  pub rest_written : (before : List ℕ) (v : ℕ) {ys : List ℕ} → ws ≡ store s.dimensions before x j v →
       ys ≡ replicate (length (mid_of (at + 1) (end - (at + 1)) ws)) 0 →
       put_mid (at + 1) (end - (at + 1)) ws ys ≡ sets before (word_index s.dimensions x j) (v ∷ replicate (cell_words s.dimensions - suc j) 0)
-  rest-written before v {ys} e is =
+  rest_written before v {ys} e is =
       let D = s.dimensions in
-      let long : length (mid_of (at + 1) (end - (at + 1)) ws) ≡ cell_words D - suc j = omega (arith, w.field, mid_len (at + 1) end ws rest-inside) in
+      let long : length (mid_of (at + 1) (end - (at + 1)) ws) ≡ cell_words D - suc j = omega (arith, w.field, mid_len (at + 1) end ws rest_inside) in
       let zeros : ys ≡ replicate (cell_words D - suc j) 0 = is ∙ ap (λ n. replicate n 0) long in
       let next : word_index D x (suc j) ≡ suc (word_index D x j) = omega arith in
       let filled : length ys ≡ cell_words D - suc j = ap length zeros ∙ length-replicate {A = ℕ} (cell_words D - suc j) 0 in
       let start : at + 1 ≡ word_index D x (suc j) = omega arith in
       let count : end ≡ at + 1 + (cell_words D - suc j) = omega (arith, w.field) in
-      part_written ws ys D x (suc j) (cell_words D - suc j) start count rest-inside filled ∙ rw (e, zeros, next) refl
+      part_written ws ys D x (suc j) (cell_words D - suc j) start count rest_inside filled ∙ rw (e, zeros, next) refl
 
 -- The head's links, and a cell that becomes free
 
@@ -115,8 +115,8 @@ module _ {ws : List ℕ} {s : Settings} (h : Shaped ws s) (x n : ℕ) (some : 0 
     next_is : next ≡ get_or ws (word_index s.dimensions x 1) 0
     next_is = e ∙ sym (word_is h x 1 refl)
 
-    pub chain-rest : ChainIn s ws x n → ChainIn s after next (n - 1)
-    chain-rest c = rw (frees, next_is) (subst (ChainIn s ws x) one_less c).1
+    pub chain_rest : ChainIn s ws x n → ChainIn s after next (n - 1)
+    chain_rest c = rw (frees, next_is) (subst (ChainIn s ws x) one_less c).1
 
     pub chained_more : free_chained s.dimensions ws x n ≡ free_chained s.dimensions after next (n - 1)
     unfolding free_chained

@@ -179,33 +179,33 @@ chained_in s ws (x ∷ y ∷ cells) apart below chained =
 
 module _ {D C : ℕ} {ws : List ℕ} (exact : Exact D C ws) (path : List ℕ) {x number z : ℕ} {between : List ℕ} (f : Dropping D C x number z between)
   where
-    abbrev takenWords : List ℕ
-    takenWords = take_links D (chain_values D ws between) x path z (number - z)
+    abbrev taken_words : List ℕ
+    taken_words = take_links D (chain_values D ws between) x path z (number - z)
 
     below : All (λ y. y < C) between
     below = all_map (λ y r. r.1) between f.range
 
     -- links are no value words
-    stays-chained : Chained D (relink_head D takenWords x z) between
-    stays-chained =
+    stays_chained : Chained D (relink_head D taken_words x z) between
+    stays_chained =
         let inside = f.inside in
         let least = f.least in
-        chained_same D (relink_head D takenWords x z) (chain_values D ws between) between
+        chained_same D (relink_head D taken_words x z) (chain_values D ws between) between
         (all_map (λ c r.
-        relink_head-cell D takenWords x z inside c 1 (omega arith) (λ e. let above = r.0 in omega arith)
+        relink_head-cell D taken_words x z inside c 1 (omega arith) (λ e. let above = r.0 in omega arith)
         ∙ take_links-other D (chain_values D ws between) x path z (number - z) (omega arith) c 1 (omega arith) (λ e i l u g. omega arith)) between f.range)
         (chain_chained exact between f.distinct below)
 
-    drops-chained :
-        write_path (free_chained D (relink_head D takenWords x z) (first_number between) (length between)) (onward D (replicate D 0) z x)
+    drops_chained :
+        write_path (free_chained D (relink_head D taken_words x z) (first_number between) (length between)) (onward D (replicate D 0) z x)
         ≡ drop_front D ws x number path z between
     unfolding drop_front
-    drops-chained =
+    drops_chained =
         let inside = f.inside in
         let least = f.least in
         let chained = exact_chained exact between in
         ap (λ ts. write_path ts (onward D (replicate D 0) z x))
-        (free_chained-is D (relink_head D takenWords x z) between f.distinct stays-chained
+        (free_chained-is D (relink_head D taken_words x z) between f.distinct stays_chained
         ∙ free_all-alike (exact_relinked (exact_taken chained x path z (number - z)) x z) (exact_relinked (exact_taken exact x path z (number - z)) x z)
         between below
         (alike_relinked (alike_taken (chain_alike D ws between) x path z (number - z) (omega arith)) x z))
@@ -216,23 +216,23 @@ module _ {ws : List ℕ} {s : Settings} {t : Target} (d : Droppable ws s t) {z f
     (zs : z ≡ zeros_of ws s t.cell) (chains : CellsChained ws s count chained × (first ≡ first_number (freed_cells ws)))
     (takes : taken ≡ take_links s.dimensions chained t.cell (path_of t.path) z (t.number - z))
     (relinks : relinked ≡ relink_head s.dimensions taken t.cell z) where
-  exact-words : Exact s.dimensions s.cells ws
-  exact-words = record { size = (listed_shaped d.paid.listed).long }
+  exact_words : Exact s.dimensions s.cells ws
+  exact_words = record { size = (listed_shaped d.paid.listed).long }
 
-  pub chain-ready : ChainIn s relinked first count
-  chain-ready =
+  pub chain_ready : ChainIn s relinked first count
+  chain_ready =
       let path = path_of t.path in
       let drop = (drops d).dropping in
       rw (relinks, takes, chains.0.words, chains.1, chains.0.count, zs)
-      (chained_in s (relink_head s.dimensions (takenWords exact-words path drop) t.cell (zeros_of ws s t.cell)) (freed_cells ws)
-      drop.distinct (below exact-words path drop) (stays-chained exact-words path drop))
+      (chained_in s (relink_head s.dimensions (taken_words exact_words path drop) t.cell (zeros_of ws s t.cell)) (freed_cells ws)
+      drop.distinct (below exact_words path drop) (stays_chained exact_words path drop))
 
-  pub front-dropped :
+  pub front_dropped :
       {freed way left : List ℕ} → freed ≡ free_chained s.dimensions relinked first count →
       way ≡ onward s.dimensions (replicate s.dimensions 0) z t.cell → left ≡ write_path freed way → left ≡ picture (swept (read ws))
-  front-dropped frees redraws writes =
+  front_dropped frees redraws writes =
       rw (writes, redraws, frees, relinks, takes, chains.0.words, chains.1, chains.0.count, zs)
-      (drops-chained exact-words (path_of t.path) (drops d).dropping ∙ (drops d).words)
+      (drops_chained exact_words (path_of t.path) (drops d).dropping ∙ (drops d).words)
 
 -- the path of a cell that hangs from the head by link z
 pub head_redrawn :

@@ -15,12 +15,12 @@ use Rattle.meaning.specs.Operations.{paid, dead_front, from_live, freed_by, swep
 use Rattle.meaning.specs.Layer.Paths.{PathOf, dimension_in}
 use Rattle.meaning.specs.Layer.SweepStores.{drop_front}
 use Rattle.meaning.proofs.Pictures.State.{Sound, base_positive}
-use Rattle.meaning.proofs.Cells.Placed.{place-key, placed_below}
-use Rattle.meaning.proofs.BothWays.SentencesShape.{HasPlace, row-placed, key_below_lem}
-use Rattle.meaning.proofs.Paths.PathNext.{way-key}
+use Rattle.meaning.proofs.Cells.Placed.{place_key, placed_below}
+use Rattle.meaning.proofs.BothWays.SentencesShape.{HasPlace, row_placed, key_below_lem}
+use Rattle.meaning.proofs.Paths.PathNext.{way_key}
 use Rattle.meaning.proofs.Written.SweepStores.{Dropping}
 use Rattle.meaning.proofs.Written.SweepFinish.{paid_owes_nothing}
-use Rattle.meaning.proofs.Written.SweepWords.{swept_front, swept_zeros, swept-dropping, unowing-swept}
+use Rattle.meaning.proofs.Written.SweepWords.{swept_front, swept_zeros, swept_dropping, unowing_swept}
 use Rattle.words.proofs.Listed.{power_fits, on_listed}
 use Rattle.paths.specs.Paths.{path_of}
 use Rattle.free_between.specs.declared.Target.{Target}
@@ -41,27 +41,27 @@ module _ (u : State) (v : Sound u) (unowing : All (λ x. x.owes ≡ false) u.row
   ne : x.cell ≡ 0 → ⊥
   ne e = other (cell ∙ e)
 
-  zeros-read : zeros_of (picture u) u.settings x.cell ≡ swept_zeros u
-  zeros-read = ap (shared u.settings.base u.settings.dimensions 0) (way-key v w)
+  zeros_read : zeros_of (picture u) u.settings x.cell ≡ swept_zeros u
+  zeros_read = ap (shared u.settings.base u.settings.dimensions 0) (way_key v w)
 
-  keyed-read : Keyed (picture u) u.settings x.cell
-  keyed-read =
-      let standing = subst (All (HasPlace u)) (swept_front u.row ne) (row-placed v) in
+  keyed_read : Keyed (picture u) u.settings x.cell
+  keyed_read =
+      let standing = subst (All (HasPlace u)) (swept_front u.row ne) (row_placed v) in
       let here = (all_at (HasPlace u) (freed_by u.row) x (from_live u.row) standing).placed in
       record {
         cell = placed_below v here;
         base = base_positive u v;
         power = power_fits u v;
-        fits = rw (place-key v here) (key_below_lem v here);
+        fits = rw (place_key v here) (key_below_lem v here);
       }
 
-  drops-read : Drops u (picture u) u.settings c number path
-  drops-read =
+  drops_read : Drops u (picture u) u.settings c number path
+  drops_read =
       rw (w.is, is, cell)
       (record {
-        keyed = keyed-read;
-        dropping = rw zeros-read (swept-dropping u v unowing ne);
-        words = rw zeros-read (sym (unowing-swept u v unowing ne));
+        keyed = keyed_read;
+        dropping = rw zeros_read (swept_dropping u v unowing ne);
+        words = rw zeros_read (sym (unowing_swept u v unowing ne));
       })
 
 pub drops : {ws : List ℕ} {s : Settings} {t : Target} → Droppable ws s t → Drops (read ws) ws s t.cell t.number (path_of t.path)
@@ -70,5 +70,5 @@ drops {t = t} d =
     (λ u ws s.
     map paid u.row ≡ u.row → PathOf u (path_of t.path) (dead_front u.row) (from_live u.row) → t.cell ≡ (last_of (dead_front u.row)).cell →
     t.number ≡ dimension_in u t.cell → Drops u ws s t.cell t.number (path_of t.path))
-    (λ u v e w cell is. drops-read u v (subst (All (λ x. x.owes ≡ false)) e (paid_owes_nothing u.row)) w cell is d.other)
+    (λ u v e w cell is. drops_read u v (subst (All (λ x. x.owes ≡ false)) e (paid_owes_nothing u.row)) w cell is d.other)
     d.paid.listed d.paid.unowing d.target.on_way d.target.cell d.target.number

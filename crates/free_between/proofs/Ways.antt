@@ -23,9 +23,9 @@ use Rattle.words.proofs.Listed.{listed_picture, on_listed, listed_shaped}
 use Rattle.paths.specs.declared.Path.{Path}
 use Rattle.paths.specs.declared.Reached.{Reached}
 use Rattle.paths.specs.Paths.{path_of, PathIn, Walkable, NextIs}
-use Rattle.paths.proofs.Alike.{value-next, value_walkable}
+use Rattle.paths.proofs.Alike.{value_next, value_walkable}
 use Rattle.paths.proofs.Listed.{listed_walkable}
-use Rattle.paths.proofs.Ways.{head_starts, MovesTo, moves-to}
+use Rattle.paths.proofs.Ways.{head_starts, MovesTo, moves_to}
 use Rattle.free_between.specs.Between.{freed_cells, kept_nodes, LastDead, FirstFreed, chain_values, CellsChained}
 
 abbrev cells_of : List Node → List ℕ
@@ -41,18 +41,18 @@ record MovesBefore (ws : List ℕ) (front others : List Node) (r : Reached) : Ty
   to : MovesTo (read ws) ws front node (rest ++ kept_nodes ws) r
 
 module _ {ws : List ℕ} {s : Settings} {x : ℕ} (d : LastDead ws s x) {p : Path} {r : Reached} (n : NextIs ws s p r) {front : List Node} where
-  upto-end : (others : List Node) → PathOf (read ws) (path_of p) front (others ++ kept_nodes ws) → r.cell ≡ x → others ≡ []
-  upto-end [] w e = refl
-  upto-end (y ∷ others) w e =
+  upto_end : (others : List Node) → PathOf (read ws) (path_of p) front (others ++ kept_nodes ws) → r.cell ≡ x → others ≡ []
+  upto_end [] w e = refl
+  upto_end (y ∷ others) w e =
       let last = last_of (dead_front (read ws).row) in
       let split = w.split ∙ sym (append_assoc front (y ∷ others) (kept_nodes ws)) in
       let apart = subst (λ row. Apart (head_node ∷ row)) split (sound_apart (read ws) (listed_picture d.listed).sound) in
       let others-differ = (apart_before (head_node ∷ (front ++ y ∷ others)) last (from_live (read ws).row) apart).1 in
-      absurd (all_at (λ z. z.cell ≡ last.cell → ⊥) front y others others-differ (sym (moves-to d.listed n w).cell ∙ e ∙ d.is))
+      absurd (all_at (λ z. z.cell ≡ last.cell → ⊥) front y others others-differ (sym (moves_to d.listed n w).cell ∙ e ∙ d.is))
 
-  upto-on : (others : List Node) → PathOf (read ws) (path_of p) front (others ++ kept_nodes ws) → (r.cell ≡ x → ⊥) → MovesBefore ws front others r
-  upto-on [] w ne = absurd (ne ((moves-to d.listed n w).cell ∙ sym d.is))
-  upto-on (y ∷ others) w ne = record { node = y; rest = others; next = refl; to = moves-to d.listed n w }
+  upto_on : (others : List Node) → PathOf (read ws) (path_of p) front (others ++ kept_nodes ws) → (r.cell ≡ x → ⊥) → MovesBefore ws front others r
+  upto_on [] w ne = absurd (ne ((moves_to d.listed n w).cell ∙ sym d.is))
+  upto_on (y ∷ others) w ne = record { node = y; rest = others; next = refl; to = moves_to d.listed n w }
 
 -- Chaining
 
@@ -99,29 +99,29 @@ freed_room =
 
 module _ {before ws : List ℕ} {s : Settings} {x first : ℕ} {start p : Path} {last count : ℕ} (f : FirstFreed before s x first start)
     (k : Chaining before ws s p last count) where
-  pub chaining-room : count < s.cells
-  chaining-room = omega (arith, k.number, freed_room f.dead.listed)
+  pub chaining_room : count < s.cells
+  chaining_room = omega (arith, k.number, freed_room f.dead.listed)
 
   module _ {r : Reached} (n : NextIs ws s p r) where
     as_before : NextIs before s p r
     as_before = record { is = sym (k.same (path_of p)) ∙ n.is; way = n.way; below = n.below; path_in = n.path_in }
 
-    pub chaining-end : r.cell ≡ x → CellsChained before s count ws
+    pub chaining_end : r.cell ≡ x → CellsChained before s count ws
     unfolding chain_values
-    chaining-end e =
-        let none = upto-end f.dead as_before k.others k.on_way e in
+    chaining_end e =
+        let none = upto_end f.dead as_before k.others k.on_way e in
         record {
           words = sym (k.words ∙ ap (λ o. chain_values s.dimensions ws (last ∷ cells_of o)) none);
           count = omega (arith, k.number, ap length none);
           shaped = k.walkable.shaped;
         }
 
-    pub chaining-onward :
+    pub chaining_onward :
         (r.cell ≡ x → ⊥) → {after : List ℕ} → after ≡ store s.dimensions ws last 1 r.cell →
         Chaining before after s r.path r.cell (count + 1)
     unfolding chain_values
-    chaining-onward ne written =
-        let on = upto-on f.dead as_before k.others k.on_way ne in
+    chaining_onward ne written =
+        let on = upto_on f.dead as_before k.others k.on_way ne in
         rw written
         (record {
           front = k.front ++ (on.node ∷ []);
@@ -130,7 +130,7 @@ module _ {before ws : List ℕ} {s : Settings} {x first : ℕ} {start p : Path} 
           path_in = n.path_in;
           below = n.below;
           walkable = value_walkable k.walkable last r.cell;
-          same = λ path. value-next k.walkable.shaped last r.cell path ∙ k.same path;
+          same = λ path. value_next k.walkable.shaped last r.cell path ∙ k.same path;
           words =
               k.words
               ∙ ap (λ o. chain_values s.dimensions ws (last ∷ cells_of o)) on.next
@@ -142,18 +142,18 @@ module _ {before ws : List ℕ} {s : Settings} {x first : ℕ} {start p : Path} 
 
 module _ {ws : List ℕ} {s : Settings} {x : ℕ} (d : LastDead ws s x) {p : Path} (is : path_of p ≡ replicate s.dimensions 0) {r : Reached}
     (n : NextIs ws s p r) where
-  from-head : PathOf (read ws) (path_of p) [] (freed_by (read ws).row ++ kept_nodes ws)
-  from-head = record { split = swept_front (read ws).row (λ e. d.other (d.is ∙ e)); is = (head_starts d.listed is).is }
+  from_head : PathOf (read ws) (path_of p) [] (freed_by (read ws).row ++ kept_nodes ws)
+  from_head = record { split = swept_front (read ws).row (λ e. d.other (d.is ∙ e)); is = (head_starts d.listed is).is }
 
   pub between_none : r.cell ≡ x → CellsChained ws s 0 ws × (0 ≡ first_number (freed_cells ws))
   unfolding chain_values
   between_none e =
-      let none : [] ≡ freed_cells ws = ap cells_of (sym (upto-end d n (freed_by (read ws).row) from-head e)) in
+      let none : [] ≡ freed_cells ws = ap cells_of (sym (upto_end d n (freed_by (read ws).row) from_head e)) in
       (record { words = ap (chain_values s.dimensions ws) none; count = ap length none; shaped = listed_shaped d.listed }, ap first_number none)
 
   module _ (ne : r.cell ≡ x → ⊥) where
     on : MovesBefore ws [] (freed_by (read ws).row) r
-    on = upto-on d n (freed_by (read ws).row) from-head ne
+    on = upto_on d n (freed_by (read ws).row) from_head ne
 
     pub between_first : FirstFreed ws s x r.cell r.path
     between_first =
@@ -168,5 +168,5 @@ module _ {ws : List ℕ} {s : Settings} {x : ℕ} (d : LastDead ws s x) {p : Pat
           path_in = n.path_in;
         }
 
-    pub between-some : r.cell ≡ first_number (freed_cells ws)
-    between-some = on.to.cell ∙ ap (λ o. first_number (cells_of o)) (sym on.next)
+    pub between_some : r.cell ≡ first_number (freed_cells ws)
+    between_some = on.to.cell ∙ ap (λ o. first_number (cells_of o)) (sym on.next)

@@ -1,5 +1,7 @@
 // Frees every cell strictly between head and position in key order, each put at the front of the free chain, and leaves the settled shape
 // of the rest. No list of those cells is kept: they are chained through their value words, which are 0 in a dead cell.
+#![tactic(auto)]
+
 ghost use Rattle.std.specs.Prelude.{◌≡◌, ◌∷◌, suc, ◌-◌, ◌≤◌, ◌<◌, length, get_or, replicate};
 ghost use Rattle.std.proofs.lemmas.List.Edits.{sets};
 ghost use Rattle.settings.specs.Numbers.{cell_words};
@@ -18,7 +20,7 @@ use paths::Path;
 use settings::Settings;
 
 // Where a sweep moves the position: the cell, the number of the link by which it was reached, its path.
-#[derive(Drop)]
+#[derive(Clone, Copy)]
 pub struct Target {
     pub cell: u32,
     pub number: u32,
@@ -26,7 +28,7 @@ pub struct Target {
 }
 
 // The cells to free, chained through their value words, and how many they are.
-#[derive(Drop)]
+#[derive(Clone, Copy)]
 struct Freed {
     first: u32,
     count: u32,

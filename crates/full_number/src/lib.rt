@@ -1,9 +1,11 @@
 // The full number of a record: its own has 16 bits and comes round, and the last one tells which round it is in.
+#![tactic(auto)]
+
 ghost use Rattle.std.specs.Prelude.{◌≡◌, ◌+◌, ◌-◌, ◌<◌, ◌≤◌};
 ghost use Rattle.full_number.specs.FullNumber.{numbers_per_round, most_full, round_back, full_number};
 
 // The full number, or that it does not fit into 32 bits.
-#[derive(Drop)]
+#[derive(Clone, Copy)]
 pub enum FullNumber {
     Fits(u32),
     Outside,

@@ -24,7 +24,7 @@ use Rattle.meaning.specs.Operations.{position_after, revived, slot_for, added, i
 use Rattle.meaning.specs.declared.Slot.{Slot}
 use Rattle.meaning.specs.Layer.Stores.{store, finish_words, write_path, write_node, new_words, insert_words, hung_words, paid_words}
 use Rattle.answers.specs.declared.Answer.{Answer}
-use Rattle.meaning.proofs.Pictures.State.{Sound, sound-valid}
+use Rattle.meaning.proofs.Pictures.State.{Sound, sound_valid}
 use Rattle.meaning.proofs.Pictures.StateCells.{free_range}
 use Rattle.meaning.proofs.Kept.Slot.{first_free_all}
 use Rattle.meaning.proofs.Pictures.Picture.{picture_free, path_length}
@@ -35,15 +35,15 @@ use Rattle.meaning.proofs.Cells.Stores.{path_sets_same, finish_words-none, finis
 use Rattle.meaning.proofs.Cells.Changed.{picture_path_word}
 use Rattle.meaning.proofs.Kept.KeepsFinish.{finished_sound}
 use Rattle.meaning.proofs.Kept.KeepsInsert.{revived_sound, added_sound}
-use Rattle.meaning.proofs.Written.FinishWords.{finish-words}
+use Rattle.meaning.proofs.Written.FinishWords.{finish_words_lem}
 use Rattle.meaning.proofs.Written.TakeWords.{revived_words, revived_words_above}
-use Rattle.meaning.proofs.Written.InsertWords.{added-words, added-path}
+use Rattle.meaning.proofs.Written.InsertWords.{added_words, added_path}
 use Rattle.meaning.proofs.Outcomes.{insert_outcome_live, insert_outcome_dead, insert_outcome_full, insert_outcome_new}
 use Rattle.words.specs.Shaped.{Shaped}
 use Rattle.words.proofs.Shaped.{word_is}
 use Rattle.search.specs.Found.{found_of, slot_of, Sought}
 use Rattle.search.specs.declared.Found.{Found}
-use Rattle.search.proofs.Slots.{Present, SlotFound, found-standing, found-missing, found-slot, marked-live, marked-dead, on_sought}
+use Rattle.search.proofs.Slots.{Present, SlotFound, found_standing, found_missing, found_slot, marked_live, marked_dead, on_sought}
 use Rattle.new_cell.specs.NewCell.{Fits}
 use Rattle.finish.specs.Payable.{Payable}
 use Rattle.finish.proofs.Debts.{payable, listed_payable}
@@ -57,30 +57,30 @@ pub record Leads (ws us : List ℕ) (s : Settings) (top key value : ℕ) (f : Fo
 
 module _ {ws us : List ℕ} {s : Settings} {top key value : ℕ} {f : Found} (l : Leads ws us s top key value f) where
   -- what is asked before the path is written
-  pub leads-due : {left : List ℕ} {high x : ℕ} → left ≡ us → high ≡ top → x ≡ position_after (read ws) key → EndsInSome left s high key x
-  leads-due e h p = record { state = l.state; ending = rw (e, h, p) l.ending }
+  pub leads_due : {left : List ℕ} {high x : ℕ} → left ≡ us → high ≡ top → x ≡ position_after (read ws) key → EndsInSome left s high key x
+  leads_due e h p = record { state = l.state; ending = rw (e, h, p) l.ending }
 
   -- what is left after it
-  pub leads-words : {left out : List ℕ} {high x : ℕ} → left ≡ us → high ≡ top → x ≡ position_after (read ws) key → PathWritten left out s high key x →
+  pub leads_words : {left out : List ℕ} {high x : ℕ} → left ≡ us → high ≡ top → x ≡ position_after (read ws) key → PathWritten left out s high key x →
       out ≡ (insert_out ws key value).left
-  leads-words e h p w = w.is l.state (rw (e, h, p) l.ending) ∙ sym (ap (λ o. o.left) l.outcome)
+  leads_words e h p w = w.is l.state (rw (e, h, p) l.ending) ∙ sym (ap (λ o. o.left) l.outcome)
 
-  pub leads-meets : {out : List ℕ} {r : Answer} → out ≡ (insert_out ws key value).left → r ≡ answer 0 key 0 f.looked → Meets (insert_out ws key value) r out
-  leads-meets w a = record { answered = a ∙ sym (ap (λ o. o.answered) l.outcome); left = w }
+  pub leads_meets : {out : List ℕ} {r : Answer} → out ≡ (insert_out ws key value).left → r ≡ answer 0 key 0 f.looked → Meets (insert_out ws key value) r out
+  leads_meets w a = record { answered = a ∙ sym (ap (λ o. o.answered) l.outcome); left = w }
 
 -- A key that stands
 
 module _ {t : State} (v : Sound t) {key : ℕ} {x : Node} {f : Found} (found : Present t key x f) where
-  revived-leads : 1 ≤ key → key ≤ t.settings.largest → (value : ℕ) → x.live ≡ false →
+  revived_leads : 1 ≤ key → key ≤ t.settings.largest → (value : ℕ) → x.live ≡ false →
       Leads (picture t) (write_node t.settings.dimensions (picture t) f.c value 1) t.settings (position_key t) key value f
-  revived-leads least most value dead =
+  revived_leads least most value dead =
       let same = node_key key x t.row found.node in
       let node = ap (λ k. node_at k t.row) same ∙ found.node in
       record {
         state = revived t x value;
         ending = rw found.c
             (record {
-              order = sound-valid (revived t x value) (revived_sound t x value v node dead);
+              order = sound_valid (revived t x value) (revived_sound t x value v node dead);
               settings = settings;
               words = revived_words t x value v node;
               position = position;
@@ -99,22 +99,22 @@ module _ {t : State} (v : Sound t) {key : ℕ} {x : Node} {f : Found} (found : P
           made ∙ ap (position_after t) (node_key key x t.row found.node) ∙ ap (λ u. position_after u key) (sym (read_of_picture t v))
 
 module _ {ws : List ℕ} {s : Settings} {key : ℕ} {f : Found} (k : Sought ws s key f) (stands : f.standing ≡ true) where
-  pub live-meets : (value : ℕ) {r : Answer} {m : ℕ} → m ≡ mark_at ws f.c → m ≡ 1 → r ≡ answer 5 key 0 f.looked → Meets (insert_out ws key value) r ws
-  live-meets value {r} {m} word one a =
+  pub live_meets : (value : ℕ) {r : Answer} {m : ℕ} → m ≡ mark_at ws f.c → m ≡ 1 → r ≡ answer 5 key 0 f.looked → Meets (insert_out ws key value) r ws
+  live_meets value {r} {m} word one a =
       on_sought (λ t ws s. m ≡ mark_at ws f.c → Meets (insert_out ws key value) r ws) k
       (λ t v most q e.
-      let (x, found) = found-standing v k.least q stands in
-      rw (insert_outcome_live t v key value k.least most x found.node (marked-live v found e one))
+      let (x, found) = found_standing v k.least q stands in
+      rw (insert_outcome_live t v key value k.least most x found.node (marked_live v found e one))
       (record { answered = a ∙ ap (answer 5 key 0) found.looked; left = refl }))
       word
 
-  pub dead-leads : (value : ℕ) → (mark_at ws f.c ≡ 1 → ⊥) →
+  pub dead_leads : (value : ℕ) → (mark_at ws f.c ≡ 1 → ⊥) →
       Leads ws (write_node s.dimensions ws f.c value 1) s (position_key (read ws)) key value f
-  dead-leads value other =
+  dead_leads value other =
       on_sought (λ t ws s. (mark_at ws f.c ≡ 1 → ⊥) → Leads ws (write_node s.dimensions ws f.c value 1) s (position_key t) key value f) k
       (λ t v most q no.
-      let (x, found) = found-standing v k.least q stands in
-      revived-leads v found k.least most value (marked-dead v found refl no))
+      let (x, found) = found_standing v k.least q stands in
+      revived_leads v found k.least most value (marked_dead v found refl no))
       other
 
 -- A key that does not stand
@@ -191,7 +191,7 @@ module _ {t : State} (v : Sound t) (key value : ℕ) (least : 1 ≤ key) (most :
   after = added t key value (slot_for t key)
 
   slot : SlotFound f (slot_for t key)
-  slot = found-slot v least is missing room
+  slot = found_slot v least is missing room
 
   written : insert_words t.settings.dimensions (picture t) key value (slot_of n f)
       ≡ insert_words t.settings.dimensions (picture t) key value (slot_for t key)
@@ -200,24 +200,24 @@ module _ {t : State} (v : Sound t) (key value : ℕ) (least : 1 ≤ key) (most :
       number : first_number t.free ≡ (slot_for t key).n
       number = unfold slot_for in refl
 
-  added-leads : Leads (picture t) (insert_words t.settings.dimensions (picture t) key value (slot_of n f)) t.settings
+  added_leads : Leads (picture t) (insert_words t.settings.dimensions (picture t) key value (slot_of n f)) t.settings
       (position_key t) key value f
-  added-leads =
+  added_leads =
       let D = t.settings.dimensions in
-      let absent = found-missing v least is missing in
+      let absent = found_missing v least is missing in
       let none = absent.node in
-      let words = added-words t v key value least most none room in
+      let words = added_words t v key value least most none room in
       record {
         state = after;
         ending = rw written
             (record {
-              order = sound-valid after (added_sound t key value v least most none room);
+              order = sound_valid after (added_sound t key value v least most none room);
               settings = settings;
               words = words;
               position = position;
               kept = λ h.
                   words
-                  ∙ ap (write_path (insert_words D (picture t) key value (slot_for t key))) (added-path t v key value least most none room h)
+                  ∙ ap (write_path (insert_words D (picture t) key value (slot_for t key))) (added_path t v key value least most none room h)
                   ∙ path_sets_same (exact_inserted (picture_exact t) key value (slot_for t key)) (path t) (path_length t)
                   (λ d l. inserted_path D (picture t) key value (slot_for t key) d l ∙ picture_path_word t d l);
             });
@@ -234,58 +234,58 @@ module _ {t : State} (v : Sound t) (key value : ℕ) (least : 1 ≤ key) (most :
 
 module _ {ws : List ℕ} {s : Settings} {key : ℕ} {f : Found} (k : Sought ws s key f) (missing : f.standing ≡ false) where
   -- the cells and links of the slot are the list's own
-  pub parent-cell : f.parent < s.cells
-  parent-cell = on_sought (λ t ws s. f.parent < s.cells) k (λ t v m q. (found-missing v k.least q missing).parent_below)
+  pub parent_cell : f.parent < s.cells
+  parent_cell = on_sought (λ t ws s. f.parent < s.cells) k (λ t v m q. (found_missing v k.least q missing).parent_below)
 
-  pub p-link : f.p < s.dimensions
-  p-link = on_sought (λ t ws s. f.p < s.dimensions) k (λ t v m q. (found-missing v k.least q missing).p_below)
+  pub p_link : f.p < s.dimensions
+  p_link = on_sought (λ t ws s. f.p < s.dimensions) k (λ t v m q. (found_missing v k.least q missing).p_below)
 
-  q-link : f.q < s.dimensions
-  q-link = on_sought (λ t ws s. f.q < s.dimensions) k (λ t v m q. (found-missing v k.least q missing).q_below)
+  q_link : f.q < s.dimensions
+  q_link = on_sought (λ t ws s. f.q < s.dimensions) k (λ t v m q. (found_missing v k.least q missing).q_below)
 
   q_none : f.c ≡ 0 → f.q ≡ 0
-  q_none = on_sought (λ t ws s. f.c ≡ 0 → f.q ≡ 0) k (λ t v m q. (found-missing v k.least q missing).q_none)
+  q_none = on_sought (λ t ws s. f.c ≡ 0 → f.q ≡ 0) k (λ t v m q. (found_missing v k.least q missing).q_none)
 
-  pub new-cell : {n : ℕ} → n ≡ first_free_at ws → 0 < n → n < s.cells
-  new-cell {n} e h =
+  pub new_cell : {n : ℕ} → n ≡ first_free_at ws → 0 < n → n < s.cells
+  new_cell {n} e h =
       on_sought (λ t ws s. n ≡ first_free_at ws → n < s.cells) k
       (λ t v m q word.
       let first = word ∙ picture_free t in
       rw first (first_free_all (λ c. (0 < c) × (c < t.settings.cells)) t.free (free_some t.free first h) (free_range t v)).1)
       e
 
-  pub new-fits : {n : ℕ} → n ≡ first_free_at ws → 0 < n → Fits s (slot_of n f)
-  new-fits e h = record { cell = new-cell e h; link = q-link; none = q_none }
+  pub new_fits : {n : ℕ} → n ≡ first_free_at ws → 0 < n → Fits s (slot_of n f)
+  new_fits e h = record { cell = new_cell e h; link = q_link; none = q_none }
 
   -- what the parent owes can be finished, and then what c owes
-  pub payable-parent : Payable ws s f.parent
-  payable-parent = listed_payable k.list f.parent parent-cell
+  pub payable_parent : Payable ws s f.parent
+  payable_parent = listed_payable k.list f.parent parent_cell
 
-  pub payable-c : Payable (finish_words s.dimensions ws f.parent) s f.c
-  payable-c =
+  pub payable_c : Payable (finish_words s.dimensions ws f.parent) s f.c
+  payable_c =
       on_sought (λ t ws s. Payable (finish_words s.dimensions ws f.parent) s f.c) k
       (λ t v m q.
-      let absent = found-missing v k.least q missing in
-      subst (λ us. Payable us t.settings f.c) (finish-words t v f.parent absent.parent_stands)
+      let absent = found_missing v k.least q missing in
+      subst (λ us. Payable us t.settings f.c) (finish_words_lem t v f.parent absent.parent_stands)
       (payable (finished_sound t f.parent v) f.c absent.c_below))
 
   pub full_meets : (value : ℕ) {r : Answer} {n : ℕ} → n ≡ first_free_at ws → n ≡ 0 → r ≡ answer 6 key 0 f.looked → Meets (insert_out ws key value) r ws
   full_meets value {r} {n} word none a =
       on_sought (λ t ws s. n ≡ first_free_at ws → Meets (insert_out ws key value) r ws) k
       (λ t v most q e.
-      let absent = found-missing v k.least q missing in
+      let absent = found_missing v k.least q missing in
       let positive = all_map (λ c h. h.0) t.free (free_range t v) in
       rw (insert_outcome_full t v key value k.least most absent.node (free_none t.free positive (e ∙ picture_free t) none))
       (record { answered = a ∙ ap (answer 6 key 0) absent.looked; left = refl }))
       word
 
-  pub new-leads : (value : ℕ) {n : ℕ} → n ≡ first_free_at ws → 0 < n →
+  pub new_leads : (value : ℕ) {n : ℕ} → n ≡ first_free_at ws → 0 < n →
       Leads ws (insert_words s.dimensions ws key value (slot_of n f)) s (position_key (read ws)) key value f
-  new-leads value {n} e h =
+  new_leads value {n} e h =
       on_sought (λ t ws s. n ≡ first_free_at ws → Leads ws (insert_words s.dimensions ws key value (slot_of n f)) s (position_key t) key value f) k
       (λ t v most q word.
       let first = word ∙ picture_free t in
-      added-leads v key value k.least most q missing (free_some t.free first h) first)
+      added_leads v key value k.least most q missing (free_some t.free first h) first)
       e
 
 -- A key that comes last
@@ -295,32 +295,32 @@ nothing_paid : (D : ℕ) (ws : List ℕ) (parent c : ℕ) → c ≡ 0 → owed_a
 nothing_paid D ws parent c none owes = sym (rw (eq-eqb c 0 none) (finish_words-none D ws parent owes))
 
 module _ {ws : List ℕ} {s : Settings} {key parent p : ℕ} (k : ComesLast ws s key parent p) where
-  pub last-parent : parent < s.cells
-  last-parent = subst (λ x. x < s.cells) k.parent_is (parent-cell k.sought k.missing)
+  pub last_parent : parent < s.cells
+  last_parent = subst (λ x. x < s.cells) k.parent_is (parent_cell k.sought k.missing)
 
-  pub last-link : p < s.dimensions
-  last-link = subst (λ d. d < s.dimensions) k.p_is (p-link k.sought k.missing)
+  pub last_link : p < s.dimensions
+  last_link = subst (λ d. d < s.dimensions) k.p_is (p_link k.sought k.missing)
 
   -- the slot, as the code has it
-  abbrev lastSlot : ℕ → Slot
-  lastSlot n = record { n = n; parent = parent; p = p; c = 0; q = 0 }
+  abbrev last_slot : ℕ → Slot
+  last_slot n = record { n = n; parent = parent; p = p; c = 0; q = 0 }
 
-  found-last : (n : ℕ) → slot_of n k.found ≡ lastSlot n
-  found-last n =
+  found_last : (n : ℕ) → slot_of n k.found ≡ last_slot n
+  found_last n =
       let q = q_none k.sought k.missing k.none in
       λ i. record { n = n; parent = k.parent_is i; p = k.p_is i; c = k.none i; q = q i }
 
-  pub last-cell : {n : ℕ} → n ≡ first_free_at ws → 0 < n → n < s.cells
-  last-cell = new-cell k.sought k.missing
+  pub last_cell : {n : ℕ} → n ≡ first_free_at ws → 0 < n → n < s.cells
+  last_cell = new_cell k.sought k.missing
 
   -- hung so, the words are those of the state with the new node
-  pub last-left : {n : ℕ} → n ≡ first_free_at ws → 0 < n → (value : ℕ) {us : List ℕ} → us ≡ hung_words s.dimensions ws key value (lastSlot n) →
+  pub last_left : {n : ℕ} → n ≡ first_free_at ws → 0 < n → (value : ℕ) {us : List ℕ} → us ≡ hung_words s.dimensions ws key value (last_slot n) →
       us ≡ (insert_out ws key value).left
-  last-left {n} first some value {us} hangs =
-      let leads = new-leads k.sought k.missing value first some in
+  last_left {n} first some value {us} hangs =
+      let leads = new_leads k.sought k.missing value first some in
       let D = s.dimensions in
       let f = k.found in
       let paid = nothing_paid D ws f.parent f.c k.none (ap (owed_at ws) k.parent_is ∙ k.owes_nothing) in
-      new_written D ws key value (slot_of n f) paid (hangs ∙ ap (hung_words D ws key value) (sym (found-last n)))
+      new_written D ws key value (slot_of n f) paid (hangs ∙ ap (hung_words D ws key value) (sym (found_last n)))
       ∙ sym (leads.ending.kept k.above)
       ∙ sym (ap (λ o. o.left) leads.outcome)

@@ -17,8 +17,8 @@ use Rattle.meaning.specs.Layer.Stores.{write_path}
 use Rattle.meaning.specs.Words.{key_at, position_at}
 use Rattle.meaning.specs.Layer.Listed.{Listed}
 use Rattle.meaning.proofs.BothWays.Sentences.{position_is}
-use Rattle.meaning.proofs.Pictures.State.{valid-sound}
-use Rattle.meaning.proofs.Cells.Placed.{placed-keyOf, placed_below, place-key, position-placed}
+use Rattle.meaning.proofs.Pictures.State.{valid_sound}
+use Rattle.meaning.proofs.Cells.Placed.{placed_key_of, placed_below, place_key, position_placed}
 use Rattle.words.proofs.Listed.{on_listed}
 use Rattle.search.specs.Found.{Sought}
 use Rattle.search.specs.declared.Found.{Found}
@@ -32,8 +32,8 @@ pub position_cell : {ws : List ℕ} {s : Settings} → Listed ws s → (position
 position_cell =
     on_listed (λ t ws s. (position_at ws < s.cells) × (key_at ws (position_at ws) ≡ position_key t))
     (λ t v.
-    let (p, here) = position-placed v in
-    rw (position_is v) (placed_below v here, place-key v here ∙ sym (placed-keyOf here)))
+    let (p, here) = position_placed v in
+    rw (position_is v) (placed_below v here, place_key v here ∙ sym (placed_key_of here)))
 
 -- it is the position after the call, or the cell of next smaller key is
 pub position_stays : {ws : List ℕ} {s : Settings} → Listed ws s → {top key x : ℕ} → top ≡ position_key (read ws) → top < key → x ≡ position_at ws →
@@ -55,22 +55,22 @@ module _ {ws : List ℕ} {s : Settings} {top key x : ℕ} where
   path_kept h = record { is = λ t e. sym (e.kept h) }
 
   -- the position stands
-  ending-stands : {t : State} → Ending ws s top key x t → StandsIn ws s x t
-  ending-stands {t} e =
+  ending_stands : {t : State} → Ending ws s top key x t → StandsIn ws s x t
+  ending_stands {t} e =
       record {
         order = e.order;
         settings = e.settings;
         words = e.words;
-        stands = subst (λ c. 0 < occurrences c (0 ∷ map (λ y. y.cell) t.row)) e.position (valid-sound t e.order).position;
+        stands = subst (λ c. 0 < occurrences c (0 ∷ map (λ y. y.cell) t.row)) e.position (valid_sound t e.order).position;
       }
 
-  pub due-standing : EndsInSome ws s top key x → StandsInSome ws s x
-  due-standing d = record { state = d.state; in_it = ending-stands d.ending }
+  pub due_standing : EndsInSome ws s top key x → StandsInSome ws s x
+  due_standing d = record { state = d.state; in_it = ending_stands d.ending }
 
   -- and its path is the one of the state
-  ending-path : {t : State} → Ending ws s top key x t → path_for s.base s.dimensions t.row (key_of x (head_node ∷ t.row)) ≡ path t
+  ending_path : {t : State} → Ending ws s top key x t → path_for s.base s.dimensions t.row (key_of x (head_node ∷ t.row)) ≡ path t
   unfolding path path_for
-  ending-path e = rw (← e.position, ← e.settings) refl
+  ending_path e = rw (← e.position, ← e.settings) refl
 
-  pub path-moved : {us : List ℕ} {r : Path} → CellPath ws s x r → us ≡ write_path ws (path_of r) → PathWritten ws us s top key x
-  path-moved c written = record { is = λ t e. written ∙ ap (write_path ws) (c.is t (ending-stands e) ∙ ending-path e) ∙ sym e.words }
+  pub path_moved : {us : List ℕ} {r : Path} → CellPath ws s x r → us ≡ write_path ws (path_of r) → PathWritten ws us s top key x
+  path_moved c written = record { is = λ t e. written ∙ ap (write_path ws) (c.is t (ending_stands e) ∙ ending_path e) ∙ sym e.words }

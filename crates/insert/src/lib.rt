@@ -1,5 +1,7 @@
 // Insert: a new cell in the slot that the search found, its own adoption left owing; or a dead key revived. And a new cell for a key that comes
 // last, whose slot is known without a search.
+#![tactic(auto)]
+
 ghost use Rattle.std.specs.Prelude.{◌≡◌, true, false, ◌<◌, get_or};
 ghost use Rattle.meaning.specs.State.{position_key};
 ghost use Rattle.meaning.specs.Reading.{read};

@@ -55,10 +55,10 @@ module _ {ws : List ℕ} {s : Settings} (listed : Listed ws s) (logged : Logged)
       }
 
   -- it asks for an insert
-  pub inserted-meets :
+  pub inserted_meets :
       {key number : ℕ} {r : Answer} {us : List ℕ} {after : ℕ} → note_asks last logged ≡ insertion key number →
       Meets (insert_out ws key number) r us → after ≡ cond (eqb r.refusal 0) number last → Noted logged ws last r us after
-  inserted-meets {key} {number} {r} {us} {after} asks meets advances =
+  inserted_meets {key} {number} {r} {us} {after} asks meets advances =
       record {
         meets = λ bytes.
             let o = on_list bytes ∙ ap (asked_out (lent_of ws bytes last)) asks in

@@ -1,4 +1,6 @@
 // What a record notes, put into a list with its full number as the value: the inner function of the operation record.
+#![tactic(auto)]
+
 ghost use Rattle.std.specs.Prelude.{◌≡◌, cond, eqb};
 ghost use Rattle.settings.specs.Levels.{PowersOf};
 ghost use Rattle.notes.specs.Notes.{Within};

@@ -32,16 +32,16 @@ use Rattle.cell_tests.proofs.Tests.{refuted}
 -- The head
 
 module _ {ws : List ℕ} {s : Settings} (h : Shaped ws s) {agreed : ℕ} (run : agreed ≡ path_run ws 0 0 (s.dimensions - 0)) where
-  pub head-elsewhere :
+  pub head_elsewhere :
       (position_at ws ≡ 0 → ⊥) → record { right = true; left = s.cells - 1; last = 0; agreed = agreed; reached = false } ≡ at_head ws
   unfolding at_head
-  head-elsewhere away = rw (ne_eqb (position_at ws) 0 away, run, sub-zero s.dimensions, ← shaped_dimensions h, ← shaped_cells h) refl
+  head_elsewhere away = rw (ne_eqb (position_at ws) 0 away, run, sub-zero s.dimensions, ← shaped_dimensions h, ← shaped_cells h) refl
 
-  pub head-position :
+  pub head_position :
       position_at ws ≡ 0 →
       record { right = eqb agreed s.dimensions; left = s.cells - 1; last = 0; agreed = agreed; reached = true } ≡ at_head ws
   unfolding at_head
-  head-position here = rw (eq-eqb (position_at ws) 0 here, run, sub-zero s.dimensions, ← shaped_dimensions h, ← shaped_cells h) refl
+  head_position here = rw (eq-eqb (position_at ws) 0 here, run, sub-zero s.dimensions, ← shaped_dimensions h, ← shaped_cells h) refl
 
 -- The free cells
 
@@ -54,10 +54,10 @@ module _ (ws : List ℕ) (c : ℕ) where
       let k : suc n - 1 ≡ n = omega arith in
       rw (k, free, e) refl
 
-  pub chain-broken : (n : ℕ) → 0 < n → free_right ws c ≡ false → chain_right ws n c ≡ false
+  pub chain_broken : (n : ℕ) → 0 < n → free_right ws c ≡ false → chain_right ws n c ≡ false
   unfolding chain_right
-  chain-broken zero h free = absurd (omega arith)
-  chain-broken (suc n) h free = rw free refl
+  chain_broken zero h free = absurd (omega arith)
+  chain_broken (suc n) h free = rw free refl
 
   pub chain_end : (n : ℕ) → n ≤ 0 → chain_right ws n c ≡ eqb c 0
   unfolding chain_right
@@ -76,23 +76,23 @@ unfolding header_right is_base
 header_is ws = refl
 
 module _ (ws : List ℕ) where
-  pub header-short : length ws < 5 → variants.NotAList ≡ header_of ws
-  header-short h = rw (refuted (header_right ws) (λ t. let e = (header_right_lem ws t).size in omega arith)) refl
+  pub header_short : length ws < 5 → variants.NotAList ≡ header_of ws
+  header_short h = rw (refuted (header_right ws) (λ t. let e = (header_right_lem ws t).size in omega arith)) refl
 
-  pub header-range :
+  pub header_range :
       {t : Bool} → t ≡ in_range (dimensions_at ws) (largest_at ws) (cells_at ws) → not t ≡ true → variants.NotAList ≡ header_of ws
-  header-range {t} e f = rw (header_is ws, ← e, not-true t f) refl
+  header_range {t} e f = rw (header_is ws, ← e, not-true t f) refl
 
-  pub header-length : (length ws ≡ length_of (dimensions_at ws) (cells_at ws) → ⊥) → variants.NotAList ≡ header_of ws
-  header-length other = rw (refuted (header_right ws) (λ t. other (header_right_lem ws t).size)) refl
+  pub header_length : (length ws ≡ length_of (dimensions_at ws) (cells_at ws) → ⊥) → variants.NotAList ≡ header_of ws
+  header_length other = rw (refuted (header_right ws) (λ t. other (header_right_lem ws t).size)) refl
 
-  pub header-base : {t : Bool} → t ≡ is_base (dimensions_at ws) (largest_at ws) (base_at ws) → not t ≡ true → variants.NotAList ≡ header_of ws
-  header-base {t} e f = simp (header_is ws, sym e, not-true t f, and-false) refl
+  pub header_base : {t : Bool} → t ≡ is_base (dimensions_at ws) (largest_at ws) (base_at ws) → not t ≡ true → variants.NotAList ≡ header_of ws
+  header_base {t} e f = simp (header_is ws, sym e, not-true t f, and-false) refl
 
-  pub header-list :
+  pub header_list :
       in_range (dimensions_at ws) (largest_at ws) (cells_at ws) ≡ true → length ws ≡ length_of (dimensions_at ws) (cells_at ws) →
       is_base (dimensions_at ws) (largest_at ws) (base_at ws) ≡ true → variants.IsList (settings_at ws) ≡ header_of ws
-  header-list range size base = rw (header_is ws, range, eq-eqb (length ws) (length_of (dimensions_at ws) (cells_at ws)) size, base) refl
+  header_list range size base = rw (header_is ws, range, eq-eqb (length ws) (length_of (dimensions_at ws) (cells_at ws)) size, base) refl
 
 -- words whose header is that of a list with the settings s
 pub record Headed (ws : List ℕ) (s : Settings) : Type 0 where

@@ -21,7 +21,7 @@ use Rattle.account.specs.Tree.{path_run, agreed_at, wrong}
 use Rattle.account.specs.Pending.{Link, put_from, followed, followed_all}
 use Rattle.account.specs.Loop.{alone_right, met_right, met, links_none, owes_nothing, owes_right, Hung, plain, owed, left_over, no_list, verdict}
 use Rattle.account.proofs.Following.{put_once}
-use Rattle.account.proofs.Loop.{put_zero, owes_none, owes_told, links-wrong, goes-free, debt-wrong, goes-owing, met-wrong, met-goes}
+use Rattle.account.proofs.Loop.{put_zero, owes_none, owes_told, links_wrong, goes_free, debt_wrong, goes_owing, met_wrong, met_goes}
 use Rattle.cell_tests.proofs.OneCell.{alone}
 use Rattle.is_list.specs.Standing.{SeenWithin, Entered, pending_of, Pending, owing_next, GoesOn, NextIs, Started}
 use Rattle.is_list.specs.declared.standing.Way.{Way}
@@ -31,9 +31,9 @@ use Rattle.is_list.specs.declared.standing.Next.TheVariants.{Wrong, End, Goes}
 -- The path
 
 module _ (ws : List ℕ) (y : ℕ) {i n : ℕ} where
-  pub run-next : i < n → get_or ws (header_words + i) 0 ≡ y → path_run ws y i (n - i) ≡ path_run ws y (i + 1) (n - (i + 1))
+  pub run_next : i < n → get_or ws (header_words + i) 0 ≡ y → path_run ws y i (n - i) ≡ path_run ws y (i + 1) (n - (i + 1))
   unfolding path_run
-  run-next h e =
+  run_next h e =
       let k : n - i ≡ suc (n - (i + 1)) = omega arith in
       rw (k, eq-eqb (get_or ws (header_words + i) 0) y e, add-one i) refl
 
@@ -43,9 +43,9 @@ module _ (ws : List ℕ) (y : ℕ) {i n : ℕ} where
       let k : n - i ≡ suc (n - (i + 1)) = omega arith in
       rw (k, ne_eqb (get_or ws (header_words + i) 0) y other) refl
 
-  pub run-all : n ≤ i → path_run ws y i (n - i) ≡ i
+  pub run_all : n ≤ i → path_run ws y i (n - i) ≡ i
   unfolding path_run
-  run-all h =
+  run_all h =
       let k : n - i ≡ 0 = omega arith in
       rw k refl
 
@@ -62,34 +62,34 @@ agreed_run h y {e} {agreed} le = rw (le-ltb agreed e le, shaped_dimensions h) re
 -- A cell is met
 
 module _ (ws : List ℕ) (y e : ℕ) (seen : Seen) where
-  met-lone : alone_right ws y e seen ≡ false → met_right ws y e seen ≡ false
+  met_lone : alone_right ws y e seen ≡ false → met_right ws y e seen ≡ false
   unfolding met_right
-  met-lone f = rw f refl
+  met_lone f = rw f refl
 
-  met-past : alone_right ws y e seen ≡ true → seen.reached ≡ true → met_right ws y e seen ≡ true
+  met_past : alone_right ws y e seen ≡ true → seen.reached ≡ true → met_right ws y e seen ≡ true
   unfolding met_right
-  met-past h past = rw (h, past) refl
+  met_past h past = rw (h, past) refl
 
-  met-lost :
+  met_lost :
       alone_right ws y e seen ≡ true → seen.reached ≡ false → y ≡ position_at ws → (agreed_at ws y e seen.agreed ≡ dimensions_at ws → ⊥) →
       met_right ws y e seen ≡ false
   unfolding met_right
-  met-lost h before here off =
+  met_lost h before here off =
       rw (h, before, eq-eqb y (position_at ws) here, ne_eqb (agreed_at ws y e seen.agreed) (dimensions_at ws) off) refl
 
-  met-position :
+  met_position :
       alone_right ws y e seen ≡ true → seen.reached ≡ false → agreed_at ws y e seen.agreed ≡ dimensions_at ws → met_right ws y e seen ≡ true
   unfolding met_right
-  met-position h before on =
+  met_position h before on =
       rw (h, before, eq-eqb (agreed_at ws y e seen.agreed) (dimensions_at ws) on, or-true (not (eqb y (position_at ws)))) refl
 
-  met-other : alone_right ws y e seen ≡ true → seen.reached ≡ false → (y ≡ position_at ws → ⊥) → met_right ws y e seen ≡ true
+  met_other : alone_right ws y e seen ≡ true → seen.reached ≡ false → (y ≡ position_at ws → ⊥) → met_right ws y e seen ≡ true
   unfolding met_right
-  met-other h before other = rw (h, before, ne_eqb y (position_at ws) other) refl
+  met_other h before other = rw (h, before, ne_eqb y (position_at ws) other) refl
 
 module _ {ws : List ℕ} {s : Settings} (h : Shaped ws s) (y e : ℕ) (seen : Seen) where
-  entered-wrong : {r : Seen} → r ≡ wrong seen → met_right ws y e seen ≡ false → Entered ws s y e seen r
-  entered-wrong p q =
+  entered_wrong : {r : Seen} → r ≡ wrong seen → met_right ws y e seen ≡ false → Entered ws s y e seen r
+  entered_wrong p q =
       rw p
       (record {
         right = sym q;
@@ -98,19 +98,19 @@ module _ {ws : List ℕ} {s : Settings} (h : Shaped ws s) (y e : ℕ) (seen : Se
         falls = λ t. absurd (false≢true t);
       })
 
-  pub enter-not : {r : Seen} → alone_right ws y e seen ≡ false → r ≡ wrong seen → Entered ws s y e seen r
-  enter-not f p = entered-wrong p (met-lone ws y e seen f)
+  pub enter_not : {r : Seen} → alone_right ws y e seen ≡ false → r ≡ wrong seen → Entered ws s y e seen r
+  enter_not f p = entered_wrong p (met_lone ws y e seen f)
 
-  pub enter-lost :
+  pub enter_lost :
       {r : Seen} → alone_right ws y e seen ≡ true → seen.reached ≡ false → y ≡ position_at ws →
       (agreed_at ws y e seen.agreed ≡ dimensions_at ws → ⊥) → r ≡ wrong seen → Entered ws s y e seen r
-  enter-lost t before here off p = entered-wrong p (met-lost ws y e seen t before here off)
+  enter_lost t before here off p = entered_wrong p (met_lost ws y e seen t before here off)
 
-  entered-right :
+  entered_right :
       {agreed : ℕ} {reached : Bool} → alone_right ws y e seen ≡ true → agreed ≤ s.dimensions → met_right ws y e seen ≡ true →
       record { right = true; left = seen.left - 1; last = y; agreed = agreed; reached = reached } ≡ met ws y e seen →
       Entered ws s y e seen (record { right = true; left = seen.left - 1; last = y; agreed = agreed; reached = reached })
-  entered-right t fits q is =
+  entered_right t fits q is =
       let a = alone ws y e seen t in
       let inside = a.inside in
       let some = a.left in
@@ -121,23 +121,23 @@ module _ {ws : List ℕ} {s : Settings} (h : Shaped ws s) (y e : ℕ) (seen : Se
         falls = λ r. omega arith;
       }
 
-  pub enter-past :
+  pub enter_past :
       alone_right ws y e seen ≡ true → seen.reached ≡ true → seen.agreed ≤ s.dimensions →
       Entered ws s y e seen (record { right = true; left = seen.left - 1; last = y; agreed = seen.agreed; reached = true })
-  enter-past t past fits = entered-right t fits (met-past ws y e seen t past) (rw past refl)
+  enter_past t past fits = entered_right t fits (met_past ws y e seen t past) (rw past refl)
 
-  pub enter-position :
+  pub enter_position :
       {agreed : ℕ} → alone_right ws y e seen ≡ true → seen.reached ≡ false → y ≡ position_at ws → agreed ≡ agreed_at ws y e seen.agreed →
       agreed ≤ s.dimensions → agreed ≡ dimensions_at ws →
       Entered ws s y e seen (record { right = true; left = seen.left - 1; last = y; agreed = agreed; reached = true })
-  enter-position {agreed} t before here q fits on =
-      entered-right t fits (met-position ws y e seen t before (sym q ∙ on)) (rw (before, ← q, eq-eqb y (position_at ws) here) refl)
+  enter_position {agreed} t before here q fits on =
+      entered_right t fits (met_position ws y e seen t before (sym q ∙ on)) (rw (before, ← q, eq-eqb y (position_at ws) here) refl)
 
-  pub enter-other :
+  pub enter_other :
       {agreed : ℕ} → alone_right ws y e seen ≡ true → seen.reached ≡ false → (y ≡ position_at ws → ⊥) → agreed ≡ agreed_at ws y e seen.agreed →
       agreed ≤ s.dimensions → Entered ws s y e seen (record { right = true; left = seen.left - 1; last = y; agreed = agreed; reached = false })
-  enter-other {agreed} t before other q fits =
-      entered-right t fits (met-other ws y e seen t before other) (rw (before, ← q, ne_eqb y (position_at ws) other) refl)
+  enter_other {agreed} t before other q fits =
+      entered_right t fits (met_other ws y e seen t before other) (rw (before, ← q, ne_eqb y (position_at ws) other) refl)
 
 -- Links that are put, one after the other
 
@@ -154,9 +154,9 @@ pending_past cells numbers n y d (suc k) h =
     refl
 
 module _ (link : ℕ → ℕ) {d D : ℕ} (pending : List Link) where
-  pub put-ends : D ≤ d → put_from link d (D - d) pending ≡ pending
+  pub put_ends : D ≤ d → put_from link d (D - d) pending ≡ pending
   unfolding put_from
-  put-ends h =
+  put_ends h =
       let k : D - d ≡ 0 = omega arith in
       rw k refl
 
@@ -166,8 +166,8 @@ module _ (link : ℕ → ℕ) {d D : ℕ} (pending : List Link) where
       ap (λ m. put_from link d m pending) k ∙ put_once link d (D - (d + 1)) pending
       ∙ ap (λ i. put_from link i (D - (d + 1)) (cond (eqb (link d) 0) pending (record { cell = link d; number = d } ∷ pending))) (sym (add-one d))
 
-  pub put-passes : d < D → link d ≡ 0 → put_from link d (D - d) pending ≡ put_from link (d + 1) (D - (d + 1)) pending
-  put-passes h e =
+  pub put_passes : d < D → link d ≡ 0 → put_from link d (D - d) pending ≡ put_from link (d + 1) (D - (d + 1)) pending
+  put_passes h e =
       put_next h
       ∙ ap (λ t. put_from link (d + 1) (D - (d + 1)) (cond t pending (record { cell = link d; number = d } ∷ pending))) (eq-eqb (link d) 0 e)
 
@@ -211,15 +211,15 @@ top_pending cells numbers top = refl
 -- A cell that owes
 
 module _ (ws : List ℕ) (x e from count : ℕ) where
-  pub owing-elsewhere : (from ≡ e → ⊥) → Wrong ≡ owing_next ws x e from count
-  owing-elsewhere other = rw (ne_eqb from e other) refl
+  pub owing_elsewhere : (from ≡ e → ⊥) → Wrong ≡ owing_next ws x e from count
+  owing_elsewhere other = rw (ne_eqb from e other) refl
 
-  pub owing-not : from ≡ e → owes_right ws x e ≡ false → Wrong ≡ owing_next ws x e from count
-  owing-not same f = rw (eq-eqb from e same, f) refl
+  pub owing_not : from ≡ e → owes_right ws x e ≡ false → Wrong ≡ owing_next ws x e from count
+  owing_not same f = rw (eq-eqb from e same, f) refl
 
-  pub owing-goes : {cell number : ℕ} → from ≡ e → owes_right ws x e ≡ true → cell ≡ owed_at ws x → number ≡ high_at ws x →
+  pub owing_goes : {cell number : ℕ} → from ≡ e → owes_right ws x e ≡ true → cell ≡ owed_at ws x → number ≡ high_at ws x →
       Goes (record { cell = cell; number = number; from = e; count = count }) ≡ owing_next ws x e from count
-  owing-goes same t p q = rw (eq-eqb from e same, t, p, q) refl
+  owing_goes same t p q = rw (eq-eqb from e same, t, p, q) refl
 
 -- What comes after a cell
 
@@ -227,19 +227,19 @@ module _ {ws : List ℕ} {s : Settings} (h : Shaped ws s) (y e from : ℕ) (insi
   within : e ≤ dimensions_at ws
   within = omega (arith, shaped_dimensions h)
 
-  pub next-links : links_none ws y from ≡ false → NextIs ws s y e from pending Wrong cells numbers
-  next-links f =
+  pub next_links : links_none ws y from ≡ false → NextIs ws s y e from pending Wrong cells numbers
+  next_links f =
       record {
-        wrong = λ r x hung t. links-wrong ws hung y within pending t f;
+        wrong = λ r x hung t. links_wrong ws hung y within pending t f;
         end = λ r. absurd (let z : ◌≡◌ {A = ℕ} 0 1 = cc in omega arith);
         goes = λ w r. absurd (let z : ◌≡◌ {A = ℕ} 0 1 = cc in omega arith);
       }
 
   module _ (links : links_none ws y from ≡ true) where
     -- it owes
-    pub next-owing : {count : ℕ} {r : Next} → pending ≡ pending_of cells numbers count → Pending s cells numbers count from → owes_nothing ws y ≡ false →
+    pub next_owing : {count : ℕ} {r : Next} → pending ≡ pending_of cells numbers count → Pending s cells numbers count from → owes_nothing ws y ≡ false →
         r ≡ owing_next ws y e from count → NextIs ws s y e from pending r cells numbers
-    next-owing {count} same pends some is = rw is (at (eqb from e && owes_right ws y e) refl)
+    next_owing {count} same pends some is = rw is (at (eqb from e && owes_right ws y e) refl)
       where
         way : Way
         way = record { cell = owed_at ws y; number = high_at ws y; from = e; count = count }
@@ -247,7 +247,7 @@ module _ {ws : List ℕ} {s : Settings} (h : Shaped ws s) (y e from : ℕ) (insi
         at : (t : Bool) → eqb from e && owes_right ws y e ≡ t → NextIs ws s y e from pending (cond t (Goes way) Wrong) cells numbers
         at false f =
             record {
-              wrong = λ r x hung t. debt-wrong ws hung y within pending t links some f;
+              wrong = λ r x hung t. debt_wrong ws hung y within pending t links some f;
               end = λ r. absurd (let z : ◌≡◌ {A = ℕ} 0 1 = cc in omega arith);
               goes = λ w r. absurd (let z : ◌≡◌ {A = ℕ} 0 1 = cc in omega arith);
             }
@@ -261,8 +261,8 @@ module _ {ws : List ℕ} {s : Settings} (h : Shaped ws s) (y e from : ℕ) (insi
               wrong = λ r. absurd (let z : ◌≡◌ {A = ℕ} 0 1 = cc in omega arith);
               end = λ r. absurd (let z : ◌≡◌ {A = ℕ} 0 1 = cc in omega arith);
               goes = λ w r.
-                  let way-is : way ≡ w = cc in
-                  subst (λ v. GoesOn ws s y e from pending v cells numbers) way-is
+                  let way_is : way ≡ w = cc in
+                  subst (λ v. GoesOn ws s y e from pending v cells numbers) way_is
                   (record {
                     hung = owed o.some (sym o.low) low refl;
                     number = omega (arith, shaped_dimensions h);
@@ -274,7 +274,7 @@ module _ {ws : List ℕ} {s : Settings} (h : Shaped ws s) (y e from : ℕ) (insi
                           ranked = pends.ranked;
                         };
                     rest = λ x hung t.
-                        goes-owing ws hung y within pending t links some equal owes
+                        goes_owing ws hung y within pending t links some equal owes
                         ∙ ap (λ p. followed_all ws (record { cell = owed_at ws y; number = high_at ws y }
                         ∷ put_from (link_at ws (owed_at ws y)) e (high_at ws y - e) p) t) same;
                   });
@@ -285,20 +285,20 @@ module _ {ws : List ℕ} {s : Settings} (h : Shaped ws s) (y e from : ℕ) (insi
         (pends : Pending s cells numbers n s.dimensions) where
       left : (x : ℕ) → Hung ws x e from → (t : Seen) → left_over ws x y e from pending t ≡ followed_all ws (pending_of cells numbers n) t
       left x hung t =
-          goes-free ws hung y within pending t links none
+          goes_free ws hung y within pending t links none
           ∙ ap (λ m. followed_all ws (put_from (link_at ws y) from (m - from) pending) t) (shaped_dimensions h) ∙ ap (λ p. followed_all ws p t) (sym put)
 
-      pub next-ends : n ≡ 0 → NextIs ws s y e from pending End cells numbers
-      next-ends z =
+      pub next_ends : n ≡ 0 → NextIs ws s y e from pending End cells numbers
+      next_ends z =
           record {
             wrong = λ r. absurd (let z : ◌≡◌ {A = ℕ} 0 1 = cc in omega arith);
             end = λ r x hung t. left x hung t ∙ ap (λ m. followed_all ws (pending_of cells numbers m) t) z ∙ ap (λ p. followed_all ws p t) (none_pending cells numbers);
             goes = λ w r. absurd (let z : ◌≡◌ {A = ℕ} 0 1 = cc in omega arith);
           }
 
-      pub next-goes : {top : ℕ} → n ≡ suc top →
+      pub next_goes : {top : ℕ} → n ≡ suc top →
           NextIs ws s y e from pending (Goes (record { cell = get_or cells top 0; number = get_or numbers top 0; from = get_or numbers top 0; count = top })) cells numbers
-      next-goes {top} is =
+      next_goes {top} is =
           let ranked = pends.ranked top (omega arith) in
           let number = get_or numbers top 0 in
           let way : Way = record { cell = get_or cells top 0; number = number; from = number; count = top } in
@@ -307,8 +307,8 @@ module _ {ws : List ℕ} {s : Settings} (h : Shaped ws s) (y e from : ℕ) (insi
             wrong = λ r. absurd (let z : ◌≡◌ {A = ℕ} 0 1 = cc in omega arith);
             end = λ r. absurd (let z : ◌≡◌ {A = ℕ} 0 1 = cc in omega arith);
             goes = λ w r.
-                let way-is : way ≡ w = cc in
-                subst (λ v. GoesOn ws s y e from pending v cells numbers) way-is
+                let way_is : way ≡ w = cc in
+                subst (λ v. GoesOn ws s y e from pending v cells numbers) way_is
                 (record {
                   hung = plain (owes_none ws y none) refl;
                   number = ranked.1;
@@ -363,11 +363,11 @@ wrong_verdict t f = ap (λ r. cond r t no_list) f
 module _ {ws : List ℕ} {s : Settings} {start : Seen} {cells numbers : List ℕ} {count e from : ℕ} {seen : Seen}
     (k : Reading ws s start cells numbers count e from seen) {r : Next} {cells' numbers' : List ℕ}
     (n : NextIs ws s seen.last e from (pending_of cells numbers count) r cells' numbers') where
-  pub reading-wrong : {t : Seen} → r ≡ Wrong → t ≡ wrong seen → verdict t ≡ verdict (left_over ws 0 0 0 0 [] start)
-  reading-wrong is p = ap verdict p ∙ sym (k.same ∙ n.wrong is k.before k.hung seen)
+  pub reading_wrong : {t : Seen} → r ≡ Wrong → t ≡ wrong seen → verdict t ≡ verdict (left_over ws 0 0 0 0 [] start)
+  reading_wrong is p = ap verdict p ∙ sym (k.same ∙ n.wrong is k.before k.hung seen)
 
-  pub reading-ends : r ≡ End → verdict seen ≡ verdict (left_over ws 0 0 0 0 [] start)
-  reading-ends is = sym (k.same ∙ ap verdict (n.end is k.before k.hung seen ∙ followed_none ws seen))
+  pub reading_ends : r ≡ End → verdict seen ≡ verdict (left_over ws 0 0 0 0 [] start)
+  reading_ends is = sym (k.same ∙ ap verdict (n.end is k.before k.hung seen ∙ followed_none ws seen))
 
   module _ (w : Way) (is : r ≡ Goes w) {next : Seen} (entered : Entered ws s w.cell w.number seen next) where
     goes : GoesOn ws s seen.last e from (pending_of cells numbers count) w cells' numbers'
@@ -379,12 +379,12 @@ module _ {ws : List ℕ} {s : Settings} {start : Seen} {cells numbers : List ℕ
     onward : verdict (left_over ws 0 0 0 0 [] start) ≡ verdict (followed_all ws (record { cell = w.cell; number = w.number } ∷ others) seen)
     onward = k.same ∙ ap verdict (goes.rest k.before k.hung seen)
 
-    pub reading-refused : next.right ≡ false → verdict next ≡ verdict (left_over ws 0 0 0 0 [] start)
-    reading-refused f =
-        wrong_verdict next f ∙ sym (onward ∙ met-wrong ws w.cell w.number others seen (sym entered.right ∙ f))
+    pub reading_refused : next.right ≡ false → verdict next ≡ verdict (left_over ws 0 0 0 0 [] start)
+    reading_refused f =
+        wrong_verdict next f ∙ sym (onward ∙ met_wrong ws w.cell w.number others seen (sym entered.right ∙ f))
 
-    pub reading-goes : next.right ≡ true → Reading ws s start cells' numbers' w.count w.number w.from next
-    reading-goes t =
+    pub reading_goes : next.right ≡ true → Reading ws s start cells' numbers' w.count w.number w.from next
+    reading_goes t =
         record {
           before = seen.last;
           hung = goes.hung;
@@ -393,7 +393,7 @@ module _ {ws : List ℕ} {s : Settings} {start : Seen} {cells numbers : List ℕ
           right = t;
           within = entered.within t;
           same =
-              onward ∙ met-goes ws w.cell w.number others seen (sym entered.right ∙ t) (pending_of cells' numbers' w.count) w.from refl
+              onward ∙ met_goes ws w.cell w.number others seen (sym entered.right ∙ t) (pending_of cells' numbers' w.count) w.from refl
               ∙ ap (λ u. verdict (left_over ws seen.last u.last w.number w.from (pending_of cells' numbers' w.count) u)) (sym (entered.is t));
         }
 

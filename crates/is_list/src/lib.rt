@@ -1,5 +1,7 @@
 // The check for refusal 3: whether lent words are a list. It reads the list cell by cell in ascending order of keys, each child's own
 // children in turn, as crate account has it on the words; that account accepts exactly the lists.
+#![tactic(auto)]
+
 ghost use Rattle.std.specs.Prelude.{◌≡◌, false};
 ghost use Rattle.settings.specs.Levels.{PowersOf};
 ghost use Rattle.meaning.specs.Reading.{is_list};
@@ -15,7 +17,7 @@ mod standing; // standing.rt: the standing cells in order, from the head on
 mod free; // free.rt: the chain of free cells
 
 // What the check answers: whether the words are a list; if they are, its settings and the powers of its base.
-#[derive(Drop)]
+#[derive(Clone, Copy)]
 pub struct Verdict {
     pub list: bool,
     pub settings: Settings,

@@ -17,7 +17,7 @@ use settings::Settings;
 
 // Where to go on: the cell that a pending link leads to and the link's number, the least number by which that cell may have a link, and how
 // many links are pending then.
-#[derive(Drop)]
+#[derive(Clone, Copy)]
 pub struct Way {
     pub cell: u32,
     pub number: u32,
@@ -26,7 +26,7 @@ pub struct Way {
 }
 
 // What comes after a cell: its links or its debt are wrong, or no link is pending, or the next cell.
-#[derive(Drop)]
+#[derive(Clone, Copy)]
 pub enum Next {
     Wrong,
     End,

@@ -15,7 +15,7 @@ use Rattle.text.specs.Lines.{most_bytes}
 use Rattle.text.specs.Answers.{FieldEnd, number_of}
 use Rattle.text.specs.declared.fields.Numeral.TheVariants.{Value}
 use Rattle.text.specs.declared.fields.Numeral.TheVariants as numeral
-use Rattle.text.proofs.Numerals.{last-field, next_field, some_field, number-value}
+use Rattle.text.proofs.Numerals.{last_field, next_field, some_field, number_value}
 use Rattle.entries.specs.Entries.{least_class, most_class, least_unit, most_unit, least_serial, most_serial, is_class, is_unit, is_serial, InRange, entry}
 use Rattle.entries.specs.declared.Entry.{Entry}
 use Rattle.entries.proofs.Ranges.{entry_in_range}
@@ -53,7 +53,7 @@ field_from {line} {start} {end} ends = at_test (ltb end (length line)) refl
         (t : Bool) → ltb end (length line) ≡ t →
         fields_of (drop start line) ≡ part line start end ∷ cond t (fields_of (drop (end + 1) line)) []
     at_test true e = next_field ends (ltb-true end (length line) e)
-    at_test false e = let h = ltb-false end (length line) e in let g = ends.within in last-field ends (omega arith)
+    at_test false e = let h = ltb-false end (length line) e in let g = ends.within in last_field ends (omega arith)
 
 -- Numbers
 
@@ -71,12 +71,12 @@ module _ {line : List ℕ} {at end : ℕ} (least most : ℕ) (more : at < length
   pub number_read : {n : ℕ} → number_of least most (part line (at + 1) end) ≡ Value n → NumberAfter line at least most (Number n end)
   unfolding first_number
   number_read e =
-      let v = number-value least most (part line (at + 1) end) e in
+      let v = number_value least most (part line (at + 1) end) e in
       record { is = rw (first_field, v.0, v.1) refl; within = ends.within }
 
-  pub number-none : number_of least most (part line (at + 1) end) ≡ numeral.Unreadable → NumberAfter line at least most NoNumber
+  pub number_none : number_of least most (part line (at + 1) end) ≡ numeral.Unreadable → NumberAfter line at least most NoNumber
   unfolding first_number number_of
-  number-none e = record { is = rw first_field (at_test (is_number least most field) e); within = omega arith }
+  number_none e = record { is = rw first_field (at_test (is_number least most field) e); within = omega arith }
     where
       field : List ℕ
       field = part line (at + 1) end
@@ -142,16 +142,16 @@ entry_steps (class ∷ unit ∷ serial ∷ fields) = at-class (is_class class)
     at-class false = refl
 
 module _ {line : List ℕ} {at : ℕ} {r : NumberRead} (first : NumberAfter line at least_class most_class r) where
-  pub class-none : r ≡ NoNumber → EntryAfter line at NoEntry
-  class-none e = record { is = rw (entry_steps (fields_after line at), ← first.is, e) refl; within = omega arith }
+  pub class_none : r ≡ NoNumber → EntryAfter line at NoEntry
+  class_none e = record { is = rw (entry_steps (fields_after line at), ← first.is, e) refl; within = omega arith }
 
   module _ {class next : ℕ} {s : NumberRead} (e : r ≡ Number class next) (second : NumberAfter line next least_unit most_unit s) where
-    pub unit-none : s ≡ NoNumber → EntryAfter line at NoEntry
-    unit-none f = record { is = rw (entry_steps (fields_after line at), ← first.is, e, ← second.is, f) refl; within = omega arith }
+    pub unit_none : s ≡ NoNumber → EntryAfter line at NoEntry
+    unit_none f = record { is = rw (entry_steps (fields_after line at), ← first.is, e, ← second.is, f) refl; within = omega arith }
 
     module _ {unit last : ℕ} {u : NumberRead} (f : s ≡ Number unit last) (third : NumberAfter line last least_serial most_serial u) where
-      pub serial-none : u ≡ NoNumber → EntryAfter line at NoEntry
-      serial-none g =
+      pub serial_none : u ≡ NoNumber → EntryAfter line at NoEntry
+      serial_none g =
           record { is = rw (entry_steps (fields_after line at), ← first.is, e, ← second.is, f, ← third.is, g) refl; within = omega arith }
 
       pub entry_read :
@@ -232,37 +232,37 @@ insert_line_steps (class ∷ unit ∷ serial ∷ value ∷ further ∷ fields) =
     at_entry false = refl
 
 module _ {line : List ℕ} {r : EntryRead} (first : EntryAfter line 1 r) where
-  pub entry-line-none : (kind : Entry → Kind) → r ≡ NoEntry → Unreadable ≡ entry_fields kind (fields_after line 1)
-  entry-line-none kind e = rw (entry_line_steps kind (fields_after line 1), ← first.is, e) refl
+  pub entry_line_none : (kind : Entry → Kind) → r ≡ NoEntry → Unreadable ≡ entry_fields kind (fields_after line 1)
+  entry_line_none kind e = rw (entry_line_steps kind (fields_after line 1), ← first.is, e) refl
 
-  pub entry-line :
+  pub entry_line :
       (kind : Entry → Kind) {e : Entry} {end : ℕ} → r ≡ Fields e end →
       no_fields (kind e) (fields_after line end) ≡ entry_fields kind (fields_after line 1)
-  entry-line kind e = rw (entry_line_steps kind (fields_after line 1), ← first.is, e) refl
+  entry_line kind e = rw (entry_line_steps kind (fields_after line 1), ← first.is, e) refl
 
-  pub insert-line-none : r ≡ NoEntry → Unreadable ≡ insert_fields (fields_after line 1)
-  insert-line-none e = rw (insert_line_steps (fields_after line 1), ← first.is, e) refl
+  pub insert_line_none : r ≡ NoEntry → Unreadable ≡ insert_fields (fields_after line 1)
+  insert_line_none e = rw (insert_line_steps (fields_after line 1), ← first.is, e) refl
 
   module _ {e : Entry} {next : ℕ} {s : NumberRead} (f : r ≡ Fields e next) (third : NumberAfter line next least_value most_value s) where
     pub value_none : s ≡ NoNumber → Unreadable ≡ insert_fields (fields_after line 1)
     value_none g = rw (insert_line_steps (fields_after line 1), ← first.is, f, ← third.is, g) refl
 
-    pub insert-line :
+    pub insert_line :
         {value end : ℕ} → s ≡ Number value end →
         no_fields (Insert e value) (fields_after line end) ≡ insert_fields (fields_after line 1)
-    insert-line g = rw (insert_line_steps (fields_after line 1), ← first.is, f, ← third.is, g) refl
+    insert_line g = rw (insert_line_steps (fields_after line 1), ← first.is, f, ← third.is, g) refl
 
 -- The end of a line, and its start
 
 module _ (line : List ℕ) (at : ℕ) (kind : Kind) where
-  pub line-ends : length line ≤ at → Readable (record { kind = kind }) ≡ no_fields kind (fields_after line at)
+  pub line_ends : length line ≤ at → Readable (record { kind = kind }) ≡ no_fields kind (fields_after line at)
   unfolding no_fields
-  line-ends h = rw (none_after line at h) refl
+  line_ends h = rw (none_after line at h) refl
 
   -- there is always a field behind a space, be it empty
-  pub line-goes-on : at < length line → Unreadable ≡ no_fields kind (fields_after line at)
+  pub line_goes_on : at < length line → Unreadable ≡ no_fields kind (fields_after line at)
   unfolding no_fields fields_after
-  line-goes-on h = rw (lt-ltb at (length line) h, (some_field (drop (at + 1) line)).2) refl
+  line_goes_on h = rw (lt-ltb at (length line) h, (some_field (drop (at + 1) line)).2) refl
 
 -- a first field that is not one byte is no letter
 not_letter : (letter : List ℕ) (fields : List (List ℕ)) → (length letter ≡ 1 → ⊥) → kind_of (letter ∷ fields) ≡ Unreadable
@@ -277,27 +277,27 @@ first_byte [] h = absurd (omega arith)
 first_byte (byte ∷ line) h = refl
 
 module _ (line : List ℕ) where
-  pub parsed-empty : length line < 1 → Unreadable ≡ parsed_of line
+  pub parsed_empty : length line < 1 → Unreadable ≡ parsed_of line
   unfolding parsed_of
-  parsed-empty h = rw (lt-leb 1 (length line) h) refl
+  parsed_empty h = rw (lt-leb 1 (length line) h) refl
 
-  pub parsed-long : most_bytes < length line → Unreadable ≡ parsed_of line
+  pub parsed_long : most_bytes < length line → Unreadable ≡ parsed_of line
   unfolding parsed_of
-  parsed-long h = rw (lt-leb (length line) most_bytes h, and-false (leb 1 (length line))) refl
+  parsed_long h = rw (lt-leb (length line) most_bytes h, and-false (leb 1 (length line))) refl
 
   module _ {end : ℕ} (some : 1 ≤ length line) (short : length line ≤ most_bytes) (ends : FieldEnd line 0 end) where
-    parsed-first : parsed_of line ≡ kind_of (part line 0 end ∷ fields_after line end)
+    parsed_first : parsed_of line ≡ kind_of (part line 0 end ∷ fields_after line end)
     unfolding parsed_of
-    parsed-first = rw (le-leb 1 (length line) some, le-leb (length line) most_bytes short, field_from ends) refl
+    parsed_first = rw (le-leb 1 (length line) some, le-leb (length line) most_bytes short, field_from ends) refl
 
-    pub parsed-no-letter : (end ≡ 1 → ⊥) → Unreadable ≡ parsed_of line
-    parsed-no-letter h =
+    pub parsed_no_letter : (end ≡ 1 → ⊥) → Unreadable ≡ parsed_of line
+    parsed_no_letter h =
         let within = ends.within in
         let long : length (part line 0 end) ≡ end = simp length-take (omega arith) in
-        rw (parsed-first, not_letter (part line 0 end) (fields_after line end) (λ e. h (sym long ∙ e))) refl
+        rw (parsed_first, not_letter (part line 0 end) (fields_after line end) (λ e. h (sym long ∙ e))) refl
 
-    pub parsed-letter : end ≡ 1 → kind_of ((get_or line 0 0 ∷ []) ∷ fields_after line 1) ≡ parsed_of line
-    parsed-letter e = rw (parsed-first, e, first_byte line some) refl
+    pub parsed_letter : end ≡ 1 → kind_of ((get_or line 0 0 ∷ []) ∷ fields_after line 1) ≡ parsed_of line
+    parsed_letter e = rw (parsed_first, e, first_byte line some) refl
 
 -- Entries in range
 

@@ -1,5 +1,7 @@
 // The lines of the order program: each line is one of five kinds with its own fields. The fields are read one
 // after the other, each by where the one before it ends: at a space, or with the line.
+#![tactic(auto)]
+
 ghost use Rattle.std.specs.Prelude.{◌≡◌, [], ◌∷◌, ◌≤◌, length};
 ghost use Rattle.lines.specs.Grammar.{insert_fields, entry_fields, no_fields, kind_of, parsed_of};
 ghost use Rattle.lines.specs.Answers.{fields_after, NumberAfter, EntryAfter};
@@ -8,7 +10,7 @@ ghost use Rattle.lines.specs.declared.Kind.TheVariants.{Find, Finish};
 use entries::Entry;
 use text::fields::Numeral;
 
-#[derive(Drop)]
+#[derive(Clone, Copy)]
 pub enum Kind {
     // N class unit serial value
     Insert(Entry, u32),
@@ -22,27 +24,27 @@ pub enum Kind {
     Sweep,
 }
 
-#[derive(Drop)]
+#[derive(Clone, Copy)]
 pub struct Line {
     pub kind: Kind,
 }
 
 // A line read, or the case that is answered 10.
-#[derive(Drop)]
+#[derive(Clone, Copy)]
 pub enum Parsed {
     Readable(Line),
     Unreadable,
 }
 
 // A number, and where its field ends; or that the next field is no number in its range, or missing.
-#[derive(Drop)]
+#[derive(Clone, Copy)]
 enum NumberRead {
     Number(u32, usize),
     NoNumber,
 }
 
 // An entry, and where its third field ends; or that the next three fields are none, or missing.
-#[derive(Drop)]
+#[derive(Clone, Copy)]
 enum EntryRead {
     Fields(Entry, usize),
     NoEntry,

@@ -36,16 +36,16 @@ zero_all (w ∷ ws) at = and_both (eqb w 0) (all_zero ws) (eq-eqb w 0 (at 0 (ome
 
 module _ (part : List ℕ) where
   -- told of no word, and of one
-  pub zero-start : (i r : ℕ) → (all_zero part ≡ true → r ≡ 0) → ZeroFrom part i 0 r
-  zero-start i r none = record { told = λ e j p q. absurd (omega arith); none = none }
+  pub zero_start : (i r : ℕ) → (all_zero part ≡ true → r ≡ 0) → ZeroFrom part i 0 r
+  zero_start i r none = record { told = λ e j p q. absurd (omega arith); none = none }
 
   pub zero_one : (i : ℕ) → ZeroFrom part i 1 (get_or part i 0)
   zero_one i = record { told = λ e j p q. let same : j ≡ i = omega arith in rw same e; none = zero_at part i }
 
   -- what is told of two stretches, of which the second starts no later than the first ends, is told of both as one
-  pub zero-join :
+  pub zero_join :
       {i m k n l r : ℕ} → ZeroFrom part i m r → ZeroFrom part k n r → k ≤ i + m → i + l ≤ k + n → ZeroFrom part i l r
-  zero-join {i} {m} {l = l} {r = r} f g near far = record { told = λ e j p q. at e j p q (dec_le (suc j) (i + m)); none = f.none }
+  zero_join {i} {m} {l = l} {r = r} f g near far = record { told = λ e j p q. at e j p q (dec_le (suc j) (i + m)); none = f.none }
     where
       at : r ≡ 0 → (j : ℕ) → i ≤ j → j < i + l → Dec (j < i + m) → get_or part j 0 ≡ 0
       at e j p q (yes h) = f.told e j p h
@@ -63,14 +63,14 @@ module _ (part : List ℕ) where
   -- .. and of two such stretches, as one
   pub zero_or :
       {i m k n l a b : ℕ} → ZeroFrom part i m a → ZeroFrom part k n b → k ≤ i + m → i + l ≤ k + n → ZeroFrom part i l (bit_or a b)
-  zero_or f g near far = zero-join (or_left f g) (or_right f g) near far
+  zero_or f g near far = zero_join (or_left f g) (or_right f g) near far
 
   -- bits of words in a row, with the next word put to them
-  pub zero-next : {i m a : ℕ} (k : ℕ) → ZeroFrom part i m a → k ≡ i + m → ZeroFrom part i (m + 1) (bit_or a (get_or part k 0))
-  zero-next k f next = zero_or f (zero_one k) (omega arith) (omega arith)
+  pub zero_next : {i m a : ℕ} (k : ℕ) → ZeroFrom part i m a → k ≡ i + m → ZeroFrom part i (m + 1) (bit_or a (get_or part k 0))
+  zero_next k f next = zero_or f (zero_one k) (omega arith) (omega arith)
 
   -- bits of all words decide
-  pub zero-decides : {r : ℕ} → ZeroFrom part 0 (length part) r → eqb r 0 ≡ all_zero part
-  zero-decides {r} f =
+  pub zero_decides : {r : ℕ} → ZeroFrom part 0 (length part) r → eqb r 0 ≡ all_zero part
+  zero_decides {r} f =
       tests_same (eqb r 0) (all_zero part) (λ e. zero_all part (λ j q. f.told (eqb-true r 0 e) j (omega arith) (omega arith)))
       (λ z. eq-eqb r 0 (f.none z))

@@ -9,44 +9,44 @@ use Rattle.lists.specs.Lists.{those}
 use Rattle.lists.proofs.All.{All}
 
 module _ {A : Type 0} where
-  pub those-all : (test : A → Bool) (xs : List A) → All (λ x. test x ≡ true) xs → those test xs ≡ xs
+  pub those_all : (test : A → Bool) (xs : List A) → All (λ x. test x ≡ true) xs → those test xs ≡ xs
   unfolding those
-  those-all test [] a = refl
-  those-all test (x ∷ xs) a = rw a.0 (ap (λ (r : List A). x ∷ r) (those-all test xs a.1))
+  those_all test [] a = refl
+  those_all test (x ∷ xs) a = rw a.0 (ap (λ (r : List A). x ∷ r) (those_all test xs a.1))
 
-  pub those-none : (test : A → Bool) (xs : List A) → All (λ x. test x ≡ false) xs → those test xs ≡ []
+  pub those_none : (test : A → Bool) (xs : List A) → All (λ x. test x ≡ false) xs → those test xs ≡ []
   unfolding those
-  those-none test [] a = refl
-  those-none test (x ∷ xs) a = rw a.0 (those-none test xs a.1)
+  those_none test [] a = refl
+  those_none test (x ∷ xs) a = rw a.0 (those_none test xs a.1)
 
-  pub those-same : (test other : A → Bool) (xs : List A) → All (λ x. test x ≡ other x) xs → those test xs ≡ those other xs
+  pub those_same : (test other : A → Bool) (xs : List A) → All (λ x. test x ≡ other x) xs → those test xs ≡ those other xs
   unfolding those
-  those-same test other [] a = refl
-  those-same test other (x ∷ xs) a = rw (a.0, those-same test other xs a.1) refl
+  those_same test other [] a = refl
+  those_same test other (x ∷ xs) a = rw (a.0, those_same test other xs a.1) refl
 
-  pub those-keep : (P : A → Type 0) (test : A → Bool) (xs : List A) → All P xs → All P (those test xs)
+  pub those_keep : (P : A → Type 0) (test : A → Bool) (xs : List A) → All P xs → All P (those test xs)
   unfolding those
-  those-keep P test [] a = tt
-  those-keep P test (x ∷ xs) a = at (test x) (those-keep P test xs a.1)
+  those_keep P test [] a = tt
+  those_keep P test (x ∷ xs) a = at (test x) (those_keep P test xs a.1)
     where
       at : (t : Bool) → All P (those test xs) → All P (cond t (x ∷ those test xs) (those test xs))
       at true more = (a.0, more)
       at false more = more
 
-  pub those-append : (test : A → Bool) (xs ys : List A) → those test (xs ++ ys) ≡ those test xs ++ those test ys
+  pub those_append : (test : A → Bool) (xs ys : List A) → those test (xs ++ ys) ≡ those test xs ++ those test ys
   unfolding those
-  those-append test [] ys = refl
-  those-append test (x ∷ xs) ys = at (test x) (those-append test xs ys)
+  those_append test [] ys = refl
+  those_append test (x ∷ xs) ys = at (test x) (those_append test xs ys)
     where
       at : (t : Bool) → those test (xs ++ ys) ≡ those test xs ++ those test ys →
           cond t (x ∷ those test (xs ++ ys)) (those test (xs ++ ys)) ≡ cond t (x ∷ those test xs) (those test xs) ++ those test ys
       at true e = ap {B = List A} (λ r. x ∷ r) e
       at false e = e
 
-  pub those-most : (test : A → Bool) (xs : List A) → length (those test xs) ≤ length xs
+  pub those_most : (test : A → Bool) (xs : List A) → length (those test xs) ≤ length xs
   unfolding those
-  those-most test [] = omega arith
-  those-most test (x ∷ xs) = at (test x) (those-most test xs)
+  those_most test [] = omega arith
+  those_most test (x ∷ xs) = at (test x) (those_most test xs)
     where
       at : (t : Bool) → length (those test xs) ≤ length xs → length (cond t (x ∷ those test xs) (those test xs)) ≤ suc (length xs)
       at true h = omega arith

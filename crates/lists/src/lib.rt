@@ -1,4 +1,6 @@
 // Words in a row, lent as a part: filled with one number, and tested to be all 0.
+#![tactic(auto)]
+
 ghost use Rattle.std.specs.Prelude.{◌≡◌, ◌+◌, ◌≤◌, length, replicate};
 ghost use Rattle.lists.specs.Zeros.{all_zero, ZeroFrom};
 

@@ -6,7 +6,7 @@ use Prim.Native.Nat.{ℕ}
 use borrow.Author.Tests.{eq-eqb}
 use Rattle.lists.proofs.All.{All}
 use Rattle.text.specs.Parts.{Known, BytesFed, EndFed}
-use Rattle.text.proofs.Parts.{kept-by-bytes, kept-by-end}
+use Rattle.text.proofs.Parts.{kept_by_bytes, kept_by_end}
 use Rattle.notes.specs.Notes.{note_by, Within}
 use Rattle.notes.specs.Export.{closes}
 use Rattle.notes.specs.Feeding.{handed_by, handed_at_end, record_handing, Holds, told_in, ToldWithin, Stepped, FeedEnded}
@@ -66,10 +66,10 @@ module _ {P : List ℕ → Type 0} {words after : List ℕ} {last now-last : ℕ
   pub still_listed :
       {bytes : List ℕ} {Q : List ℕ → Type 0} → BytesFed record_handing (leaving note_out) bytes P (kept words last) Q (kept after now-last) →
       Listed after s × Known Q
-  still_listed fed = kept-by-bytes record_handing (leaving note_out) {I = λ lent. Listed lent.words s} each_listed had fed
+  still_listed fed = kept_by_bytes record_handing (leaving note_out) {I = λ lent. Listed lent.words s} each_listed had fed
 
-  pub end-listed : EndFed record_handing (leaving note_out) P (kept words last) (kept after now-last) → Listed after s
-  end-listed fed = kept-by-end record_handing (leaving note_out) {I = λ lent. Listed lent.words s} each_listed had fed
+  pub end_listed : EndFed record_handing (leaving note_out) P (kept words last) (kept after now-last) → Listed after s
+  end_listed fed = kept_by_end record_handing (leaving note_out) {I = λ lent. Listed lent.words s} each_listed had fed
 
 pub take_listed : {before after : List ℕ} {r : Turn} {s : Settings} → Listed before s → Took before after r → Listed after s
 unfolding outcome

@@ -10,6 +10,8 @@
 // a read that fails is not answered.
 //
 // The file stdout has the answers of the separate ordered set: compare/ordered_set/target/release/ordered_set logger < stdin > stdout
+#![tactic(auto)]
+
 ghost use Rattle.std.specs.Prelude.{◌≡◌, [], ◌∷◌};
 ghost use Rattle.text.specs.Parts.{after_all, Known, BytesFed, PartFed, EndFed};
 ghost use Rattle.notes.specs.Feeding.{record_handing, Holds, told_in, ToldWithin};
@@ -23,14 +25,14 @@ use notes::feed::{Feed, Told};
 use settings::Settings;
 
 // What is kept from one byte to the next, beside the words and the last number: whether every answer has been written.
-#[derive(Drop)]
+#[derive(Clone, Copy)]
 pub struct State {
     pub feed: Feed,
     pub written: bool,
 }
 
 // How the reading of the export, or the taking, ends.
-#[derive(Drop)]
+#[derive(Clone, Copy)]
 pub enum End {
     AllAnswered,
     NotRead,
@@ -38,7 +40,7 @@ pub enum End {
 }
 
 // What a take led to: there may be more to take, or there is nothing more, or its answer was not written.
-#[derive(Drop)]
+#[derive(Clone, Copy)]
 pub enum Turn {
     More,
     NoMore,

@@ -18,24 +18,24 @@ use Rattle.insert_record.specs.Noted.{Noted}
 use Rattle.report.specs.Report.{answer_text, Put}
 use Rattle.report.proofs.Puts.{put_start}
 use Rattle.report.specs.Answered.{Answered}
-use Rattle.report.proofs.Answered.{none-answered, one-answered}
+use Rattle.report.proofs.Answered.{none_answered, one_answered}
 use Rattle.logger_step.specs.Printed.{TakeAnswered}
 
 pub told_within : {told : Told} {logged : Logged} → told ≡ Record logged → ToldWithin told → Within logged
 told_within is within = rw is at within
 
 pub no_record_answered : (lent : Lent) (out : List ℕ) {told : Told} → told ≡ NoRecord → Answered note_out (told_in told) lent lent out 0
-no_record_answered lent out e = rw e (none-answered note_out lent out)
+no_record_answered lent out e = rw e (none_answered note_out lent out)
 
 module _ {room out : List ℕ} {r : ℕ} {a : Answer} (put : Put room 0 (answer_text a line_feed) out r) (fits : r ≤ length room) where
-  pub record-answered :
+  pub record_answered :
       {ws after : List ℕ} {last now-last : ℕ} {told : Told} {logged : Logged} → told ≡ Record logged → Noted logged ws last a after now-last →
       Answered note_out (told_in told) (lent_of ws [] last) (lent_of after [] now-last) out r
-  record-answered {ws} {last = last} {logged = logged} e noted = rw e (one-answered note_out logged (lent_of ws [] last) put fits (noted.meets []))
+  record_answered {ws} {last = last} {logged = logged} e noted = rw e (one_answered note_out logged (lent_of ws [] last) put fits (noted.meets []))
 
-  pub take-answered :
+  pub take_answered :
       {ws after : List ℕ} → Meets (take_out ws) a after → TakeAnswered ws after out (record { bytes = r; more = eqb a.refusal 0 })
-  take-answered met =
+  take_answered met =
       let bytes = put_start put fits in
       record {
         left = met.left;

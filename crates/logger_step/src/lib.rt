@@ -1,4 +1,6 @@
 // One record of the program logger on the words of its list, which it keeps to itself and need not check again and again, and one take, with the bytes that are printed for each.
+#![tactic(auto)]
+
 ghost use Rattle.std.specs.Prelude.{[], ◌≤◌, length};
 ghost use Rattle.notes.specs.Notes.{Within};
 ghost use Rattle.notes.specs.Feeding.{told_in, ToldWithin};
@@ -15,7 +17,7 @@ use notes::feed::Told;
 use settings::Settings;
 
 // What a take puts: how many bytes, and whether there may be more to take.
-#[derive(Drop)]
+#[derive(Clone, Copy)]
 pub struct TakeText {
     pub bytes: usize,
     pub more: bool,

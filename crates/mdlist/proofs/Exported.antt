@@ -4,14 +4,14 @@ use mathlib.Core.List.{List}
 use Prim.Native.Nat.{ℕ}
 use Rattle.notes.specs.Notes.{note_by}
 use Rattle.meaning.specs.Reading.{reading_of}
-use Rattle.answers.specs.Refusals.{Outcome, Meets, answer, not_aList, refused}
+use Rattle.answers.specs.Refusals.{Outcome, Meets, answer, not_a_list, refused}
 use Rattle.answers.specs.declared.Answer.{Answer}
 use Rattle.calls.specs.Records.{lent_of, note_on, note_out, record_out}
 use Rattle.calls.specs.Batch.{BatchLent, batch_on, batch_out}
 use Rattle.meaning.specs.declared.Reading.TheVariants.{NotAList}
 
 -- words that are no list
-pub refused_meets : {L : Type 0} {o : Outcome L} {lent : L} {r : Answer} → o ≡ refused not_aList lent → r ≡ answer 3 0 0 0 → Meets o r lent
+pub refused_meets : {L : Type 0} {o : Outcome L} {lent : L} {r : Answer} → o ≡ refused not_a_list lent → r ≡ answer 3 0 0 0 → Meets o r lent
 refused_meets {L} e q = record { answered = q ∙ sym (ap (λ (p : Outcome L). p.answered) e); left = sym (ap (λ (p : Outcome L). p.left) e) }
 
 -- a record on such words

@@ -1,6 +1,8 @@
 // The waiting list as a Rust host calls it: nine operations by number and slice, and a batch of calls. Each is a thin exported function: it checks that the
 // lent words are a list, refuses by number 3 if they are not, and calls the inner function of the crate of its name. No one has a
 // `requires`, and each contract is the whole outcome of the call (docs/REFERENCE.md): the four numbers, every word, the last number, and the bytes of a file.
+#![tactic(auto)]
+
 ghost use Rattle.answers.specs.Refusals.{Meets};
 ghost use Rattle.meaning.specs.Operations.{set_up_out, insert_out, find_out, finish_out, take_out, sweep_out};
 ghost use Rattle.calls.specs.Records.{lent_of, record_out};

@@ -15,13 +15,13 @@ use Rattle.settings.specs.Numbers.{in_range, is_key, length_of}
 use Rattle.settings.specs.Checked.{checked_of, settings_of}
 use Rattle.settings.specs.declared.Checked.TheVariants.{Accepted, OutOfRange}
 use Rattle.settings.specs.declared.Settings.{Settings}
-use Rattle.settings.proofs.Numbers.{key_in, key-out}
+use Rattle.settings.proofs.Numbers.{key_in, key_out}
 use Rattle.lists.proofs.Tests.{cond_has}
 use Rattle.meaning.specs.Row.{Node, place_of, node_at}
 use Rattle.meaning.specs.State.{State, position_key, places_of}
 use Rattle.meaning.specs.Picture.{picture}
 use Rattle.meaning.specs.Reading.{read, is_list, reading_of}
-use Rattle.answers.specs.Refusals.{Outcome, accepted, Refusal, out_of_range, wrong_length, not_aList, bad_key, key_live, no_free_cell, nothing_live}
+use Rattle.answers.specs.Refusals.{Outcome, accepted, Refusal, out_of_range, wrong_length, not_a_list, bad_key, key_live, no_free_cell, nothing_live}
 use Rattle.answers.specs.Refusals.{key_not_live, key_not_standing, refused, answer, Meets}
 use Rattle.answers.specs.declared.Answer.{Answer}
 use Rattle.meaning.specs.Operations.{on_list, on_key, looked, fresh, set_up_out, finished, with_row, links_moved, finish_at, finish_out, on_reading, set_up_by}
@@ -42,7 +42,7 @@ on_lists P f ws e = on_read_lists (λ s. P) f ws e
 
 -- Every operation but set up
 
-pub not_on_list : (ws : List ℕ) (act : State → Outcome (List ℕ)) → is_list ws ≡ false → on_list ws act ≡ refused not_aList ws
+pub not_on_list : (ws : List ℕ) (act : State → Outcome (List ℕ)) → is_list ws ≡ false → on_list ws act ≡ refused not_a_list ws
 unfolding on_list reading_of on_reading
 not_on_list ws act e = rw e refl
 
@@ -56,7 +56,7 @@ on_good_key ws s key done l h = rw (key_in l h) refl
 
 on_bad_key : (ws : List ℕ) (s : State) (key : ℕ) (done : Outcome (List ℕ)) → (1 ≤ key → s.settings.largest < key) → on_key ws s key done ≡ refused bad_key ws
 unfolding on_key
-on_bad_key ws s key done f = rw (key-out f) refl
+on_bad_key ws s key done f = rw (key_out f) refl
 
 on_picture_key : (s : State) → Sound s → (key : ℕ) (act : State → Outcome (List ℕ)) → 1 ≤ key → key ≤ s.settings.largest →
     on_list (picture s) (λ t. on_key (picture s) t key (act t)) ≡ act s
@@ -89,7 +89,7 @@ set_up_outcome D K C ws e l = rw (e, eq-eqb (length ws) (length_of D C) l, set_u
 
 -- Insert
 
-pub insert_outcome_not_a_list : (ws : List ℕ) (key value : ℕ) → is_list ws ≡ false → insert_out ws key value ≡ refused not_aList ws
+pub insert_outcome_not_a_list : (ws : List ℕ) (key value : ℕ) → is_list ws ≡ false → insert_out ws key value ≡ refused not_a_list ws
 unfolding insert_out
 insert_outcome_not_a_list ws key value e = not_on_list ws (λ s. on_key ws s key (insert_at ws s key value (node_at key s.row))) e
 
@@ -133,7 +133,7 @@ insert_outcome_new s v key value l h e room =
 
 -- Find
 
-pub find_outcome_not_a_list : (ws : List ℕ) (key : ℕ) → is_list ws ≡ false → find_out ws key ≡ refused not_aList ws
+pub find_outcome_not_a_list : (ws : List ℕ) (key : ℕ) → is_list ws ≡ false → find_out ws key ≡ refused not_a_list ws
 unfolding find_out
 find_outcome_not_a_list ws key e = not_on_list ws (λ s. on_key ws s key (find_at ws s key (node_at key s.row))) e
 
@@ -167,7 +167,7 @@ find_outcome_live s v key l h x e live =
 
 -- Finish
 
-pub finish_outcome_not_a_list : (ws : List ℕ) (key : ℕ) → is_list ws ≡ false → finish_out ws key ≡ refused not_aList ws
+pub finish_outcome_not_a_list : (ws : List ℕ) (key : ℕ) → is_list ws ≡ false → finish_out ws key ≡ refused not_a_list ws
 unfolding finish_out
 finish_outcome_not_a_list ws key e = not_on_list ws (λ s. on_key ws s key (finish_at ws s key (node_at key s.row))) e
 
@@ -193,7 +193,7 @@ finish_outcome_standing s v key l h x e = finish_outcome s v key l h ∙ ap (fin
 
 -- Take
 
-pub take_outcome_not_a_list : (ws : List ℕ) → is_list ws ≡ false → take_out ws ≡ refused not_aList ws
+pub take_outcome_not_a_list : (ws : List ℕ) → is_list ws ≡ false → take_out ws ≡ refused not_a_list ws
 unfolding take_out
 take_outcome_not_a_list ws e = not_on_list ws (λ s. take_from ws s (from_live s.row)) e
 
@@ -213,7 +213,7 @@ take_outcome_first s v x later e = take_outcome s v ∙ ap (take_from (picture s
 
 -- Sweep
 
-pub sweep_outcome_not_a_list : (ws : List ℕ) → is_list ws ≡ false → sweep_out ws ≡ refused not_aList ws
+pub sweep_outcome_not_a_list : (ws : List ℕ) → is_list ws ≡ false → sweep_out ws ≡ refused not_a_list ws
 unfolding sweep_out
 sweep_outcome_not_a_list ws e = not_on_list ws (λ s. accepted 0 0 (length (freed_by s.row)) (picture (swept s))) e
 
@@ -223,7 +223,7 @@ sweep_outcome s v = on_picture s v (λ s. accepted 0 0 (length (freed_by s.row))
 
 -- What holds of each end of an operation, on any words, holds of its outcome
 
-on_list-has : (P : Outcome (List ℕ) → Type 0) (ws : List ℕ) (act : State → Outcome (List ℕ)) → P (refused not_aList ws) → ((s : State) → P (act s)) →
+on_list-has : (P : Outcome (List ℕ) → Type 0) (ws : List ℕ) (act : State → Outcome (List ℕ)) → P (refused not_a_list ws) → ((s : State) → P (act s)) →
     P (on_list ws act)
 unfolding on_list on_reading
 on_list-has P ws act p q = at (reading_of ws)
@@ -239,9 +239,9 @@ on_key-has P ws s key done p q = cond_has P (leb 1 key && leb key s.settings.lar
 
 -- P holds of every refusal of the words, and of what each operation accepts
 module _ (P : Outcome (List ℕ) → Type 0) (ws : List ℕ) (turned : (r : Refusal) → P (refused r ws)) where
-  pub set-up-has : (D K C : ℕ) → P (accepted 0 0 0 (picture (fresh D K C))) → P (set_up_out D K C ws)
+  pub set_up_has : (D K C : ℕ) → P (accepted 0 0 0 (picture (fresh D K C))) → P (set_up_out D K C ws)
   unfolding set_up_out checked_of set_up_by
-  set-up-has D K C done = at (in_range D K C)
+  set_up_has D K C done = at (in_range D K C)
     where
       by : (u : Bool) → P (elim u [ true ↦ accepted 0 0 0 (picture (fresh D K C)) | false ↦ refused wrong_length ws ])
       by true = done
@@ -251,51 +251,51 @@ module _ (P : Outcome (List ℕ) → Type 0) (ws : List ℕ) (turned : (r : Refu
       at true = by (eqb (length ws) (length_of D C))
       at false = turned out_of_range
 
-  keyed-has : (key : ℕ) (act : State → Outcome (List ℕ)) → ((s : State) → P (act s)) → P (on_list ws (λ s. on_key ws s key (act s)))
-  keyed-has key act done = on_list-has P ws (λ s. on_key ws s key (act s)) (turned not_aList) (λ s. on_key-has P ws s key (act s) (turned bad_key) (done s))
+  keyed_has : (key : ℕ) (act : State → Outcome (List ℕ)) → ((s : State) → P (act s)) → P (on_list ws (λ s. on_key ws s key (act s)))
+  keyed_has key act done = on_list-has P ws (λ s. on_key ws s key (act s)) (turned not_a_list) (λ s. on_key-has P ws s key (act s) (turned bad_key) (done s))
 
-  pub insert-has : (key value : ℕ) → ((count : ℕ) (s : State) → P (accepted key 0 count (picture s))) → P (insert_out ws key value)
+  pub insert_has : (key value : ℕ) → ((count : ℕ) (s : State) → P (accepted key 0 count (picture s))) → P (insert_out ws key value)
   unfolding insert_out insert_at insert_new
-  insert-has key value done = keyed-has key (λ s. insert_at ws s key value (node_at key s.row)) (λ s. at s (node_at key s.row))
+  insert_has key value done = keyed_has key (λ s. insert_at ws s key value (node_at key s.row)) (λ s. at s (node_at key s.row))
     where
       at : (s : State) (o : Option Node) → P (insert_at ws s key value o)
       at s none =
           cond_has P (eqb (length s.free) 0) _ _ (turned (no_free_cell key (looked s key))) (done (looked s key) (added s key value (slot_for s key)))
       at s (some x) = cond_has P x.live _ _ (turned (key_live key (looked s key))) (done (looked s key) (revived s x value))
 
-  pub find-has : (key : ℕ) → ((value count : ℕ) → P (accepted key value count ws)) → P (find_out ws key)
+  pub find_has : (key : ℕ) → ((value count : ℕ) → P (accepted key value count ws)) → P (find_out ws key)
   unfolding find_out find_at
-  find-has key done = keyed-has key (λ s. find_at ws s key (node_at key s.row)) (λ s. at s (node_at key s.row))
+  find_has key done = keyed_has key (λ s. find_at ws s key (node_at key s.row)) (λ s. at s (node_at key s.row))
     where
       at : (s : State) (o : Option Node) → P (find_at ws s key o)
       at s none = turned (key_not_live key (looked s key))
       at s (some x) = cond_has P x.live _ _ (done x.value (looked s key)) (turned (key_not_live key (looked s key)))
 
-  pub finish-has : (key : ℕ) → ((count : ℕ) (s : State) → P (accepted key 0 count (picture s))) → P (finish_out ws key)
+  pub finish_has : (key : ℕ) → ((count : ℕ) (s : State) → P (accepted key 0 count (picture s))) → P (finish_out ws key)
   unfolding finish_out finish_at
-  finish-has key done = keyed-has key (λ s. finish_at ws s key (node_at key s.row)) (λ s. at s (node_at key s.row))
+  finish_has key done = keyed_has key (λ s. finish_at ws s key (node_at key s.row)) (λ s. at s (node_at key s.row))
     where
       at : (s : State) (o : Option Node) → P (finish_at ws s key o)
       at s none = turned (key_not_standing key)
       at s (some x) = done (links_moved s (place_of x.cell (places_of s s.row))) (with_row s (finished x.cell s.row))
 
-  pub take-has : ((key value count : ℕ) (s : State) → P (accepted key value count (picture s))) → P (take_out ws)
+  pub take_has : ((key value count : ℕ) (s : State) → P (accepted key value count (picture s))) → P (take_out ws)
   unfolding take_out take_from
-  take-has done = on_list-has P ws (λ s. take_from ws s (from_live s.row)) (turned not_aList) (λ s. at s (from_live s.row))
+  take_has done = on_list-has P ws (λ s. take_from ws s (from_live s.row)) (turned not_a_list) (λ s. at s (from_live s.row))
     where
       at : (s : State) (row : List Node) → P (take_from ws s row)
       at s [] = turned (nothing_live (keys_above (position_key s) s.row))
       at s (x ∷ later) = done x.key x.value (keys_passed (position_key s) x.key s.row) (taken s x)
 
-  pub sweep-has : ((count : ℕ) (s : State) → P (accepted 0 0 count (picture s))) → P (sweep_out ws)
+  pub sweep_has : ((count : ℕ) (s : State) → P (accepted 0 0 count (picture s))) → P (sweep_out ws)
   unfolding sweep_out
-  sweep-has done =
-      on_list-has P ws (λ s. accepted 0 0 (length (freed_by s.row)) (picture (swept s))) (turned not_aList)
+  sweep_has done =
+      on_list-has P ws (λ s. accepted 0 0 (length (freed_by s.row)) (picture (swept s))) (turned not_a_list)
       (λ s. done (length (freed_by s.row)) (swept s))
 
 -- a find writes nothing
 pub find_writes_nothing : (ws : List ℕ) (key : ℕ) → (find_out ws key).left ≡ ws
-find_writes_nothing ws key = find-has (λ o. o.left ≡ ws) ws (λ r. refl) key (λ value count. refl)
+find_writes_nothing ws key = find_has (λ o. o.left ≡ ws) ws (λ r. refl) key (λ value count. refl)
 
 -- A key is out of range, or absent, or a node's.
 pub key_cases : {R : Type 0} (s : State) (key : ℕ) → ((1 ≤ key → s.settings.largest < key) → R) →

@@ -37,7 +37,7 @@ use Rattle.meaning.proofs.Promised.FallsBack as back
 use Rattle.meaning.proofs.Promised.Serves as serves
 use Rattle.meaning.proofs.Promised.Present as present
 use Rattle.meaning.proofs.Walks.Walk as walks
-use Rattle.meaning.proofs.Walks.Walk.{trail-ends, trail_more, walk-looked}
+use Rattle.meaning.proofs.Walks.Walk.{trail_ends, trail_more, walk_looked}
 use Rattle.meaning.proofs.BothWays.Converse.{list_exactly_if}
 use Rattle.meaning.proofs.BothWays.ShapeByKeys.{keys_alike, links_by_keys}
 
@@ -81,7 +81,7 @@ walk_ends =
     on_lists
     (λ ws. (k : ℕ) → 1 ≤ k → k ≤ largest_at ws
     → (ends (trail ws k) ≡ true) × ((fuel : ℕ) → dimensions_at ws * base_at ws ≤ fuel → trail_from fuel ws k 0 0 ≡ trail ws k))
-    (λ s v k h l. (trail-ends s v k h l, trail_more s v k h l))
+    (λ s v k h l. (trail_ends s v k h l, trail_more s v k h l))
 
 -- the base of a list follows from its dimensions and its largest key
 list_base : (ws : List ℕ) → is_list ws ≡ true → base_at ws ≡ base_of (dimensions_at ws) (largest_at ws)
@@ -156,7 +156,7 @@ find_counts s v key e =
 looks : (s : State) (v : Sound s) (key : ℕ) (o : Outcome (List ℕ)) → Counts s key o → Looks (picture s) key o.answered.count
 unfolding picture
 looks s v key o c =
-    let n = walk-looked s v key c.least c.most in
+    let n = walk_looked s v key c.least c.most in
     record {
       walked = c.count ∙ sym n;
       ruled = walk_is_rule (picture s) (picture_is_list s v) key c.least c.most;

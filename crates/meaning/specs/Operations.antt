@@ -13,7 +13,7 @@ use Rattle.meaning.specs.Row.{Node, last_of, Place, settled_link, low, high, pla
 use Rattle.meaning.specs.State.{State, key_of, position_key, places_of}
 use Rattle.meaning.specs.Picture.{picture}
 use Rattle.meaning.specs.Reading.{read, reading_of}
-use Rattle.answers.specs.Refusals.{Outcome, accepted, out_of_range, wrong_length, not_aList, bad_key, key_live, no_free_cell, nothing_live, key_not_live}
+use Rattle.answers.specs.Refusals.{Outcome, accepted, out_of_range, wrong_length, not_a_list, bad_key, key_live, no_free_cell, nothing_live, key_not_live}
 use Rattle.answers.specs.Refusals.{key_not_standing, refused}
 use Rattle.answers.specs.declared.Operation.{Operation}
 use Rattle.answers.specs.declared.Operation.TheVariants.{Insert, Find, Finish, Take, Sweep}
@@ -25,7 +25,7 @@ use Rattle.meaning.specs.declared.Slot.{Slot}
 -- Refusal 3: the buffer is not a list. It goes by what the words are read as.
 unfoldable pub on_reading : List ℕ → (State → Outcome (List ℕ)) → Reading → Outcome (List ℕ)
 on_reading ws act (IsList s) = act (read ws)
-on_reading ws act NotAList = refused not_aList ws
+on_reading ws act NotAList = refused not_a_list ws
 
 unfoldable pub on_list : List ℕ → (State → Outcome (List ℕ)) → Outcome (List ℕ)
 on_list ws act = on_reading ws act (reading_of ws)

@@ -1,16 +1,18 @@
 // The types that the definitions and the code share: what a buffer is read as, one step of the walk, where it comes to rest, and the slot of a
 // new cell.
+#![tactic(auto)]
+
 use settings::Settings;
 
 // What a buffer is read as: a list with its settings, or none, which is refused by number 3.
-#[derive(Drop)]
+#[derive(Clone, Copy)]
 pub enum Reading {
     IsList(Settings),
     NotAList,
 }
 
 // One step of the walk, from a cell and a coordinate: along the cell's link to a cell, up by one coordinate, or the walk's end.
-#[derive(Drop)]
+#[derive(Clone, Copy)]
 pub enum Step {
     Go(u32),
     Up,
@@ -19,7 +21,7 @@ pub enum Step {
 
 // Where the walk comes to rest: the cell that its last move went from and the number of that link, the cell and the coordinate at hand,
 // and how many cells it has gone to.
-#[derive(Drop)]
+#[derive(Clone, Copy)]
 pub struct Rest {
     pub from: u32,
     pub number: u32,
@@ -29,7 +31,7 @@ pub struct Rest {
 }
 
 // The slot of a new cell n: link p of its parent; the cell c that had it before, 0 if none had, becomes link q of n.
-#[derive(Drop)]
+#[derive(Clone, Copy)]
 pub struct Slot {
     pub n: u32,
     pub parent: u32,

@@ -73,18 +73,18 @@ new_links-length D q c = at (eqb c 0)
 -- the part from `start` to `end` that holds the links of cell n
 module _ {ws : List ℕ} {s : Settings} (h : Shaped ws s) {n : ℕ} (cell : n < s.cells) {start end : ℕ}
     (from : start ≡ word_index s.dimensions n (link_field 0)) (to : end ≡ start + s.dimensions) where
-  pub links-inside : end ≤ length ws
-  links-inside = omega (arith, part_inside h cell (link_field 0) s.dimensions (omega arith))
+  pub links_inside : end ≤ length ws
+  links_inside = omega (arith, part_inside h cell (link_field 0) s.dimensions (omega arith))
 
-  pub links-long : length (mid_of start (end - start) ws) ≡ s.dimensions
-  links-long = omega (arith, mid_len start end ws links-inside)
+  pub links_long : length (mid_of start (end - start) ws) ≡ s.dimensions
+  links_long = omega (arith, mid_len start end ws links_inside)
 
-  pub links-written : (q c : ℕ) {ys : List ℕ} → ys ≡ new_links (length (mid_of start (end - start) ws)) q c →
+  pub links_written : (q c : ℕ) {ys : List ℕ} → ys ≡ new_links (length (mid_of start (end - start) ws)) q c →
       put_mid start (end - start) ws ys ≡ sets ws (word_index s.dimensions n (link_field 0)) (new_links s.dimensions q c)
-  links-written q c is =
+  links_written q c is =
       let D = s.dimensions in
-      let same = is ∙ ap (λ m. new_links m q c) links-long in
-      rw same (part_written ws (new_links D q c) D n (link_field 0) D from to links-inside (new_links-length D q c))
+      let same = is ∙ ap (λ m. new_links m q c) links_long in
+      rw same (part_written ws (new_links D q c) D n (link_field 0) D from to links_inside (new_links-length D q c))
 
 -- A cell
 

@@ -1,4 +1,6 @@
 // The words of a new cell: its six fields before the links, with what it owes; its links.
+#![tactic(auto)]
+
 ghost use Rattle.std.specs.Prelude.{◌≡◌, [], ◌∷◌, ◌<◌, length};
 ghost use Rattle.std.proofs.lemmas.List.Edits.{sets};
 ghost use Rattle.meaning.specs.Words.{word_index, link_field};

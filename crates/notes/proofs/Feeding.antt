@@ -7,7 +7,7 @@ use Prim.Native.Nat.{ℕ}
 use lib.Dec.{eqb}
 use Rattle.text.specs.Lines.{line_feed}
 use Rattle.text.specs.Parts.{after_all, given_by_all, begun_after_part, handed_by_part, handed_by_whole}
-use Rattle.text.proofs.Parts.{after-append, parts_join}
+use Rattle.text.proofs.Parts.{after_append, parts_join}
 use Rattle.records.specs.Grammar.{quote, carriage_return}
 use Rattle.notes.specs.Notes.{note_by}
 use Rattle.notes.specs.Reader.{reader_from, reader_on, reader_after, note_at}
@@ -88,7 +88,7 @@ begun_more (b ∷ begun) byte = refl
 
 reader_more : (begun : List ℕ) (byte : ℕ) → reader_after reader_from (begun ++ (byte ∷ [])) ≡ reader_on (reader_after reader_from begun) byte
 unfolding after_all
-reader_more begun byte = after-append reader_on reader_from begun (byte ∷ [])
+reader_more begun byte = after_append reader_on reader_from begun (byte ∷ [])
 
 nothing_begun : (begun : List ℕ) → (feed_of begun).begun ≡ false → handed_at_end begun ≡ []
 unfolding feed_of handed_at_end
@@ -97,7 +97,7 @@ nothing_begun (b ∷ begun) e = cc
 
 -- what a feed says of the record begun
 module _ (begun : List ℕ) (byte : ℕ) where
-  pub feed-more :
+  pub feed_more :
       feed_of (begun ++ (byte ∷ [])) ≡ record {
         reader = reader_on (feed_of begun).reader byte;
         even = cond (eqb byte quote) (not (feed_of begun).even) (feed_of begun).even;
@@ -105,78 +105,78 @@ module _ (begun : List ℕ) (byte : ℕ) where
         begun = true;
       }
   unfolding feed_of
-  feed-more = rw (reader_more begun byte, even_more begun byte, return_more begun byte, begun_more begun byte) refl
+  feed_more = rw (reader_more begun byte, even_more begun byte, return_more begun byte, begun_more begun byte) refl
 
-  pub feed-closes : closes begun byte ≡ eqb byte line_feed && ((feed_of begun).returned && (feed_of begun).even)
+  pub feed_closes : closes begun byte ≡ eqb byte line_feed && ((feed_of begun).returned && (feed_of begun).even)
   unfolding feed_of
-  feed-closes = refl
+  feed_closes = refl
 
-  feed-closing :
+  feed_closing :
       {feed : Feed} {t : Bool} → feed ≡ feed_of begun → eqb byte line_feed && (feed.returned && feed.even) ≡ t → closes begun byte ≡ t
-  feed-closing is test = feed-closes ∙ (ap (λ (f : Feed). eqb byte line_feed && (f.returned && f.even)) (sym is) ∙ test)
+  feed_closing is test = feed_closes ∙ (ap (λ (f : Feed). eqb byte line_feed && (f.returned && f.even)) (sym is) ∙ test)
 
-  pub note-more : note_at (reader_on (feed_of begun).reader byte) ≡ note_by (begun ++ (byte ∷ []))
+  pub note_more : note_at (reader_on (feed_of begun).reader byte) ≡ note_by (begun ++ (byte ∷ []))
   unfolding feed_of
-  note-more = sym (ap note_at (reader_more begun byte)) ∙ reader_notes (begun ++ (byte ∷ []))
+  note_more = sym (ap note_at (reader_more begun byte)) ∙ reader_notes (begun ++ (byte ∷ []))
 
   -- a byte that closes the record
-  pub closed-begun : closes begun byte ≡ true → begun_after begun byte ≡ []
+  pub closed_begun : closes begun byte ≡ true → begun_after begun byte ≡ []
   unfolding begun_after
-  closed-begun e = rw e refl
+  closed_begun e = rw e refl
 
-  pub closed-hands : closes begun byte ≡ true → handed_by begun byte ≡ note_by (begun ++ (byte ∷ [])) ∷ []
+  pub closed_hands : closes begun byte ≡ true → handed_by begun byte ≡ note_by (begun ++ (byte ∷ [])) ∷ []
   unfolding handed_by
-  closed-hands e = rw e refl
+  closed_hands e = rw e refl
 
   -- .. and one that does not
-  pub open-begun : closes begun byte ≡ false → begun_after begun byte ≡ begun ++ (byte ∷ [])
+  pub open_begun : closes begun byte ≡ false → begun_after begun byte ≡ begun ++ (byte ∷ [])
   unfolding begun_after
-  open-begun e = rw e refl
+  open_begun e = rw e refl
 
-  pub open-hands : closes begun byte ≡ false → handed_by begun byte ≡ []
+  pub open_hands : closes begun byte ≡ false → handed_by begun byte ≡ []
   unfolding handed_by
-  open-hands e = rw e refl
+  open_hands e = rw e refl
 
 -- The feed's functions, case by case of their tests.
 
 module _ {feed : Feed} {byte : ℕ} {reader : Reader} where
-  pub steps-closed :
+  pub steps_closed :
       {logged : Logged} {next : Feed} → eqb byte line_feed && (feed.returned && feed.even) ≡ true → reader ≡ reader_on feed.reader byte →
       next ≡ feed_of [] → logged ≡ note_at reader → Stepped feed byte (record { feed = next; told = Record logged })
-  steps-closed test read starts notes =
+  steps_closed test read starts notes =
       record {
-        begun = λ begun is. starts ∙ ap feed_of (sym (closed-begun begun byte (feed-closing begun byte is test)));
+        begun = λ begun is. starts ∙ ap feed_of (sym (closed_begun begun byte (feed_closing begun byte is test)));
         told = λ begun is.
             let same = read ∙ ap (λ (f : Feed). reader_on f.reader byte) is in
-            ap (λ (l : Logged). l ∷ []) (notes ∙ (ap note_at same ∙ note-more begun byte)) ∙
-            sym (closed-hands begun byte (feed-closing begun byte is test));
+            ap (λ (l : Logged). l ∷ []) (notes ∙ (ap note_at same ∙ note_more begun byte)) ∙
+            sym (closed_hands begun byte (feed_closing begun byte is test));
       }
 
-  pub steps-open :
+  pub steps_open :
       {even : Bool} → eqb byte line_feed && (feed.returned && feed.even) ≡ false → reader ≡ reader_on feed.reader byte →
       even ≡ cond (eqb byte quote) (not feed.even) feed.even →
       Stepped feed byte (record {
         feed = record { reader = reader; even = even; returned = eqb byte carriage_return; begun = true };
         told = NoRecord;
       })
-  steps-open test read evens =
+  steps_open test read evens =
       record {
         begun = λ begun is.
-            rw (read, evens, is) (sym (ap feed_of (open-begun begun byte (feed-closing begun byte is test)) ∙ feed-more begun byte));
-        told = λ begun is. sym (open-hands begun byte (feed-closing begun byte is test));
+            rw (read, evens, is) (sym (ap feed_of (open_begun begun byte (feed_closing begun byte is test)) ∙ feed_more begun byte));
+        told = λ begun is. sym (open_hands begun byte (feed_closing begun byte is test));
       }
 
 module _ {feed : Feed} where
-  pub begun-ends : {logged : Logged} → feed.begun ≡ true → logged ≡ note_at feed.reader → FeedEnded feed (Record logged)
+  pub begun_ends : {logged : Logged} → feed.begun ≡ true → logged ≡ note_at feed.reader → FeedEnded feed (Record logged)
   unfolding feed_of handed_at_end
-  begun-ends {logged} some notes = record { told = at }
+  begun_ends {logged} some notes = record { told = at }
     where
       at : (begun : List ℕ) → feed ≡ feed_of begun → logged ∷ [] ≡ handed_at_end begun
       at [] is = let never : true ≡ false = sym some ∙ ap (λ (f : Feed). f.begun) is in cc
       at (b ∷ begun) is = ap (λ (l : Logged). l ∷ []) (notes ∙ (ap (λ (f : Feed). note_at f.reader) is ∙ reader_notes (b ∷ begun)))
 
-  pub none-ends : feed.begun ≡ false → FeedEnded feed NoRecord
-  none-ends none = record { told = λ begun is. sym (nothing_begun begun (ap (λ (f : Feed). f.begun) (sym is) ∙ none)) }
+  pub none_ends : feed.begun ≡ false → FeedEnded feed NoRecord
+  none_ends none = record { told = λ begun is. sym (nothing_begun begun (ap (λ (f : Feed). f.begun) (sym is) ∙ none)) }
 
 -- `feed_byte` was called with each byte of an export, one after the other, and then `finish`; `told` is what they told of, in order.
 pub data Run : Feed → List ℕ → List Logged → Type 0 where

@@ -10,7 +10,7 @@ use Rattle.text.specs.Answers.{digit_on, digits_on, ended_at, number_of}
 use Rattle.text.specs.declared.fields.Begun.{Begun}
 use Rattle.text.specs.declared.fields.Begun.TheVariants.{NoDigit}
 use Rattle.text.specs.declared.fields.Numeral.TheVariants.{Value, Unreadable}
-use Rattle.text.proofs.Numerals.{number-by-digits, number-within}
+use Rattle.text.proofs.Numerals.{number_by_digits, number_within}
 use Rattle.entries.specs.Entries.{least_class, most_class, least_unit, most_unit, least_serial, most_serial, is_class, is_unit, is_serial, entry_of, entry}
 use Rattle.entries.specs.declared.Entry.{Entry}
 use Rattle.entries.proofs.Ranges.{entry_in_range}
@@ -135,7 +135,7 @@ past_number :
     note_from (past (ended_at least (digits_on most NoDigit field)) place) values ≡
     cond (is_number least most field) (note_from (place (decimal_from 0 field)) values) NoNote
 unfolding number_of
-past_number least most field place values = rw (number-by-digits least most field) (at (is_number least most field))
+past_number least most field place values = rw (number_by_digits least most field) (at (is_number least most field))
   where
     at :
         (t : Bool) →
@@ -145,38 +145,38 @@ past_number least most field place values = rw (number-by-digits least most fiel
     at false = no_place values
 
 module _ (next : List ℕ) (values : List (List ℕ)) where
-  past-class :
+  past_class :
       (class : List ℕ) →
       note_from (AtClass NoDigit) (class ∷ next ∷ values) ≡
       cond (is_class class) (note_from (AtUnit (decimal_from 0 class) NoDigit) (next ∷ values)) NoNote
   unfolding note_from place_after
-  past-class class =
+  past_class class =
       rw (class_over NoDigit class) (past_number least_class most_class class (λ n. AtUnit n NoDigit) (next ∷ values))
 
-  past-unit :
+  past_unit :
       (class : ℕ) (unit : List ℕ) →
       note_from (AtUnit class NoDigit) (unit ∷ next ∷ values) ≡
       cond (is_unit unit) (note_from (AtSerial class (decimal_from 0 unit) NoDigit) (next ∷ values)) NoNote
   unfolding note_from place_after
-  past-unit class unit =
+  past_unit class unit =
       rw (unit_over class NoDigit unit) (past_number least_unit most_unit unit (λ n. AtSerial class n NoDigit) (next ∷ values))
 
-  past-serial :
+  past_serial :
       (class unit : ℕ) (serial : List ℕ) →
       note_from (AtSerial class unit NoDigit) (serial ∷ next ∷ values) ≡
       cond (is_serial serial) (note_from (AtText (entry_of class unit (decimal_from 0 serial))) (next ∷ values)) NoNote
   unfolding note_from place_after
-  past-serial class unit serial =
+  past_serial class unit serial =
       rw (serial_over class unit NoDigit serial)
       (past_number least_serial most_serial serial (λ n. AtText (entry_of class unit n)) (next ∷ values))
 
-  past-text : (e : Entry) (text : List ℕ) → note_from (AtText e) (text ∷ next ∷ values) ≡ note_from (AtNumber e NoDigit) (next ∷ values)
+  past_text : (e : Entry) (text : List ℕ) → note_from (AtText e) (text ∷ next ∷ values) ≡ note_from (AtNumber e NoDigit) (next ∷ values)
   unfolding note_from place_after
-  past-text e text = rw (text_over e text) refl
+  past_text e text = rw (text_over e text) refl
 
-  past-fifth : (e : Entry) (number : List ℕ) → note_from (AtNumber e NoDigit) (number ∷ next ∷ values) ≡ NoNote
+  past_fifth : (e : Entry) (number : List ℕ) → note_from (AtNumber e NoDigit) (number ∷ next ∷ values) ≡ NoNote
   unfolding note_from place_after
-  past-fifth e number = rw (number_over e NoDigit number) (no_place (next ∷ values))
+  past_fifth e number = rw (number_over e NoDigit number) (no_place (next ∷ values))
 
 -- the fifth field
 last_number :
@@ -184,7 +184,7 @@ last_number :
     note_from (AtNumber e NoDigit) (number ∷ []) ≡ cond (is_logger_number number) (Note e (decimal_from 0 number)) NoNote
 unfolding note_from note_in number_of
 last_number e number =
-    rw (number_over e NoDigit number, number-by-digits least_number most_number number) (at (is_logger_number number))
+    rw (number_over e NoDigit number, number_by_digits least_number most_number number) (at (is_logger_number number))
   where
     at : (t : Bool) → numbered e (cond t (Value (decimal_from 0 number)) Unreadable) ≡ cond t (Note e (decimal_from 0 number)) NoNote
     at true = refl
@@ -192,21 +192,21 @@ last_number e number =
 
 -- a field before it that is the last one
 module _ (field : List ℕ) where
-  last-class : note_from (AtClass NoDigit) (field ∷ []) ≡ NoNote
+  last_class : note_from (AtClass NoDigit) (field ∷ []) ≡ NoNote
   unfolding note_from note_in
-  last-class = rw (class_over NoDigit field) refl
+  last_class = rw (class_over NoDigit field) refl
 
-  last-unit : (class : ℕ) → note_from (AtUnit class NoDigit) (field ∷ []) ≡ NoNote
+  last_unit : (class : ℕ) → note_from (AtUnit class NoDigit) (field ∷ []) ≡ NoNote
   unfolding note_from note_in
-  last-unit class = rw (unit_over class NoDigit field) refl
+  last_unit class = rw (unit_over class NoDigit field) refl
 
-  last-serial : (class unit : ℕ) → note_from (AtSerial class unit NoDigit) (field ∷ []) ≡ NoNote
+  last_serial : (class unit : ℕ) → note_from (AtSerial class unit NoDigit) (field ∷ []) ≡ NoNote
   unfolding note_from note_in
-  last-serial class unit = rw (serial_over class unit NoDigit field) refl
+  last_serial class unit = rw (serial_over class unit NoDigit field) refl
 
-  last-text : (e : Entry) → note_from (AtText e) (field ∷ []) ≡ NoNote
+  last_text : (e : Entry) → note_from (AtText e) (field ∷ []) ≡ NoNote
   unfolding note_from note_in
-  last-text e = rw (text_over e field) refl
+  last_text e = rw (text_over e field) refl
 
 either : (t : Bool) → cond t NoNote NoNote ≡ NoNote
 either true = refl
@@ -219,40 +219,40 @@ both false u x = refl
 from_the_first : (values : List (List ℕ)) → note_from (AtClass NoDigit) values ≡ five_fields values
 unfolding note_from five_fields
 from_the_first [] = refl
-from_the_first (class ∷ []) = last-class class
-from_the_first (class ∷ unit ∷ []) = past-class unit [] class ∙ rw (last-unit unit (decimal_from 0 class)) (either (is_class class))
+from_the_first (class ∷ []) = last_class class
+from_the_first (class ∷ unit ∷ []) = past_class unit [] class ∙ rw (last_unit unit (decimal_from 0 class)) (either (is_class class))
 from_the_first (class ∷ unit ∷ serial ∷ []) =
-    past-class unit (serial ∷ []) class ∙
-    rw (past-unit serial [] (decimal_from 0 class) unit, last-serial serial (decimal_from 0 class) (decimal_from 0 unit), either (is_unit unit))
+    past_class unit (serial ∷ []) class ∙
+    rw (past_unit serial [] (decimal_from 0 class) unit, last_serial serial (decimal_from 0 class) (decimal_from 0 unit), either (is_unit unit))
     (either (is_class class))
 from_the_first (class ∷ unit ∷ serial ∷ text ∷ []) =
-    past-class unit (serial ∷ text ∷ []) class ∙
+    past_class unit (serial ∷ text ∷ []) class ∙
     rw (
-      past-unit serial (text ∷ []) (decimal_from 0 class) unit,
-      past-serial text [] (decimal_from 0 class) (decimal_from 0 unit) serial,
-      last-text text (entry class unit serial),
+      past_unit serial (text ∷ []) (decimal_from 0 class) unit,
+      past_serial text [] (decimal_from 0 class) (decimal_from 0 unit) serial,
+      last_text text (entry class unit serial),
       either (is_serial serial),
       either (is_unit unit),
     )
     (either (is_class class))
 from_the_first (class ∷ unit ∷ serial ∷ text ∷ number ∷ []) =
-    past-class unit (serial ∷ text ∷ number ∷ []) class ∙
+    past_class unit (serial ∷ text ∷ number ∷ []) class ∙
     rw (
-      past-unit serial (text ∷ number ∷ []) (decimal_from 0 class) unit,
-      past-serial text (number ∷ []) (decimal_from 0 class) (decimal_from 0 unit) serial,
-      past-text number [] (entry class unit serial) text,
+      past_unit serial (text ∷ number ∷ []) (decimal_from 0 class) unit,
+      past_serial text (number ∷ []) (decimal_from 0 class) (decimal_from 0 unit) serial,
+      past_text number [] (entry class unit serial) text,
       last_number (entry class unit serial) number,
       both (is_serial serial) (is_logger_number number) (Note (entry class unit serial) (decimal_from 0 number)),
       both (is_unit unit) (is_serial serial && is_logger_number number) (Note (entry class unit serial) (decimal_from 0 number)),
     )
     (both (is_class class) (is_unit unit && (is_serial serial && is_logger_number number)) (Note (entry class unit serial) (decimal_from 0 number)))
 from_the_first (class ∷ unit ∷ serial ∷ text ∷ number ∷ further ∷ values) =
-    past-class unit (serial ∷ text ∷ number ∷ further ∷ values) class ∙
+    past_class unit (serial ∷ text ∷ number ∷ further ∷ values) class ∙
     rw (
-      past-unit serial (text ∷ number ∷ further ∷ values) (decimal_from 0 class) unit,
-      past-serial text (number ∷ further ∷ values) (decimal_from 0 class) (decimal_from 0 unit) serial,
-      past-text number (further ∷ values) (entry class unit serial) text,
-      past-fifth further values (entry class unit serial) number,
+      past_unit serial (text ∷ number ∷ further ∷ values) (decimal_from 0 class) unit,
+      past_serial text (number ∷ further ∷ values) (decimal_from 0 class) (decimal_from 0 unit) serial,
+      past_text number (further ∷ values) (entry class unit serial) text,
+      past_fifth further values (entry class unit serial) number,
       either (is_serial serial),
       either (is_unit unit),
     )
@@ -290,7 +290,7 @@ five_within (class ∷ unit ∷ serial ∷ text ∷ number ∷ []) =
     both_within (is_serial serial) (is_logger_number number) _ (λ s.
     one_within (is_logger_number number) _ (λ n. record {
       entry = entry_in_range class unit serial c u s;
-      number = (number-within least_number most_number number {n = decimal_from 0 number} (rw n refl)).1;
+      number = (number_within least_number most_number number {n = decimal_from 0 number} (rw n refl)).1;
     }))))
 five_within (class ∷ unit ∷ serial ∷ text ∷ number ∷ further ∷ values) = tt
 

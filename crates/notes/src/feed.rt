@@ -9,7 +9,7 @@ use super::{Logged, Reader};
 
 // The record begun: how far it is read, whether it has an even number of quotes, whether its last byte is a carriage return, and whether it
 // has any byte.
-#[derive(Drop)]
+#[derive(Clone, Copy)]
 pub struct Feed {
     pub reader: Reader,
     pub even: bool,
@@ -18,14 +18,14 @@ pub struct Feed {
 }
 
 // What a byte, or the end of the export, ends: no record, or a record that notes this.
-#[derive(Drop)]
+#[derive(Clone, Copy)]
 pub enum Told {
     NoRecord,
     Record(Logged),
 }
 
 // What one byte leads to: the feed for the next byte, and what it ends.
-#[derive(Drop)]
+#[derive(Clone, Copy)]
 pub struct Fed {
     pub feed: Feed,
     pub told: Told,

@@ -1,5 +1,7 @@
 // What a record notes: its five fields, read byte by byte with what is known so far as a value. So a record may have any length, and no byte
 // of it is kept.
+#![tactic(auto)]
+
 pub mod feed; // feed.rt: the records of an export, out of bytes that come in parts
 
 ghost use Rattle.std.specs.Prelude.{◌≡◌};
@@ -12,14 +14,14 @@ use records::{Adds, Stand};
 use text::fields::{Begun, Numeral};
 
 // What a record notes: an entry and the logger's number; or nothing, since it breaks the grammar or a field's range.
-#[derive(Drop)]
+#[derive(Clone, Copy)]
 pub enum Logged {
     Note(Entry, u32),
     NoNote,
 }
 
 // The field that the reading is in, with what the fields before it said and what is known of its own number.
-#[derive(Drop)]
+#[derive(Clone, Copy)]
 pub enum Place {
     AtClass(Begun),
     // class
@@ -32,7 +34,7 @@ pub enum Place {
     NoPlace,
 }
 
-#[derive(Drop)]
+#[derive(Clone, Copy)]
 pub struct Reader {
     pub stand: Stand,
     pub place: Place,

@@ -1,5 +1,7 @@
 // Any of the five operations on a list that has been checked once. It takes a list to a list with the same settings, so the next one needs no
 // check: batches and programs make their calls through it.
+#![tactic(auto)]
+
 ghost use Rattle.settings.specs.Levels.{PowersOf};
 ghost use Rattle.meaning.specs.Layer.Listed.{Listed};
 ghost use Rattle.operate.specs.Operated.{Operated};

@@ -2,7 +2,7 @@
 use mathlib.Core.List.{List}
 use Prim.Native.Nat.{ℕ}
 use Rattle.text.specs.Parts.{Known, BytesFed}
-use Rattle.text.proofs.Parts.{kept-by-bytes}
+use Rattle.text.proofs.Parts.{kept_by_bytes}
 use Rattle.text.specs.Lines.{Handed}
 use Rattle.text.specs.Feeding.{line_handing}
 use Rattle.settings.specs.declared.Settings.{Settings}
@@ -14,4 +14,4 @@ use Rattle.order_step.proofs.Promises.{line_listed}
 pub still_listed :
     {ws after bytes : List ℕ} {s : Settings} {P Q : Handed → Type 0} → Listed ws s × Known P →
     BytesFed line_handing (leaving line_outcome) bytes P ws Q after → Listed after s × Known Q
-still_listed {s = s} had fed = kept-by-bytes line_handing (leaving line_outcome) {I = λ us. Listed us s} (λ us h. line_listed h) had fed
+still_listed {s = s} had fed = kept_by_bytes line_handing (leaving line_outcome) {I = λ us. Listed us s} (λ us h. line_listed h) had fed

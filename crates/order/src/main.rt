@@ -12,6 +12,8 @@
 // what was answered until then has been written, and a line begun at a read that fails is not answered.
 //
 // The file stdout has the answers of the separate ordered set: compare/ordered_set/target/release/ordered_set order < stdin > stdout
+#![tactic(auto)]
+
 ghost use Rattle.std.specs.Prelude.{◌≡◌, [], ◌∷◌, length};
 ghost use Rattle.text.specs.Parts.{after_all, Known, BytesFed, PartFed, EndFed};
 ghost use Rattle.text.specs.Lines.{most_bytes};
@@ -25,14 +27,14 @@ use settings::Settings;
 use text::feed::{Feed, Told};
 
 // What is kept from one byte to the next, beside the words and the bytes of the line begun: whether every answer has been written.
-#[derive(Drop)]
+#[derive(Clone, Copy)]
 pub struct State {
     pub feed: Feed,
     pub written: bool,
 }
 
 // How the program ends.
-#[derive(Drop)]
+#[derive(Clone, Copy)]
 pub enum End {
     AllAnswered,
     NotRead,

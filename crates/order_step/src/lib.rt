@@ -1,6 +1,8 @@
 // One line of the order program on the words of its list, which it keeps to itself and need not check again and again: 10 for a line that is not
 // readable, before the list is called; else the operation
 // that the line asks for. And the bytes that are printed for it.
+#![tactic(auto)]
+
 ghost use Rattle.std.specs.Prelude.{◌≡◌, ◌≤◌, length};
 ghost use Rattle.text.specs.Lines.{line, too_long};
 ghost use Rattle.text.specs.Feeding.{told_in, LineIn};

@@ -47,29 +47,29 @@ next_alike ws vs path (suc n) f =
 -- A value word is written
 
 module _ {ws : List ℕ} {s : Settings} (h : Shaped ws s) (x v : ℕ) where
-  value-word : (y j : ℕ) → j < cell_words s.dimensions → (j ≡ 1 → ⊥) → word_at (store s.dimensions ws x 1 v) y j ≡ word_at ws y j
-  value-word y j l other =
+  value_word : (y j : ℕ) → j < cell_words s.dimensions → (j ≡ 1 → ⊥) → word_at (store s.dimensions ws x 1 v) y j ≡ word_at ws y j
+  value_word y j l other =
       let D = s.dimensions in
       let after : get_or (store D ws x 1 v) 0 0 ≡ D = store_below D ws x 1 v 0 (omega arith) ∙ shaped_dimensions h in
       rw (after, shaped_dimensions h) (store_other D ws x 1 v y j (omega arith) l (λ e. other))
 
   -- links are read as before, ..
-  pub value-linkRead : (y d : ℕ) → d < s.dimensions → link_read (store s.dimensions ws x 1 v) y d ≡ link_read ws y d
-  value-linkRead y d l =
-      link_read-alike (store s.dimensions ws x 1 v) ws y d (value-word y 3 (omega arith) (λ e. omega arith)) (value-word y 4 (omega arith) (λ e. omega arith))
-      (value-word y 5 (omega arith) (λ e. omega arith)) (λ z. value-word z (link_field d) (omega arith) (λ e. omega arith))
+  pub value_link_read : (y d : ℕ) → d < s.dimensions → link_read (store s.dimensions ws x 1 v) y d ≡ link_read ws y d
+  value_link_read y d l =
+      link_read-alike (store s.dimensions ws x 1 v) ws y d (value_word y 3 (omega arith) (λ e. omega arith)) (value_word y 4 (omega arith) (λ e. omega arith))
+      (value_word y 5 (omega arith) (λ e. omega arith)) (λ z. value_word z (link_field d) (omega arith) (λ e. omega arith))
 
   -- .. so the next cell of a path is the same
-  pub value-next : (path : List ℕ) → next_from (store s.dimensions ws x 1 v) path s.dimensions ≡ next_from ws path s.dimensions
-  value-next path = next_alike (store s.dimensions ws x 1 v) ws path s.dimensions value-linkRead
+  pub value_next : (path : List ℕ) → next_from (store s.dimensions ws x 1 v) path s.dimensions ≡ next_from ws path s.dimensions
+  value_next path = next_alike (store s.dimensions ws x 1 v) ws path s.dimensions value_link_read
 
 pub value_walkable : {ws : List ℕ} {s : Settings} → Walkable ws s → (x v : ℕ) → Walkable (store s.dimensions ws x 1 v) s
 value_walkable w x v =
     record {
       shaped = store_shaped w.shaped x 1 v;
       head = w.head;
-      owed = λ y h. rw (value-word w.shaped x v y 3 (omega arith) (λ e. omega arith)) (w.owed y h);
-      links = λ y d h l. rw (value-linkRead w.shaped x v y d l) (w.links y d h l);
+      owed = λ y h. rw (value_word w.shaped x v y 3 (omega arith) (λ e. omega arith)) (w.owed y h);
+      links = λ y d h l. rw (value_link_read w.shaped x v y d l) (w.links y d h l);
     }
 
 -- The words of path are others
@@ -89,33 +89,33 @@ path_alike ws path long =
     }
 
 module _ {ws vs : List ℕ} (a : Alike ws vs) where
-  alike-linkRead : (x d : ℕ) → link_read ws x d ≡ link_read vs x d
-  alike-linkRead x d = link_read-alike ws vs x d (a.cells x 3) (a.cells x 4) (a.cells x 5) (λ y. a.cells y (link_field d))
+  alike_link_read : (x d : ℕ) → link_read ws x d ≡ link_read vs x d
+  alike_link_read x d = link_read-alike ws vs x d (a.cells x 3) (a.cells x 4) (a.cells x 5) (λ y. a.cells y (link_field d))
 
-  alike-step : (k x d : ℕ) → step_at ws k x d ≡ step_at vs k x d
+  alike_step : (k x d : ℕ) → step_at ws k x d ≡ step_at vs k x d
   unfolding step_at
-  alike-step k x d =
-      rw (← a.cells x 0, ← alike-linkRead x d, ← a.header 3 (omega arith), ← a.header 0 (omega arith)) refl
+  alike_step k x d =
+      rw (← a.cells x 0, ← alike_link_read x d, ← a.header 3 (omega arith), ← a.header 0 (omega arith)) refl
 
-  alike-trail-from : (fuel k x d : ℕ) → trail_from fuel ws k x d ≡ trail_from fuel vs k x d
+  alike_trail_from : (fuel k x d : ℕ) → trail_from fuel ws k x d ≡ trail_from fuel vs k x d
   unfolding trail_from
-  alike-trail-from zero k x d = refl
-  alike-trail-from (suc fuel) k x d = λ i. alike-step k x d i ∷ on_from (λ y e. alike-trail-from fuel k y e i) x d (alike-step k x d i)
+  alike_trail_from zero k x d = refl
+  alike_trail_from (suc fuel) k x d = λ i. alike_step k x d i ∷ on_from (λ y e. alike_trail_from fuel k y e i) x d (alike_step k x d i)
 
-  pub alike-trail : (k : ℕ) → trail ws k ≡ trail vs k
+  pub alike_trail : (k : ℕ) → trail ws k ≡ trail vs k
   unfolding trail
-  alike-trail k = rw (a.header 0 (omega arith), a.header 3 (omega arith)) (alike-trail-from (dimensions_at vs * base_at vs) k 0 0)
+  alike_trail k = rw (a.header 0 (omega arith), a.header 3 (omega arith)) (alike_trail_from (dimensions_at vs * base_at vs) k 0 0)
 
-  alike-settings : settings_at ws ≡ settings_at vs
-  alike-settings = rw (a.header 0 (omega arith), a.header 1 (omega arith), a.header 2 (omega arith), a.header 3 (omega arith)) refl
+  alike_settings : settings_at ws ≡ settings_at vs
+  alike_settings = rw (a.header 0 (omega arith), a.header 1 (omega arith), a.header 2 (omega arith), a.header 3 (omega arith)) refl
 
-  pub alike-walkable : {s : Settings} → Walkable vs s → Walkable ws s
-  alike-walkable w =
+  pub alike_walkable : {s : Settings} → Walkable vs s → Walkable ws s
+  alike_walkable w =
       let h = w.shaped in
       record {
         shaped =
             record {
-              header = alike-settings ∙ h.header;
+              header = alike_settings ∙ h.header;
               long = a.long ∙ h.long;
               dimensions_least = h.dimensions_least;
               dimensions_most = h.dimensions_most;
@@ -123,5 +123,5 @@ module _ {ws vs : List ℕ} (a : Alike ws vs) where
             };
         head = w.head;
         owed = λ x l. rw (a.cells x 3) (w.owed x l);
-        links = λ x d l m. rw (alike-linkRead x d) (w.links x d l m);
+        links = λ x d l m. rw (alike_link_read x d) (w.links x d l m);
       }

@@ -190,12 +190,12 @@ module _ {ws : List ℕ} {s : Settings} {p : Path} (i : PathIn s p) {e : ℕ} (k
     one_less : e ≡ suc (e - 1)
     one_less = omega arith
 
-    pub seeking-down : y ≡ 0 → Seeking ws s p (e - 1)
-    seeking-down none =
+    pub seeking_down : y ≡ 0 → Seeking ws s p (e - 1)
+    seeking_down none =
         record { upto = omega (arith, k.upto); rest = k.rest ∙ ap (next_from ws (path_of p)) one_less ∙ next_down ws (path_of p) (e - 1) (read_at ∙ none) }
 
-    pub next-found : Walkable ws s → (y ≡ 0 → ⊥) → NextFound ws s p.cells (record { cell = y; number = e - 1 })
-    next-found w some =
+    pub next_found : Walkable ws s → (y ≡ 0 → ⊥) → NextFound ws s p.cells (record { cell = y; number = e - 1 })
+    next_found w some =
         let l : e - 1 < s.dimensions = omega (arith, k.upto) in
         record {
           is =
@@ -225,19 +225,19 @@ held_in_lem {s} i = subst (PathIn s) (sym (held_is i)) i
 
 -- .. and with the path that leads to it
 module _ {ws : List ℕ} {s : Settings} {p : Path} (i : PathIn s p) {r : NextCell} (n : NextFound ws s p.cells r) where
-  found-is : next_from ws (path_of p) s.dimensions ≡ record { cell = r.cell; number = r.number }
-  found-is = ap (λ m. next_from ws (take m p.cells) s.dimensions) i.formed.used ∙ n.is
+  found_is : next_from ws (path_of p) s.dimensions ≡ record { cell = r.cell; number = r.number }
+  found_is = ap (λ m. next_from ws (take m p.cells) s.dimensions) i.formed.used ∙ n.is
 
   pub found_none : r.cell ≡ 0 → NextIs ws s p (record { cell = r.cell; number = r.number; path = p })
-  found_none none = record { is = found-is; way = λ some. absurd (some none); below = n.below; path_in = i }
+  found_none none = record { is = found_is; way = λ some. absurd (some none); below = n.below; path_in = i }
 
-  pub found-onward : {q : Path} → (path_of q ≡ onward p.used (path_of p) r.number r.cell) × Formed p.used q →
+  pub found_onward : {q : Path} → (path_of q ≡ onward p.used (path_of p) r.number r.cell) × Formed p.used q →
       NextIs ws s p (record { cell = r.cell; number = r.number; path = q })
-  found-onward {q} w =
+  found_onward {q} w =
       let used = i.formed.used in
       let way = w.0 ∙ ap (λ D. onward D (path_of p) r.number r.cell) used in
       record {
-        is = found-is;
+        is = found_is;
         way = λ some. way;
         below = n.below;
         path_in = onward_in {d = r.number} i n.number n.below (subst (λ D. Formed D q) used w.1) way;
@@ -248,4 +248,4 @@ pub found_held :
     {ws : List ℕ} {s : Settings} {cells : List ℕ} → PathIn s (held s cells) → {r : NextCell} → NextFound ws s cells r →
     let D = s.dimensions in
     NextIs ws s (held s cells) (record { cell = r.cell; number = r.number; path = held s (onward D cells r.number r.cell ++ drop D cells) })
-found_held i {r} n = found-onward i n (onward_path r.number r.cell i.formed n.number refl refl)
+found_held i {r} n = found_onward i n (onward_path r.number r.cell i.formed n.number refl refl)

@@ -14,7 +14,7 @@ use Rattle.meaning.specs.Layer.Paths.{PathOf, dimension_in, onward}
 use Rattle.meaning.specs.Layer.Listed.{Listed}
 use Rattle.meaning.proofs.Pictures.State.{Sound}
 use Rattle.meaning.proofs.Kept.KeepsState.{cell_alone}
-use Rattle.meaning.proofs.Paths.PathNext.{head_on_way, way-within, way_next, way_end, way-mark, way_above, way_on}
+use Rattle.meaning.proofs.Paths.PathNext.{head_on_way, way_within, way_next, way_end, way_mark, way_above, way_on}
 use Rattle.words.proofs.Listed.{on_listed}
 use Rattle.paths.specs.declared.Path.{Path}
 use Rattle.paths.specs.declared.Reached.{Reached}
@@ -32,7 +32,7 @@ pub way_in :
     PathOf (read ws) (path_of p) front later → PathIn s p
 way_in h {p} {front} {later} =
     on_listed (λ t ws s. Formed s.dimensions p → PathOf t (path_of p) front later → PathIn s p)
-    (λ t v f w. record { formed = f; below = λ d l. way-within v w d }) h
+    (λ t v f w. record { formed = f; below = λ d l. way_within v w d }) h
 
 -- a move to node y, from the last of the nodes in front of it
 pub record MovesTo (t : State) (ws : List ℕ) (front : List Node) (y : Node) (later : List Node) (r : Reached) : Type 0 where
@@ -56,7 +56,7 @@ moves_at {t} v {p} {r} n {front} {y} {later} w =
       cell = cell;
       standing = standing;
       number = number ∙ ap (dimension_in t) (sym cell);
-      mark = ap (mark_at (picture t)) cell ∙ way-mark v w;
+      mark = ap (mark_at (picture t)) cell ∙ way_mark v w;
       above = way_above v w;
       on_way =
           record {
@@ -73,20 +73,20 @@ pub record MovesOn (t : State) (ws : List ℕ) (front later : List Node) (r : Re
   pub to : MovesTo t ws front node rest r
 
 module _ {ws : List ℕ} {s : Settings} (h : Listed ws s) {p : Path} {r : Reached} (n : NextIs ws s p r) {front : List Node} where
-  pub moves-to : {y : Node} {later : List Node} → PathOf (read ws) (path_of p) front (y ∷ later) → MovesTo (read ws) ws front y later r
-  moves-to {y} {later} =
+  pub moves_to : {y : Node} {later : List Node} → PathOf (read ws) (path_of p) front (y ∷ later) → MovesTo (read ws) ws front y later r
+  moves_to {y} {later} =
       on_listed (λ t ws s. NextIs ws s p r → PathOf t (path_of p) front (y ∷ later) → MovesTo t ws front y later r) (λ t v m w. moves_at v m w) h n
 
-  pub moves-nowhere : PathOf (read ws) (path_of p) front [] → r.cell ≡ 0
-  moves-nowhere =
+  pub moves_nowhere : PathOf (read ws) (path_of p) front [] → r.cell ≡ 0
+  moves_nowhere =
       on_listed (λ t ws s. NextIs ws s p r → PathOf t (path_of p) front [] → r.cell ≡ 0)
       (λ t v m w. ap (λ c. c.cell) (sym m.is ∙ way_end v w)) h n
 
-  pub moves-on : (later : List Node) → PathOf (read ws) (path_of p) front later → (r.cell ≡ 0 → ⊥) → MovesOn (read ws) ws front later r
-  moves-on [] w some = absurd (some (moves-nowhere w))
-  moves-on (y ∷ later) w some = record { node = y; rest = later; next = refl; to = moves-to w }
+  pub moves_on : (later : List Node) → PathOf (read ws) (path_of p) front later → (r.cell ≡ 0 → ⊥) → MovesOn (read ws) ws front later r
+  moves_on [] w some = absurd (some (moves_nowhere w))
+  moves_on (y ∷ later) w some = record { node = y; rest = later; next = refl; to = moves_to w }
 
   -- where there is no next cell, none is still to come
-  pub moves-end : (later : List Node) → PathOf (read ws) (path_of p) front later → r.cell ≡ 0 → later ≡ []
-  moves-end [] w none = refl
-  moves-end (y ∷ later) w none = absurd (let m = (moves-to w).standing in omega arith)
+  pub moves_end : (later : List Node) → PathOf (read ws) (path_of p) front later → r.cell ≡ 0 → later ≡ []
+  moves_end [] w none = refl
+  moves_end (y ∷ later) w none = absurd (let m = (moves_to w).standing in omega arith)

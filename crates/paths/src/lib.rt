@@ -1,6 +1,8 @@
 // Paths: word d of a cell's path is the first standing cell that shares at least d+1 coordinates with it (The position 2). The path of the
 // position as the words have it, the path of any standing cell, and the next standing cell in key order from a path (the deletion stack
 // of the MDList paper).
+#![tactic(auto)]
+
 ghost use Rattle.std.specs.Prelude.{◌≡◌, ◌++◌, ◌≤◌, ◌<◌, length, take, drop, replicate};
 ghost use Rattle.settings.specs.Numbers.{header_words, most_dimensions};
 ghost use Rattle.settings.specs.Levels.{PowersOf};
@@ -16,21 +18,21 @@ use meaning::Step;
 use settings::Settings;
 
 // Sixteen cell numbers, of which the first `used`, one for each dimension, are the path.
-#[derive(Drop)]
+#[derive(Clone, Copy)]
 pub struct Path {
     pub cells: [u32; 16],
     pub used: u32,
 }
 
 // The next standing cell in key order and the number of the link that leads to it; cell 0 where there is none.
-#[derive(Drop)]
+#[derive(Clone, Copy)]
 pub struct NextCell {
     pub cell: u32,
     pub number: u32,
 }
 
 // The next standing cell in key order, the number of the link that leads to it, and its path; cell 0 where there is none.
-#[derive(Drop)]
+#[derive(Clone, Copy)]
 pub struct Reached {
     pub cell: u32,
     pub number: u32,

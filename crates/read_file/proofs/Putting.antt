@@ -29,11 +29,11 @@ use Rattle.meaning.proofs.Pictures.ReadBack.{read_of_picture, picture_is_list}
 use Rattle.meaning.proofs.Paths.Path.{path_for-at}
 use Rattle.meaning.proofs.Kept.KeepsState.{position_head}
 use Rattle.calls.proofs.Restarted.ReadState.{read_state_sound, read_unowing, stands_unowing, next_pair}
-use Rattle.calls.proofs.Restarted.ReadIn.{insert-last}
+use Rattle.calls.proofs.Restarted.ReadIn.{insert_last}
 use Rattle.calls.proofs.Restarted.ReadInPath.{last_key_snoc, next_above, AboveAll, read_state_next, path_next}
 use Rattle.search.specs.Found.{slot_number, slot_parent, slot_shared, slot_cell, found_at, found_of}
 use Rattle.search.specs.declared.Found.{Found}
-use Rattle.search.proofs.Slots.{found-missing}
+use Rattle.search.proofs.Slots.{found_missing}
 use Rattle.paths.specs.Paths.{path_of, held}
 use Rattle.paths.proofs.Paths.{onward_path}
 use Rattle.insert.specs.Inserting.{ComesLast}
@@ -94,11 +94,11 @@ state_listed {s = s} pairs kept base e =
     header = unfold picture read_state in refl
 
 module _ {ws : List ℕ} {s : Settings} {pairs : List Pair} {last : ℕ} {path : List ℕ} (h : Putting ws s pairs last path) where
-  state-sound : Sound (read_state s pairs)
-  state-sound = read_state_sound s pairs h.kept h.base
+  state_sound : Sound (read_state s pairs)
+  state_sound = read_state_sound s pairs h.kept h.base
 
-  pub put-listed : Listed ws s
-  put-listed = state_listed pairs h.kept h.base h.words
+  pub put_listed : Listed ws s
+  put_listed = state_listed pairs h.kept h.base h.words
 
   -- word d of the path of the last key
   word_is : {d : ℕ} → d < s.dimensions → get_or path d 0 ≡ first_with s.base s.dimensions last (suc d) (head_node ∷ nodes_from 1 pairs)
@@ -110,12 +110,12 @@ module _ {ws : List ℕ} {s : Settings} {pairs : List Pair} {last : ℕ} {path :
   -- The next pair
 
   module _ (p : Pair) (more : keeps s (pairs ++ (p ∷ [])) ≡ true) where
-    pub next-larger : last < p.key
-    next-larger = omega (arith, h.last_is, next_above s pairs p more)
+    pub next_larger : last < p.key
+    next_larger = omega (arith, h.last_is, next_above s pairs p more)
 
     pub next_fits : p.key < s.base ^ s.dimensions
     unfolding read_state
-    next_fits = omega (arith, (next_pair s pairs p more).most, base_above (read_state s pairs) state-sound)
+    next_fits = omega (arith, (next_pair s pairs p more).most, base_above (read_state s pairs) state_sound)
 
     -- its cell is the next one
     pub next_cell : get_or ws 4 0 ≡ suc (length pairs)
@@ -133,10 +133,10 @@ module _ {ws : List ℕ} {s : Settings} {pairs : List Pair} {last : ℕ} {path :
       abbrev found : Found
       found = at_end t last p.key
 
-      found-is : found ≡ found_of (read ws) p.key
-      found-is =
+      found_is : found ≡ found_of (read ws) p.key
+      found_is =
           let above = subst (λ k. AboveAll t k p.key) (sym h.last_is) (read_state_next s pairs p.key h.kept (next_above s pairs p more)) in
-          sym (found_at_end t above) ∙ ap (λ u. found_of u p.key) (sym (ap read h.words ∙ read_of_picture t state-sound))
+          sym (found_at_end t above) ∙ ap (λ u. found_of u p.key) (sym (ap read h.words ∙ read_of_picture t state_sound))
 
       -- its parent is word i of the path
       parent_is : found.parent ≡ get_or path i 0
@@ -146,15 +146,15 @@ module _ {ws : List ℕ} {s : Settings} {pairs : List Pair} {last : ℕ} {path :
       -- .. which owes nothing
       unowing : owed_at ws (get_or path i 0) ≡ 0
       unowing =
-          let same : found ≡ found_of t p.key = found-is ∙ ap (λ u. found_of u p.key) (ap read h.words ∙ read_of_picture t state-sound) in
-          let stands = (found-missing state-sound (next_pair s pairs p more).positive same refl).parent_stands in
-          ap₂ owed_at h.words (sym parent_is) ∙ stands_unowing t state-sound (read_unowing s pairs) found.parent stands
+          let same : found ≡ found_of t p.key = found_is ∙ ap (λ u. found_of u p.key) (ap read h.words ∙ read_of_picture t state_sound) in
+          let stands = (found_missing state_sound (next_pair s pairs p more).positive same refl).parent_stands in
+          ap₂ owed_at h.words (sym parent_is) ∙ stands_unowing t state_sound (read_unowing s pairs) found.parent stands
 
       -- and the position is the head
       above : position_key (read ws) < p.key
       unfolding read_state
       above =
-          let head = ap position_key (ap read h.words ∙ read_of_picture t state-sound) ∙ position_head t refl in
+          let head = ap position_key (ap read h.words ∙ read_of_picture t state_sound) ∙ position_head t refl in
           omega (arith, head, (next_pair s pairs p more).positive)
 
       pub next_last : ComesLast ws s p.key (get_or path i 0) i
@@ -163,7 +163,7 @@ module _ {ws : List ℕ} {s : Settings} {pairs : List Pair} {last : ℕ} {path :
           let n = next_pair s pairs p more in
           record {
             found = found;
-            sought = record { list = put-listed; least = n.positive; most = n.most; is = found-is };
+            sought = record { list = put_listed; least = n.positive; most = n.most; is = found_is };
             missing = refl;
             parent_is = parent_is;
             p_is = sym e;
@@ -173,13 +173,13 @@ module _ {ws : List ℕ} {s : Settings} {pairs : List Pair} {last : ℕ} {path :
           }
 
       -- with the pair put
-      pub next-put :
+      pub next_put :
           {us r : List ℕ} {n : ℕ} → us ≡ (insert_out ws p.key p.value).left → n ≡ get_or ws 4 0 →
           r ≡ onward s.dimensions path i n ++ drop s.dimensions path → Putting us s (pairs ++ (p ∷ [])) p.key r
-      next-put {us} {r} {n} out cell onwards =
+      next_put {us} {r} {n} out cell onwards =
           let path-on = onward_path i n {q = held s r} h.formed (omega arith) refl onwards in
           record {
-            words = out ∙ ap (λ words. (insert_out words p.key p.value).left) h.words ∙ ap (λ o. o.left) (insert-last s pairs p more h.base);
+            words = out ∙ ap (λ words. (insert_out words p.key p.value).left) h.words ∙ ap (λ o. o.left) (insert_last s pairs p more h.base);
             kept = more;
             base = h.base;
             last_is = sym (last_key_snoc 0 pairs p);

@@ -69,8 +69,8 @@ told {bytes} {s} {n} e = at (is_file bytes) refl e
 
 module _ {bytes : List ℕ} {s : Settings} {n : ℕ} (t : Told bytes s n) where
   -- its numbers keep the limits
-  pub told-limits : (s.dimensions ≤ most_dimensions) × ((s.cells ≤ most_cells) × (n < s.cells))
-  told-limits =
+  pub told_limits : (s.dimensions ≤ most_dimensions) × ((s.cells ≤ most_cells) × (n < s.cells))
+  told_limits =
       let k = keepable s (pairs_in bytes) t.kept in
       let r = ranges s.dimensions s.largest s.cells k.ranges in
       (r.dimensions_most, (r.cells_most, omega (arith, k.room, t.count)))
@@ -79,52 +79,52 @@ module _ {bytes : List ℕ} {s : Settings} {n : ℕ} (t : Told bytes s n) where
   none_kept : keeps s [] ≡ true
   none_kept = keeps_left s [] (pairs_in bytes) t.kept
 
-  pub told-listed : {ws : List ℕ} → ws ≡ picture (read_state s []) → Listed ws s
-  told-listed = state_listed [] none_kept t.base
+  pub told_listed : {ws : List ℕ} → ws ≡ picture (read_state s []) → Listed ws s
+  told_listed = state_listed [] none_kept t.base
 
   -- The first pairs
 
   abbrev pub first : ℕ → List Pair
   first i = pairs_from i (drop (before n) bytes)
 
-  first-kept : (m i : ℕ) → i + m ≡ n → keeps s (first i) ≡ true
-  first-kept zero i e = let here : i ≡ n = omega arith in ap (λ j. keeps s (first j)) here ∙ ap (keeps s) (sym t.pairs) ∙ t.kept
-  first-kept (suc m) i e =
-      keeps_left s (first i) (pair_at bytes (before n) i ∷ []) (ap (keeps s) (sym (pairs_more bytes (before n) i)) ∙ first-kept m (suc i) (omega arith))
+  first_kept : (m i : ℕ) → i + m ≡ n → keeps s (first i) ≡ true
+  first_kept zero i e = let here : i ≡ n = omega arith in ap (λ j. keeps s (first j)) here ∙ ap (keeps s) (sym t.pairs) ∙ t.kept
+  first_kept (suc m) i e =
+      keeps_left s (first i) (pair_at bytes (before n) i ∷ []) (ap (keeps s) (sym (pairs_more bytes (before n) i)) ∙ first_kept m (suc i) (omega arith))
 
   pub put_start : {ws : List ℕ} → ws ≡ picture (read_state s []) → Putting ws s (first 0) 0 (replicate most_dimensions 0)
   unfolding pairs_from last_key nodes_from
   put_start e =
       record {
         words = e;
-        kept = first-kept n 0 (omega arith);
+        kept = first_kept n 0 (omega arith);
         base = t.base;
         last_is = refl;
-        path_is = zeros_taken s.dimensions most_dimensions told-limits.0 ∙ sym (path_head s.base s.dimensions []);
-        formed = zeros_formed s.dimensions told-limits.0;
+        path_is = zeros_taken s.dimensions most_dimensions told_limits.0 ∙ sym (path_head s.base s.dimensions []);
+        formed = zeros_formed s.dimensions told_limits.0;
       }
 
   module _ {ws : List ℕ} {last : ℕ} {path : List ℕ} {i : ℕ} (h : Putting ws s (first i) last path) where
-    module _ (less : i < n) {key value : ℕ} (key-is : key ≡ (pair_at bytes (before n) i).key) (value-is : value ≡ (pair_at bytes (before n) i).value) where
+    module _ (less : i < n) {key value : ℕ} (key_is : key ≡ (pair_at bytes (before n) i).key) (value-is : value ≡ (pair_at bytes (before n) i).value) where
       abbrev next : Pair
       next = record { key = key; value = value }
 
       one_more : first i ++ (next ∷ []) ≡ first (i + 1)
       one_more =
-          ap (λ (p : Pair). first i ++ (p ∷ [])) (λ j. record { key = key-is j; value = value-is j })
+          ap (λ (p : Pair). first i ++ (p ∷ [])) (λ j. record { key = key_is j; value = value-is j })
           ∙ sym (pairs_more bytes (before n) i)
           ∙ ap first (sym (add-one i))
 
-      more-kept : keeps s (first i ++ (next ∷ [])) ≡ true
-      more-kept = ap (keeps s) one_more ∙ first-kept (n - (i + 1)) (i + 1) (omega arith)
+      more_kept : keeps s (first i ++ (next ∷ [])) ≡ true
+      more_kept = ap (keeps s) one_more ∙ first_kept (n - (i + 1)) (i + 1) (omega arith)
 
       -- the next pair may be kept, ..
-      pub put-asks : NextOfSome ws s last path next
-      put-asks = record { pairs = first i; putting = h; more = more-kept }
+      pub put_asks : NextOfSome ws s last path next
+      put_asks = record { pairs = first i; putting = h; more = more_kept }
 
       -- .. and is put
       pub put_more : {us r : List ℕ} → PairPut ws us s last path r next → Putting us s (first (i + 1)) key r
-      put_more {us} {r} p = subst (λ pairs. Putting us s pairs key r) one_more (p.is (first i) h more-kept)
+      put_more {us} {r} p = subst (λ pairs. Putting us s pairs key r) one_more (p.is (first i) h more_kept)
 
     pub put_all : i ≤ n → n ≤ i → ws ≡ picture (read_state s (pairs_in bytes))
     put_all low high =
@@ -132,23 +132,23 @@ module _ {bytes : List ℕ} {s : Settings} {n : ℕ} (t : Told bytes s n) where
         h.words ∙ ap (λ j. picture (read_state s (first j))) here ∙ ap (λ pairs. picture (read_state s pairs)) (sym t.pairs)
 
   -- Set up: the list that holds none
-  pub set-up-left : (ws : List ℕ) {us : List ℕ} {r : Answer} → length ws ≡ length_of s.dimensions s.cells →
+  pub set_up_left : (ws : List ℕ) {us : List ℕ} {r : Answer} → length ws ≡ length_of s.dimensions s.cells →
       Meets (set_up_out s.dimensions s.largest s.cells ws) r us → us ≡ picture (read_state s [])
   unfolding read_in inserted_all finished_all
-  set-up-left ws long m = m.left ∙ read_in_is s [] ws none_kept t.base long
+  set_up_left ws long m = m.left ∙ read_in_is s [] ws none_kept t.base long
 
 -- The ways out
 
 module _ (ws bytes : List ℕ) {r : Answer} where
-  pub bad-file-meets : contents_of bytes ≡ NotAFile → r ≡ answer 11 0 0 0 → Meets (read_out (file_lent ws bytes)) r (file_lent ws bytes)
+  pub bad_file_meets : contents_of bytes ≡ NotAFile → r ≡ answer 11 0 0 0 → Meets (read_out (file_lent ws bytes)) r (file_lent ws bytes)
   unfolding read_out
-  bad-file-meets e a = rw e (record { answered = a; left = refl })
+  bad_file_meets e a = rw e (record { answered = a; left = refl })
 
   module _ {s : Settings} {n : ℕ} (e : contents_of bytes ≡ IsFile s n) where
-    pub wrong-length-meets : (length ws ≡ length_of s.dimensions s.cells → ⊥) → r ≡ answer 2 0 0 0 →
+    pub wrong_length_meets : (length ws ≡ length_of s.dimensions s.cells → ⊥) → r ≡ answer 2 0 0 0 →
         Meets (read_out (file_lent ws bytes)) r (file_lent ws bytes)
     unfolding read_out
-    wrong-length-meets differ a = rw (e, ne_eqb (length ws) (length_of s.dimensions s.cells) differ) (record { answered = a; left = refl })
+    wrong_length_meets differ a = rw (e, ne_eqb (length ws) (length_of s.dimensions s.cells) differ) (record { answered = a; left = refl })
 
     pub read_meets : {us : List ℕ} → length ws ≡ length_of s.dimensions s.cells → us ≡ picture (read_state s (pairs_in bytes)) → r ≡ answer 0 0 0 n →
         Meets (read_out (file_lent ws bytes)) r (file_lent us bytes)

@@ -1,5 +1,7 @@
 // Read: a list is made of a file (The operations 10). Its pairs are in ascending order, so no key is searched for: each hangs by link p
 // from word p of the path of the key before, p being what the two keys share.
+#![tactic(auto)]
+
 ghost use Rattle.std.specs.Prelude.{◌≡◌, []};
 ghost use Rattle.settings.specs.Levels.{PowersOf};
 ghost use Rattle.files.specs.Files.{pairs_in, contents_of};

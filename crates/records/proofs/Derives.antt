@@ -104,25 +104,25 @@ feed_at_return bytes (fields values) ended = line_feed
 
 -- a byte right after a field
 module _ (stand : Stand) (embed : (rest : List ℕ) (values : List (List ℕ)) → Rest rest values → On stand rest ([] ∷ values)) where
-  comma-says : (bytes : List ℕ) (said : Said) → Says AtField bytes said → Says stand (comma ∷ bytes) (added AField comma said)
-  comma-says bytes no_record s = tt
-  comma-says bytes (fields values) s = embed _ _ (comma_on s)
+  comma_says : (bytes : List ℕ) (said : Said) → Says AtField bytes said → Says stand (comma ∷ bytes) (added AField comma said)
+  comma_says bytes no_record s = tt
+  comma_says bytes (fields values) s = embed _ _ (comma_on s)
 
-  return-says : (bytes : List ℕ) (said : Said) → Says AtReturn bytes said → Says stand (carriage_return ∷ bytes) said
-  return-says bytes no_record s = tt
-  return-says bytes (fields values) line_feed = embed _ _ line_end
+  return_says : (bytes : List ℕ) (said : Said) → Says AtReturn bytes said → Says stand (carriage_return ∷ bytes) said
+  return_says bytes no_record s = tt
+  return_says bytes (fields values) line_feed = embed _ _ line_end
 
-  after-says :
+  after_says :
       (byte : ℕ) (bytes : List ℕ) → ((s : Stand) → Says s bytes (said_from s bytes)) →
       Says stand (byte ∷ bytes) (added (after_field byte).adds byte (said_from (after_field byte).stand bytes))
   unfolding after_field
-  after-says byte bytes on = at (eqb byte comma) (eqb byte carriage_return) refl refl
+  after_says byte bytes on = at (eqb byte comma) (eqb byte carriage_return) refl refl
     where
       at :
           (c r : Bool) → eqb byte comma ≡ c → eqb byte carriage_return ≡ r →
           Says stand (byte ∷ bytes) (added (after_field byte).adds byte (said_from (after_field byte).stand bytes))
-      at true r e f = rw (eqb-true byte comma e) (comma-says bytes (said_from AtField bytes) (on AtField))
-      at false true e f = rw (eqb-true byte carriage_return f) (return-says bytes (said_from AtReturn bytes) (on AtReturn))
+      at true r e f = rw (eqb-true byte comma e) (comma_says bytes (said_from AtField bytes) (on AtField))
+      at false true e f = rw (eqb-true byte carriage_return f) (return_says bytes (said_from AtReturn bytes) (on AtReturn))
       at false false e f = rw (e, f) (broken_says bytes (said_from Broken bytes) (on Broken) stand (byte ∷ bytes))
 
 -- the cases of a byte, by the tests that `step_on` makes
@@ -134,28 +134,28 @@ module _ (byte : ℕ) (bytes : List ℕ) (on : (s : Stand) → Says s bytes (sai
       rw (e, f)
       (subst (λ c. Says AtField (c ∷ bytes) (said_from InQuotes bytes)) (sym (eqb-true byte quote f))
       (quote_at_field bytes (said_from InQuotes bytes) (on InQuotes)))
-  at_field false false e f = rw (e, f) (after-says AtField (λ rest values r. record_of (non_escaped no_text) r) byte bytes on)
+  at_field false false e f = rw (e, f) (after_says AtField (λ rest values r. record_of (non_escaped no_text) r) byte bytes on)
 
-  in-plain : (t : Bool) → is_text byte ≡ t → Says InPlain (byte ∷ bytes) (said_from InPlain (byte ∷ bytes))
+  in_plain : (t : Bool) → is_text byte ≡ t → Says InPlain (byte ∷ bytes) (said_from InPlain (byte ∷ bytes))
   unfolding said_from step_on
-  in-plain true e = rw (e) (text_in_plain byte e bytes (said_from InPlain bytes) (on InPlain))
-  in-plain false e = rw (e) (after-says InPlain (λ rest values r. plain_on no_text r) byte bytes on)
+  in_plain true e = rw (e) (text_in_plain byte e bytes (said_from InPlain bytes) (on InPlain))
+  in_plain false e = rw (e) (after_says InPlain (λ rest values r. plain_on no_text r) byte bytes on)
 
-  in-quotes :
+  in_quotes :
       (t q : Bool) → stands_in_quotes byte ≡ t → eqb byte quote ≡ q →
       Says InQuotes (byte ∷ bytes) (said_from InQuotes (byte ∷ bytes))
   unfolding said_from step_on
-  in-quotes true q e f = rw (e) (byte_in_quotes byte e bytes (said_from InQuotes bytes) (on InQuotes))
-  in-quotes false true e f =
+  in_quotes true q e f = rw (e) (byte_in_quotes byte e bytes (said_from InQuotes bytes) (on InQuotes))
+  in_quotes false true e f =
       rw (e, f)
       (subst (λ c. Says InQuotes (c ∷ bytes) (said_from AtQuote bytes)) (sym (eqb-true byte quote f))
       (quote_in_quotes bytes (said_from AtQuote bytes) (on AtQuote)))
-  in-quotes false false e f = rw (e, f) (broken_says bytes (said_from Broken bytes) (on Broken) InQuotes (byte ∷ bytes))
+  in_quotes false false e f = rw (e, f) (broken_says bytes (said_from Broken bytes) (on Broken) InQuotes (byte ∷ bytes))
 
-  at-quote : (q : Bool) → eqb byte quote ≡ q → Says AtQuote (byte ∷ bytes) (said_from AtQuote (byte ∷ bytes))
+  at_quote : (q : Bool) → eqb byte quote ≡ q → Says AtQuote (byte ∷ bytes) (said_from AtQuote (byte ∷ bytes))
   unfolding said_from step_on
-  at-quote true e = rw (eqb-true byte quote e) (quote_at_quote bytes (said_from InQuotes bytes) (on InQuotes))
-  at-quote false e = rw (e) (after-says AtQuote (λ rest values r. ends r) byte bytes on)
+  at_quote true e = rw (eqb-true byte quote e) (quote_at_quote bytes (said_from InQuotes bytes) (on InQuotes))
+  at_quote false e = rw (e) (after_says AtQuote (λ rest values r. ends r) byte bytes on)
 
   at_return : (l : Bool) → eqb byte line_feed ≡ l → Says AtReturn (byte ∷ bytes) (said_from AtReturn (byte ∷ bytes))
   unfolding said_from step_on
@@ -172,10 +172,10 @@ says [] AtReturn = tt
 says [] Closed = ended
 says [] Broken = tt
 says (byte ∷ bytes) AtField = at_field byte bytes (says bytes) (is_text byte) (eqb byte quote) refl refl
-says (byte ∷ bytes) InPlain = in-plain byte bytes (says bytes) (is_text byte) refl
+says (byte ∷ bytes) InPlain = in_plain byte bytes (says bytes) (is_text byte) refl
 says (byte ∷ bytes) InQuotes =
-    in-quotes byte bytes (says bytes) (stands_in_quotes byte) (eqb byte quote) refl refl
-says (byte ∷ bytes) AtQuote = at-quote byte bytes (says bytes) (eqb byte quote) refl
+    in_quotes byte bytes (says bytes) (stands_in_quotes byte) (eqb byte quote) refl refl
+says (byte ∷ bytes) AtQuote = at_quote byte bytes (says bytes) (eqb byte quote) refl
 says (byte ∷ bytes) AtReturn = at_return byte bytes (says bytes) (eqb byte line_feed) refl
 says (byte ∷ bytes) Closed = broken_says bytes (said_from Broken bytes) (says bytes Broken) Closed (byte ∷ bytes)
 says (byte ∷ bytes) Broken = broken_says bytes (said_from Broken bytes) (says bytes Broken) Broken (byte ∷ bytes)

@@ -13,105 +13,105 @@ use Rattle.records.specs.declared.Step.{Step}
 
 module _ (byte : ℕ) where
   -- the bytes of text
-  pub text-below : byte < 32 → false ≡ is_text byte
+  pub text_below : byte < 32 → false ≡ is_text byte
   unfolding is_text
-  text-below h = rw (lt-leb 32 byte h) refl
+  text_below h = rw (lt-leb 32 byte h) refl
 
-  pub text-above : 126 < byte → false ≡ is_text byte
+  pub text_above : 126 < byte → false ≡ is_text byte
   unfolding is_text
-  text-above h = at (leb 32 byte)
+  text_above h = at (leb 32 byte)
     where
       at : (t : Bool) → false ≡ (t && leb byte 126 && not (eqb byte comma) && not (eqb byte quote))
       at true = rw (lt-leb byte 126 h) refl
       at false = refl
 
-  pub text-comma : byte ≡ comma → false ≡ is_text byte
+  pub text_comma : byte ≡ comma → false ≡ is_text byte
   unfolding is_text
-  text-comma e = rw (e) refl
+  text_comma e = rw (e) refl
 
-  pub text-within : 32 ≤ byte → byte ≤ 126 → (byte ≡ comma → ⊥) → {r : Bool} → r ≡ not (eqb byte quote) → r ≡ is_text byte
+  pub text_within : 32 ≤ byte → byte ≤ 126 → (byte ≡ comma → ⊥) → {r : Bool} → r ≡ not (eqb byte quote) → r ≡ is_text byte
   unfolding is_text
-  text-within h i c e = rw (le-leb 32 byte h, le-leb byte 126 i, ne_eqb byte comma c) e
+  text_within h i c e = rw (le-leb 32 byte h, le-leb byte 126 i, ne_eqb byte comma c) e
 
   -- the bytes that stand for themselves between quotes
-  pub comma-stands : byte ≡ comma → true ≡ stands_in_quotes byte
+  pub comma_stands : byte ≡ comma → true ≡ stands_in_quotes byte
   unfolding is_text
-  comma-stands e = rw (e) refl
+  comma_stands e = rw (e) refl
 
-  pub return-stands : byte ≡ carriage_return → true ≡ stands_in_quotes byte
+  pub return_stands : byte ≡ carriage_return → true ≡ stands_in_quotes byte
   unfolding is_text
-  return-stands e = rw (e) refl
+  return_stands e = rw (e) refl
 
-  pub feed-stands : byte ≡ line_feed → true ≡ stands_in_quotes byte
+  pub feed_stands : byte ≡ line_feed → true ≡ stands_in_quotes byte
   unfolding is_text
-  feed-stands e = rw (e) refl
+  feed_stands e = rw (e) refl
 
-  pub text-stands :
+  pub text_stands :
       (byte ≡ comma → ⊥) → (byte ≡ carriage_return → ⊥) → (byte ≡ line_feed → ⊥) → {r : Bool} → r ≡ is_text byte → r ≡ stands_in_quotes byte
-  text-stands c r l e = rw (ne_eqb byte comma c, ne_eqb byte carriage_return r, ne_eqb byte line_feed l) (e ∙ at (is_text byte))
+  text_stands c r l e = rw (ne_eqb byte comma c, ne_eqb byte carriage_return r, ne_eqb byte line_feed l) (e ∙ at (is_text byte))
     where
       at : (t : Bool) → t ≡ (t || false || false || false)
       at true = refl
       at false = refl
 
   -- after a field
-  pub after-comma : byte ≡ comma → to AtField AField ≡ after_field byte
+  pub after_comma : byte ≡ comma → to AtField AField ≡ after_field byte
   unfolding after_field
-  after-comma e = rw (e) refl
+  after_comma e = rw (e) refl
 
-  pub after-return : byte ≡ carriage_return → to AtReturn NoPart ≡ after_field byte
+  pub after_return : byte ≡ carriage_return → to AtReturn NoPart ≡ after_field byte
   unfolding after_field
-  after-return e = rw (e) refl
+  after_return e = rw (e) refl
 
-  pub after-other : (byte ≡ comma → ⊥) → (byte ≡ carriage_return → ⊥) → {r : Step} → r ≡ to Broken NoPart → r ≡ after_field byte
+  pub after_other : (byte ≡ comma → ⊥) → (byte ≡ carriage_return → ⊥) → {r : Step} → r ≡ to Broken NoPart → r ≡ after_field byte
   unfolding after_field
-  after-other c r e = rw (ne_eqb byte comma c, ne_eqb byte carriage_return r) e
+  after_other c r e = rw (ne_eqb byte comma c, ne_eqb byte carriage_return r) e
 
   -- at the start of a field
-  pub field-quote : byte ≡ quote → to InQuotes NoPart ≡ step_on AtField byte
+  pub field_quote : byte ≡ quote → to InQuotes NoPart ≡ step_on AtField byte
   unfolding step_on is_text
-  field-quote e = rw (e) refl
+  field_quote e = rw (e) refl
 
-  pub field-other : (byte ≡ quote → ⊥) → {r : Step} → r ≡ step_on InPlain byte → r ≡ step_on AtField byte
+  pub field_other : (byte ≡ quote → ⊥) → {r : Step} → r ≡ step_on InPlain byte → r ≡ step_on AtField byte
   unfolding step_on
-  field-other q e = rw (ne_eqb byte quote q) e
+  field_other q e = rw (ne_eqb byte quote q) e
 
   -- in a plain field
-  pub plain-text : true ≡ is_text byte → to InPlain ItsByte ≡ step_on InPlain byte
+  pub plain_text : true ≡ is_text byte → to InPlain ItsByte ≡ step_on InPlain byte
   unfolding step_on
-  plain-text t = rw (sym t) refl
+  plain_text t = rw (sym t) refl
 
   pub plain_other : false ≡ is_text byte → {r : Step} → r ≡ after_field byte → r ≡ step_on InPlain byte
   unfolding step_on
   plain_other t e = rw (sym t) e
 
   -- between quotes
-  pub quotes-quote : byte ≡ quote → to AtQuote NoPart ≡ step_on InQuotes byte
+  pub quotes_quote : byte ≡ quote → to AtQuote NoPart ≡ step_on InQuotes byte
   unfolding step_on is_text
-  quotes-quote e = rw (e) refl
+  quotes_quote e = rw (e) refl
 
-  pub quotes-itself : true ≡ stands_in_quotes byte → to InQuotes ItsByte ≡ step_on InQuotes byte
+  pub quotes_itself : true ≡ stands_in_quotes byte → to InQuotes ItsByte ≡ step_on InQuotes byte
   unfolding step_on
-  quotes-itself t = rw (sym t) refl
+  quotes_itself t = rw (sym t) refl
 
-  pub quotes-other : (byte ≡ quote → ⊥) → false ≡ stands_in_quotes byte → {r : Step} → r ≡ to Broken NoPart → r ≡ step_on InQuotes byte
+  pub quotes_other : (byte ≡ quote → ⊥) → false ≡ stands_in_quotes byte → {r : Step} → r ≡ to Broken NoPart → r ≡ step_on InQuotes byte
   unfolding step_on
-  quotes-other q t e = rw (sym t, ne_eqb byte quote q) e
+  quotes_other q t e = rw (sym t, ne_eqb byte quote q) e
 
   -- after a quote between quotes
   pub two_quotes : byte ≡ quote → to InQuotes ItsByte ≡ step_on AtQuote byte
   unfolding step_on
   two_quotes e = rw (e) refl
 
-  pub quote-other : (byte ≡ quote → ⊥) → {r : Step} → r ≡ after_field byte → r ≡ step_on AtQuote byte
+  pub quote_other : (byte ≡ quote → ⊥) → {r : Step} → r ≡ after_field byte → r ≡ step_on AtQuote byte
   unfolding step_on
-  quote-other q e = rw (ne_eqb byte quote q) e
+  quote_other q e = rw (ne_eqb byte quote q) e
 
   -- after a carriage return
-  pub return-feed : byte ≡ line_feed → to Closed NoPart ≡ step_on AtReturn byte
+  pub return_feed : byte ≡ line_feed → to Closed NoPart ≡ step_on AtReturn byte
   unfolding step_on
-  return-feed e = rw (e) refl
+  return_feed e = rw (e) refl
 
-  pub return-other : (byte ≡ line_feed → ⊥) → {r : Step} → r ≡ to Broken NoPart → r ≡ step_on AtReturn byte
+  pub return_other : (byte ≡ line_feed → ⊥) → {r : Step} → r ≡ to Broken NoPart → r ≡ step_on AtReturn byte
   unfolding step_on
-  return-other l e = rw (ne_eqb byte line_feed l) e
+  return_other l e = rw (ne_eqb byte line_feed l) e

@@ -1,4 +1,6 @@
 // The logger's records: their grammar, read byte by byte. Where a record stands is a value, so no byte of it need be kept.
+#![tactic(auto)]
+
 ghost use Rattle.std.specs.Prelude.{◌≡◌};
 ghost use Rattle.records.specs.Grammar.{is_text, stands_in_quotes};
 ghost use Rattle.records.specs.Reading.{to, step_on, after_field, may_end};
@@ -6,7 +8,7 @@ ghost use Rattle.records.specs.declared.Stand.TheVariants.{AtField, InPlain, InQ
 ghost use Rattle.records.specs.declared.Adds.TheVariants.{NoPart};
 
 // Where the reading of a record stands.
-#[derive(Drop)]
+#[derive(Clone, Copy)]
 pub enum Stand {
     // at the start of a field
     AtField,
@@ -25,7 +27,7 @@ pub enum Stand {
 }
 
 // What a byte adds to the fields.
-#[derive(Drop)]
+#[derive(Clone, Copy)]
 pub enum Adds {
     // itself, to the field that it stands in
     ItsByte,
@@ -35,7 +37,7 @@ pub enum Adds {
     NoPart,
 }
 
-#[derive(Drop)]
+#[derive(Clone, Copy)]
 pub struct Step {
     pub stand: Stand,
     pub adds: Adds,

@@ -27,6 +27,8 @@
 // each in order h becomes (h x 1,000,003 + it) mod 2,147,483,647.
 //
 // The file stdout has the answers of the separate ordered set: compare/ordered_set/target/release/ordered_set replay < stdin > stdout
+#![tactic(auto)]
+
 ghost use Rattle.std.specs.Prelude.{◌≡◌, length};
 ghost use Rattle.text.specs.Lines.{most_bytes};
 ghost use Rattle.trace.specs.Lines.{most_words, most_held};
@@ -36,7 +38,7 @@ use text::feed::Feed;
 use trace_step::Sizes;
 
 // What is kept from one byte to the next, beside the arrays, the last number and the bytes of the line begun: how much is held.
-#[derive(Drop)]
+#[derive(Clone, Copy)]
 pub struct State {
     pub feed: Feed,
     pub sizes: Sizes,

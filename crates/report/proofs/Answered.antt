@@ -13,15 +13,15 @@ use Rattle.report.specs.Answered.{printing, TextOf, Answered}
 use Rattle.report.proofs.Puts.{put_start}
 
 module _ {H S : Type 0} (outcome : H → S → Outcome S) where
-  pub none-answered : (s : S) (out : List ℕ) → Answered outcome [] s s out 0
+  pub none_answered : (s : S) (out : List ℕ) → Answered outcome [] s s out 0
   unfolding after_all given_by_all
-  none-answered s out = record { left = refl; text = refl; within = omega arith }
+  none_answered s out = record { left = refl; text = refl; within = omega arith }
 
-  pub one-answered :
+  pub one_answered :
       (h : H) (s : S) {after : S} {room out : List ℕ} {r : ℕ} {a : Answer} → Put room 0 (answer_text a line_feed) out r → r ≤ length room →
       Meets (outcome h s) a after → Answered outcome (h ∷ []) s after out r
   unfolding after_all given_by_all
-  one-answered h s put fits met =
+  one_answered h s put fits met =
       let bytes = put_start put fits in
       record {
         left = met.left;

@@ -28,8 +28,8 @@ module _ {n k : ℕ} (few : IsDigitCount 10 1 n (suc (suc k))) where
   several : 10 ^ suc k ≤ n
   several = let places : suc (suc k) - 1 ≡ suc k = omega arith in rw places at (few.2 (omega arith))
 
-  at-least-ten : 10 ≤ n
-  at-least-ten = omega (arith, several, pow-suc 10 k, one-le-pow k 10 (omega arith))
+  at_least_ten : 10 ≤ n
+  at_least_ten = omega (arith, several, pow-suc 10 k, one-le-pow k 10 (omega arith))
 
   one_fewer : IsDigitCount 10 1 (n / 10) (suc k)
   one_fewer =
@@ -48,7 +48,7 @@ fewest_spelled (suc most) n (suc zero) few h =
     rw (lt-ltb n 10 small, glyph_digit n, mod-eq_of_lt small) refl
 fewest_spelled (suc most) n (suc (suc k)) few h =
     let front = fewest_spelled most (n / 10) (suc k) (one_fewer few) (omega arith) in
-    rw (le-ltb n 10 (at-least-ten few), glyph_digit n) (ap (λ l. l ++ ((48 + n % 10) ∷ [])) front)
+    rw (le-ltb n 10 (at_least_ten few), glyph_digit n) (ap (λ l. l ++ ((48 + n % 10) ∷ [])) front)
 
 -- Bytes that are a number's digits.
 pub record Spelled (n : ℕ) (bytes : List ℕ) : Type 0 where

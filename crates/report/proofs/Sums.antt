@@ -28,10 +28,10 @@ pub summed_start : (all : List ℕ) → Summed all (length all % 2147483647) 0
 summed_start all = (omega arith, (omega arith, start_is all))
 
 module _ (all : List ℕ) {h i : ℕ} (s : Summed all h i) where
-  pub summed-next : {r : ℕ} → r ≡ (h * 1000003 + get_or all i 0) % 2147483647 → i < length all → Summed all r (i + 1)
+  pub summed_next : {r : ℕ} → r ≡ (h * 1000003 + get_or all i 0) % 2147483647 → i < length all → Summed all r (i + 1)
   unfolding checksum_from
-  summed-next {r} e k = (omega arith, (omega (arith, e), s.1.1 ∙ rw (e, add-one i, drop-cons all i 0 k) refl))
+  summed_next {r} e k = (omega arith, (omega (arith, e), s.1.1 ∙ rw (e, add-one i, drop-cons all i 0 k) refl))
 
-  pub summed-all : length all ≤ i → h ≡ checksum_of all
+  pub summed_all : length all ≤ i → h ≡ checksum_of all
   unfolding checksum_from
-  summed-all k = rw (s.1.1, drop_of_length-le all k) refl
+  summed_all k = rw (s.1.1, drop_of_length-le all k) refl

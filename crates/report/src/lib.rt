@@ -1,5 +1,7 @@
 // What the programs print of an answer: its four numbers in decimal, and the checksum of a buffer's words. The bytes are put into an array
 // that the caller lends and writes out.
+#![tactic(auto)]
+
 ghost use Rattle.std.specs.Prelude.{◌≡◌, [], ◌∷◌, ◌++◌, ◌+◌, ◌*◌, ◌%◌, ◌≤◌, ◌<◌, length};
 ghost use Rattle.report.specs.Report.{decimal, answer_text, field_bytes, answer_bytes, checked_bytes, Put, checksum_of};
 ghost use Rattle.report.specs.Report.{checksum_text, checked_text};

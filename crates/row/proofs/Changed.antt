@@ -10,7 +10,7 @@ use borrow.Rule.Slice.PartMut.{put_mid}
 use Rattle.book.specs.Book.{StandingKey, standing_key, Book, fresh_book, with_row}
 use Rattle.row.specs.Row.{row_length, key_words, row_words, book_in, is_row}
 use Rattle.row.specs.Places.{word_of}
-use Rattle.row.proofs.Written.{front, unused, keys_length, keys_append, keys_drop, words_take, words-drop, row_written, row_holds, read_length}
+use Rattle.row.proofs.Written.{front, unused, keys_length, keys_append, keys_drop, words_take, words_drop, row_written, row_holds, read_length}
 use Rattle.row.proofs.Checking.{held}
 
 -- three words stored over three
@@ -58,18 +58,18 @@ module _ (D : ℕ) (k : Book) where
   built row w m e f = λ t. D ∷ k.largest ∷ k.cells ∷ e t ∷ k.position ∷ (flat_map key_words row ++ replicate (f t) 0)
 
   -- another position
-  pub position-put : (q : ℕ) → set (row_words D k) 4 q ≡ row_words D (with_row k k.row q)
+  pub position_put : (q : ℕ) → set (row_words D k) 4 q ≡ row_words D (with_row k k.row q)
   unfolding row_words
-  position-put q = refl
+  position_put q = refl
 
   front_length : (i : ℕ) → i ≤ length k.row → length (front D k ++ flat_map key_words (take i k.row)) ≡ word_of i
   front_length i h = omega (arith, keys_length (take i k.row), length-take-le i k.row h)
 
   -- a key in the place of one that stands
-  pub key-put :
+  pub key_put :
       (i : ℕ) (x : StandingKey) → i < length k.row → sets (row_words D k) (word_of i) (key_words x) ≡ row_words D (with_row k (set k.row i x) k.position)
   unfolding row_words flat_map
-  key-put i x h =
+  key_put i x h =
       let y = get_or k.row i x in
       let before = front D k ++ flat_map key_words (take i k.row) in
       let later = flat_map key_words (drop (suc i) k.row) ++ unused k in
@@ -77,7 +77,7 @@ module _ (D : ℕ) (k : Book) where
       sym (take-append-drop (word_of i) (row_words D k))
       ∙ ap (λ (l : List ℕ). l ++ drop (word_of i) (row_words D k)) (words_take D k i (omega arith))
       ∙ ap (λ (l : List ℕ). before ++ l)
-      (words-drop D k i (omega arith) ∙ ap (λ (r : List StandingKey). flat_map key_words r ++ unused k) (drop-cons k.row i x h)) in
+      (words_drop D k i (omega arith) ∙ ap (λ (r : List StandingKey). flat_map key_words r ++ unused k) (drop-cons k.row i x h)) in
       let stored : sets (row_words D k) (word_of i) (key_words x) ≡ before ++ (key_words x ++ later) =
       rw split (three_stored before (key_words y) later (word_of i) x.key x.value (cond x.live 1 2) (front_length i (omega arith)) refl) in
       let keys : flat_map key_words (set k.row i x) ++ unused k ≡ flat_map key_words (take i k.row) ++ (key_words x ++ later) =
@@ -88,12 +88,12 @@ module _ (D : ℕ) (k : Book) where
       ∙ built (set k.row i x) (length k.row) (3 * (k.cells - 1 - length k.row)) (sym long) (omega arith)
 
   -- the first keys freed
-  pub keys-freed :
+  pub keys_freed :
       (n : ℕ) → n ≤ length k.row → length k.row < k.cells → (end : ℕ) → end ≡ word_of (length k.row) →
       set (put_mid 5 (end - 5) (row_words D k) (drop (3 * n) (take (end - 5) (drop 5 (row_words D k))) ++ replicate (3 * n) 0)) 3 (length k.row - n)
       ≡ row_words D (with_row k (drop n k.row) k.position)
   unfolding row_words
-  keys-freed n h room end is =
+  keys_freed n h room end is =
       let keys = flat_map key_words k.row in
       let three : end - 5 ≡ 3 * length k.row = omega arith in
       let left = length-drop n k.row in
@@ -130,7 +130,7 @@ module _ (D : ℕ) (k : Book) where
       let split : row_words D k ≡ before ++ ((later ++ three) ++ replicate m 0) =
       sym (take-append-drop (word_of i) (row_words D k))
       ∙ ap (λ (l : List ℕ). l ++ drop (word_of i) (row_words D k)) (words_take D k i h)
-      ∙ ap (λ (l : List ℕ). before ++ l) (words-drop D k i h ∙ ap (λ (l : List ℕ). later ++ l) zeros ∙ sym (append_assoc later three (replicate m 0))) in
+      ∙ ap (λ (l : List ℕ). before ++ l) (words_drop D k i h ∙ ap (λ (l : List ℕ). later ++ l) zeros ∙ sym (append_assoc later three (replicate m 0))) in
       let long : length (later ++ three) ≡ end - start =
       omega (arith, length-append later three, keys_length (drop i k.row), length-drop i k.row) in
       let stored = three_opened (row_words D k) before later three (replicate m 0) start (end - start) key value 1 split (front_length i h ∙ sym is) long refl in
@@ -158,36 +158,36 @@ module _ (ws : List ℕ) (e : is_row ws ≡ true) where
       (i : ℕ) (x : StandingKey) → i < get_or ws 3 0 →
       sets ws (word_of i) (key_words x) ≡ row_words (get_or ws 0 0) (with_row (book_in ws) (set (book_in ws).row i x) (book_in ws).position)
   row_put i x h =
-      ap (λ (l : List ℕ). sets l (word_of i) (key_words x)) (row_written ws e) ∙ key-put (get_or ws 0 0) (book_in ws) i x (omega (arith, read_length ws))
+      ap (λ (l : List ℕ). sets l (word_of i) (key_words x)) (row_written ws e) ∙ key_put (get_or ws 0 0) (book_in ws) i x (omega (arith, read_length ws))
 
-  pub row-put-at :
+  pub row_put_at :
       (i : ℕ) (x : StandingKey) (q : ℕ) → i < get_or ws 3 0 →
       set (sets ws (word_of i) (key_words x)) 4 q ≡ row_words (get_or ws 0 0) (with_row (book_in ws) (set (book_in ws).row i x) q)
-  row-put-at i x q h =
+  row_put_at i x q h =
       let D = get_or ws 0 0 in
-      ap (λ (l : List ℕ). set l 4 q) (row_put i x h) ∙ position-put D (with_row (book_in ws) (set (book_in ws).row i x) (book_in ws).position) q
+      ap (λ (l : List ℕ). set l 4 q) (row_put i x h) ∙ position_put D (with_row (book_in ws) (set (book_in ws).row i x) (book_in ws).position) q
 
-  pub row-placed : (q : ℕ) → set ws 4 q ≡ row_words (get_or ws 0 0) (with_row (book_in ws) (book_in ws).row q)
-  row-placed q = ap (λ (l : List ℕ). set l 4 q) (row_written ws e) ∙ position-put (get_or ws 0 0) (book_in ws) q
+  pub row_placed : (q : ℕ) → set ws 4 q ≡ row_words (get_or ws 0 0) (with_row (book_in ws) (book_in ws).row q)
+  row_placed q = ap (λ (l : List ℕ). set l 4 q) (row_written ws e) ∙ position_put (get_or ws 0 0) (book_in ws) q
 
-  pub row-freed :
+  pub row_freed :
       (n : ℕ) → n ≤ get_or ws 3 0 → (end : ℕ) → end ≡ word_of (get_or ws 3 0) →
       set (put_mid 5 (end - 5) ws (drop (3 * n) (take (end - 5) (drop 5 ws)) ++ replicate (3 * n) 0)) 3 (get_or ws 3 0 - n)
       ≡ row_words (get_or ws 0 0) (with_row (book_in ws) (drop n (book_in ws).row) (book_in ws).position)
-  row-freed n h end is =
+  row_freed n h end is =
       let left : length (book_in ws).row - n ≡ get_or ws 3 0 - n = ap (λ m. m - n) (read_length ws) in
       let done =
-      keys-freed (get_or ws 0 0) (book_in ws) n (omega (arith, read_length ws)) (held (get_or ws 0 0) (book_in ws) (row_holds ws e)).room end
+      keys_freed (get_or ws 0 0) (book_in ws) n (omega (arith, read_length ws)) (held (get_or ws 0 0) (book_in ws) (row_holds ws e)).room end
       (omega (arith, read_length ws)) in
       ap (λ (l : List ℕ). set (put_mid 5 (end - 5) l (drop (3 * n) (take (end - 5) (drop 5 l)) ++ replicate (3 * n) 0)) 3 (get_or ws 3 0 - n)) (row_written ws e)
       ∙ (rw left at done)
 
-  pub row-added :
+  pub row_added :
       (i key value : ℕ) → i ≤ get_or ws 3 0 → get_or ws 3 0 + 1 < get_or ws 2 0 → (start end : ℕ) → start ≡ word_of i → end ≡ word_of (get_or ws 3 0 + 1) →
       set (sets (opened start (end - start) ws) (word_of i) (key ∷ value ∷ 1 ∷ [])) 3 (get_or ws 3 0 + 1)
       ≡ row_words (get_or ws 0 0) (with_row (book_in ws) (take i (book_in ws).row ++ (standing_key key value true ∷ drop i (book_in ws).row)) (book_in ws).position)
   unfolding book_in
-  row-added i key value h room start end is to =
+  row_added i key value h room start end is to =
       let more : length (book_in ws).row + 1 ≡ get_or ws 3 0 + 1 = ap (λ m. m + 1) (read_length ws) in
       let done =
       key_added (get_or ws 0 0) (book_in ws) i key value (omega (arith, read_length ws)) (omega (arith, read_length ws)) start end is

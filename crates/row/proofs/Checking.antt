@@ -18,7 +18,7 @@ use Rattle.settings.specs.Numbers.{in_range}
 use Rattle.book.specs.Book.{StandingKey, Book}
 use Rattle.row.specs.Row.{row_length, key_words, row_words, key_in, book_in, ascending, at_position, right_mark, holds, is_row}
 use Rattle.row.specs.Places.{Shaped, HasShape, word_of, right_key, right_keys}
-use Rattle.row.proofs.Written.{unused, words_split, words-drop, words_length, word_back, row_written, row_holds, read_length}
+use Rattle.row.proofs.Written.{unused, words_split, words_drop, words_length, word_back, row_written, row_holds, read_length}
 
 -- What a row may hold, part by part
 pub record Held (D : ℕ) (k : Book) : Type 0 where
@@ -78,20 +78,20 @@ mark_kept mark value above e m = at (eqb mark 1) e m
     at false e m = and_both (eqb mark 2) (eqb value 0) (eq-eqb mark 2 (sym m)) e
 
 module _ (ws : List ℕ) where
-  pub right-told :
+  pub right_told :
       (n low i : ℕ) → right_keys ws low i n ≡ true →
       (ascending low (get_or ws 1 0) (keys_from ws i n) ≡ true)
       × ((every (right_mark (get_or ws 4 0)) (keys_from ws i n) ≡ true) × ((j : ℕ) → i ≤ j → j < i + n → Marked (mark_at ws j)))
   unfolding right_keys right_key ascending every numbers_from
-  right-told zero low i e = (refl, (refl, λ j p q. absurd (omega arith)))
-  right-told (suc n) low i e =
+  right_told zero low i e = (refl, (refl, λ j p q. absurd (omega arith)))
+  right_told (suc n) low i e =
       let key = get_or ws (word_of i) 0 in
       let t = both (right_key ws low i) (right_keys ws key (suc i) n) e in
       let s =
       both (ltb low key && leb key (get_or ws 1 0)) (cond (eqb (mark_at ws i) 1) (ltb (get_or ws 4 0) key) (eqb (mark_at ws i) 2 && eqb (get_or ws (word_of i + 1) 0) 0))
       t.0 in
       let m = mark_told (mark_at ws i) (get_or ws (word_of i + 1) 0) (ltb (get_or ws 4 0) key) s.1 in
-      let more = right-told n key (suc i) t.1 in (
+      let more = right_told n key (suc i) t.1 in (
         and_both (ltb low key && leb key (get_or ws 1 0)) (ascending key (get_or ws 1 0) (keys_from ws (suc i) n)) s.0 more.0,
         (
           and_both (right_mark (get_or ws 4 0) (key_in ws i)) (every (right_mark (get_or ws 4 0)) (keys_from ws (suc i) n)) m.0 more.1.0,
@@ -119,19 +119,19 @@ module _ (ws : List ℕ) where
       (right_kept n key (suc i) t.1 s.1 (λ j p q. m j (omega arith) (omega arith)))
 
   -- the words of the keys, written again
-  keys-again :
+  keys_again :
       (n i : ℕ) → word_of (i + n) ≤ length ws → ((j : ℕ) → i ≤ j → j < i + n → Marked (mark_at ws j)) →
       drop (word_of i) ws ≡ flat_map key_words (keys_from ws i n) ++ drop (word_of (i + n)) ws
   unfolding numbers_from flat_map
-  keys-again zero i h m = let none : i + 0 ≡ i = omega arith in rw none refl
-  keys-again (suc n) i h m =
+  keys_again zero i h m = let none : i + 0 ≡ i = omega arith in rw none refl
+  keys_again (suc n) i h m =
       let at = word_of i in
       let one : at + 1 ≡ suc at = omega arith in
       let two : at + 2 ≡ suc (suc at) = omega arith in
       let next : word_of (suc i) ≡ suc (suc (suc at)) = omega arith in
       let on : i + suc n ≡ suc i + n = omega arith in
       let ih : drop (suc (suc (suc at))) ws ≡ flat_map key_words (keys_from ws (suc i) n) ++ drop (word_of (i + suc n)) ws =
-      rw (← next, on) (keys-again n (suc i) (omega arith) (λ j p q. m j (omega arith) (omega arith))) in
+      rw (← next, on) (keys_again n (suc i) (omega arith) (λ j p q. m j (omega arith) (omega arith))) in
       let mark : get_or ws (suc (suc at)) 0 ≡ cond (eqb (get_or ws (at + 2) 0) 1) 1 2 = rw (← two) (sym (m i (omega arith) (omega arith))) in
       let words : drop at ws ≡ get_or ws at 0 ∷ get_or ws (at + 1) 0 ∷ cond (eqb (get_or ws (at + 2) 0) 1) 1 2 ∷ drop (suc (suc (suc at))) ws =
       drop-cons ws at 0 (omega arith)
@@ -163,17 +163,17 @@ zeros_zero zero = refl
 zeros_zero (suc n) = zeros_zero n
 
 module _ (part : List ℕ) (i : ℕ) where
-  pub zero-here : i < length part → (get_or part i 0 ≡ 0 → ⊥) → all_zero (drop i part) ≡ false
+  pub zero_here : i < length part → (get_or part i 0 ≡ 0 → ⊥) → all_zero (drop i part) ≡ false
   unfolding all_zero
-  zero-here h ne = rw (drop-cons part i 0 h, ne_eqb (get_or part i 0) 0 ne) refl
+  zero_here h ne = rw (drop-cons part i 0 h, ne_eqb (get_or part i 0) 0 ne) refl
 
-  pub zero-on : i < length part → get_or part i 0 ≡ 0 → all_zero (drop i part) ≡ all_zero (drop (i + 1) part)
+  pub zero_on : i < length part → get_or part i 0 ≡ 0 → all_zero (drop i part) ≡ all_zero (drop (i + 1) part)
   unfolding all_zero
-  zero-on h e = rw (add-one i, drop-cons part i 0 h, eq-eqb (get_or part i 0) 0 e) refl
+  zero_on h e = rw (add-one i, drop-cons part i 0 h, eq-eqb (get_or part i 0) 0 e) refl
 
-  pub zero-end : length part ≤ i → all_zero (drop i part) ≡ true
+  pub zero_end : length part ≤ i → all_zero (drop i part) ≡ true
   unfolding all_zero
-  zero-end h = rw (drop_of_length-le part h) refl
+  zero_end h = rw (drop_of_length-le part h) refl
 
 -- Both ways
 
@@ -184,7 +184,7 @@ module _ (ws : List ℕ) where
   unfolding is_row book_in
   checked shape keys position zeros =
       let n = get_or ws 3 0 in
-      let t = right-told ws n 0 0 keys in
+      let t = right_told ws n 0 0 keys in
       let may : holds (get_or ws 0 0) (book_in ws) ≡ true =
       may_hold (get_or ws 0 0) (book_in ws)
       record { range = shape.range; room = omega (arith, read_length ws, shape.room); rise = t.0; position = position; marks = t.1.0 } in
@@ -193,7 +193,7 @@ module _ (ws : List ℕ) where
       let rest : drop (word_of n) ws ≡ unused (book_in ws) = zero_words (drop (word_of n) ws) zeros ∙ ap (λ m. replicate m 0) left in
       let none : 0 + n ≡ n = omega arith in
       let within : word_of (0 + n) ≤ length ws = omega (arith, shape.long, shape.room) in
-      let keyed : drop 5 ws ≡ flat_map key_words (book_in ws).row ++ drop (word_of n) ws = rw none at (keys-again ws n 0 within t.1.1) in
+      let keyed : drop 5 ws ≡ flat_map key_words (book_in ws).row ++ drop (word_of n) ws = rw none at (keys_again ws n 0 within t.1.1) in
       let body : flat_map key_words (book_in ws).row ++ unused (book_in ws) ≡ drop 5 ws =
       ap (λ l. flat_map key_words (book_in ws).row ++ l) (sym rest) ∙ sym keyed in
       let again : row_words (get_or ws 0 0) (book_in ws) ≡ ws =
@@ -202,16 +202,16 @@ module _ (ws : List ℕ) where
       ∙ sym (front_words ws (omega (arith, shape.long))) in
       and_both (holds (get_or ws 0 0) (book_in ws)) (same (row_words (get_or ws 0 0) (book_in ws)) ws) may (rw again (same_refl ws))
 
-  pub row-shaped : is_row ws ≡ true → Shaped ws
+  pub row_shaped : is_row ws ≡ true → Shaped ws
   unfolding book_in
-  row-shaped e =
+  row_shaped e =
       let h = held (get_or ws 0 0) (book_in ws) (row_holds ws e) in
       let few : get_or ws 3 0 < get_or ws 2 0 = omega (arith, read_length ws, h.room) in
       record { range = h.range; long = ap length (row_written ws e) ∙ words_length (get_or ws 0 0) (book_in ws) h.room; room = few }
 
-  pub row-keys : is_row ws ≡ true → right_keys ws 0 0 (get_or ws 3 0) ≡ true
+  pub row_keys : is_row ws ≡ true → right_keys ws 0 0 (get_or ws 3 0) ≡ true
   unfolding book_in
-  row-keys e =
+  row_keys e =
       let h = held (get_or ws 0 0) (book_in ws) (row_holds ws e) in
       right_kept ws (get_or ws 3 0) 0 0 h.rise h.marks
       (λ j p q.
@@ -223,37 +223,37 @@ module _ (ws : List ℕ) where
       ∙ word_back (get_or ws 0 0) k j (get_or k.row j z) (drop (suc j) k.row) within (drop-cons k.row j z within) 2 in
       rw mark (mark_written (get_or k.row j z).live))
 
-  pub row-position : is_row ws ≡ true → at_position (get_or ws 4 0) (book_in ws).row ≡ true
+  pub row_position : is_row ws ≡ true → at_position (get_or ws 4 0) (book_in ws).row ≡ true
   unfolding book_in
-  row-position e = (held (get_or ws 0 0) (book_in ws) (row_holds ws e)).position
+  row_position e = (held (get_or ws 0 0) (book_in ws) (row_holds ws e)).position
 
-  pub row-zeros : is_row ws ≡ true → all_zero (drop (word_of (get_or ws 3 0)) ws) ≡ true
+  pub row_zeros : is_row ws ≡ true → all_zero (drop (word_of (get_or ws 3 0)) ws) ≡ true
   unfolding flat_map
-  row-zeros e =
+  row_zeros e =
       let k = book_in ws in
       let n = get_or ws 3 0 in
       let all : length k.row ≤ n = omega (arith, read_length ws) in
       let rest : drop (word_of n) (row_words (get_or ws 0 0) k) ≡ unused k =
-      words-drop (get_or ws 0 0) k n (omega (arith, read_length ws)) ∙ ap (λ r. flat_map key_words r ++ unused k) (drop_of_length-le k.row all) in
+      words_drop (get_or ws 0 0) k n (omega (arith, read_length ws)) ∙ ap (λ r. flat_map key_words r ++ unused k) (drop_of_length-le k.row all) in
       ap (λ l. all_zero (drop (word_of n) l)) (row_written ws e) ∙ (rw rest (zeros_zero (3 * (k.cells - 1 - length k.row))))
 
 -- Told of the shape
 
 pub shape_no : (ws : List ℕ) → (Shaped ws → ⊥) → HasShape ws false
-shape_no ws other = record { told = λ e. absurd (false≢true e); kept = λ e. absurd (other (row-shaped ws e)) }
+shape_no ws other = record { told = λ e. absurd (false≢true e); kept = λ e. absurd (other (row_shaped ws e)) }
 
 pub shape_is :
     (ws : List ℕ) → in_range (get_or ws 0 0) (get_or ws 1 0) (get_or ws 2 0) ≡ true → length ws ≡ row_length (get_or ws 2 0) → HasShape ws (ltb (get_or ws 3 0) (get_or ws 2 0))
 shape_is ws range long =
     record {
       told = λ e. record { range = range; long = long; room = ltb-true (get_or ws 3 0) (get_or ws 2 0) e };
-      kept = λ e. lt-ltb (get_or ws 3 0) (get_or ws 2 0) (row-shaped ws e).room;
+      kept = λ e. lt-ltb (get_or ws 3 0) (get_or ws 2 0) (row_shaped ws e).room;
     }
 
 -- Told of the keys
 pub keys_rise : (ws : List ℕ) → right_keys ws 0 0 (get_or ws 3 0) ≡ true → ascending 0 (get_or ws 1 0) (book_in ws).row ≡ true
 unfolding book_in
-keys_rise ws e = (right-told ws (get_or ws 3 0) 0 0 e).0
+keys_rise ws e = (right_told ws (get_or ws 3 0) 0 0 e).0
 
 -- a test that cannot hold
 pub refuted : (t : Bool) → (t ≡ true → ⊥) → false ≡ t

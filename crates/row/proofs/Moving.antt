@@ -10,20 +10,20 @@ use borrow.Rule.Slice.PartMut.{put_mid}
 
 module _ (part : List ℕ) where
   -- moved up from place i on
-  abbrev pub movedUp : ℕ → List ℕ
-  movedUp i = take i part ++ drop (i - 3) (take (length part - 3) part)
+  abbrev pub moved_up : ℕ → List ℕ
+  moved_up i = take i part ++ drop (i - 3) (take (length part - 3) part)
 
-  pub up_start : 3 ≤ length part → part ≡ movedUp (length part)
+  pub up_start : 3 ≤ length part → part ≡ moved_up (length part)
   up_start h =
       let past : length (take (length part - 3) part) ≤ length part - 3 = omega (arith, length-take (length part - 3) part) in
       sym (rw (drop_of_length-le (take (length part - 3) part) past, take_all (length part) part (omega arith)) (append-nil part))
 
-  pub up-read : (i : ℕ) → 3 < i → i ≤ length part → get_or (movedUp i) (i - 1 - 3) 0 ≡ get_or part (i - 1 - 3) 0
-  up-read i low high =
+  pub up_read : (i : ℕ) → 3 < i → i ≤ length part → get_or (moved_up i) (i - 1 - 3) 0 ≡ get_or part (i - 1 - 3) 0
+  up_read i low high =
       get_or-append (take i part) (drop (i - 3) (take (length part - 3) part)) 0 (i - 1 - 3) (omega (arith, length-take-le i part high))
       ∙ get_or-take i part (i - 1 - 3) 0 (omega arith)
 
-  up_one : (j : ℕ) → 3 ≤ j → j < length part → set (movedUp (suc j)) j (get_or part (j - 3) 0) ≡ movedUp j
+  up_one : (j : ℕ) → 3 ≤ j → j < length part → set (moved_up (suc j)) j (get_or part (j - 3) 0) ≡ moved_up j
   up_one j low high =
       let all = take (length part - 3) part in
       let v = get_or part (j - 3) 0 in
@@ -38,26 +38,26 @@ module _ (part : List ℕ) where
       )
       (ap (λ (l : List ℕ). take j part ++ l) (sym (drop-cons all (j - 3) 0 within ∙ ap (λ w. w ∷ drop (suc (j - 3)) all) word)))
 
-  pub up_more : (i : ℕ) → 3 < i → i ≤ length part → set (movedUp i) (i - 1) (get_or part (i - 1 - 3) 0) ≡ movedUp (i - 1)
+  pub up_more : (i : ℕ) → 3 < i → i ≤ length part → set (moved_up i) (i - 1) (get_or part (i - 1 - 3) 0) ≡ moved_up (i - 1)
   up_more i low high =
       let next : i ≡ suc (i - 1) = omega arith in
-      ap (λ m. set (movedUp m) (i - 1) (get_or part (i - 1 - 3) 0)) next ∙ up_one (i - 1) (omega arith) (omega arith)
+      ap (λ m. set (moved_up m) (i - 1) (get_or part (i - 1 - 3) 0)) next ∙ up_one (i - 1) (omega arith) (omega arith)
 
   -- moved down up to place i
-  abbrev pub movedDown : ℕ → ℕ → List ℕ
-  movedDown by i = take i (drop by part) ++ drop i part
+  abbrev pub moved_down : ℕ → ℕ → List ℕ
+  moved_down by i = take i (drop by part) ++ drop i part
 
   moved_length : (by i : ℕ) → i + by ≤ length part → length (take i (drop by part)) ≡ i
   moved_length by i h = length-take-le i (drop by part) (omega (arith, length-drop by part))
 
-  pub down-read : (by i : ℕ) → i + by < length part → get_or (movedDown by i) (i + by) 0 ≡ get_or part (i + by) 0
-  down-read by i h =
-      ap (λ m. get_or (movedDown by i) (m + by) 0) (sym (moved_length by i (omega arith)))
+  pub down_read : (by i : ℕ) → i + by < length part → get_or (moved_down by i) (i + by) 0 ≡ get_or part (i + by) 0
+  down_read by i h =
+      ap (λ m. get_or (moved_down by i) (m + by) 0) (sym (moved_length by i (omega arith)))
       ∙ get_or-append-add (take i (drop by part)) (drop i part) by 0
       ∙ get_or-drop i part by 0
 
-  pub down-more : (by i : ℕ) → i + by < length part → set (movedDown by i) i (get_or part (i + by) 0) ≡ movedDown by (i + 1)
-  down-more by i h =
+  pub down_more : (by i : ℕ) → i + by < length part → set (moved_down by i) i (get_or part (i + by) 0) ≡ moved_down by (i + 1)
+  down_more by i h =
       let moved = take i (drop by part) in
       let v = get_or part (i + by) 0 in
       let turned : by + i ≡ i + by = omega arith in
@@ -72,8 +72,8 @@ module _ (part : List ℕ) where
       )
       (sym (append_snoc moved v (drop (suc i) part)))
 
-  pub down-end : (by i : ℕ) → i + by ≡ length part → movedDown by i ≡ drop by part ++ drop (length part - by) part
-  down-end by i h =
+  pub down_end : (by i : ℕ) → i + by ≡ length part → moved_down by i ≡ drop by part ++ drop (length part - by) part
+  down_end by i h =
       let end : i ≡ length part - by = omega arith in
       let all : length (drop by part) ≤ i = omega (arith, length-drop by part) in
       rw (take_all i (drop by part) all, end) refl

@@ -15,13 +15,13 @@ use Rattle.settings.specs.Numbers.{in_range, is_key}
 use Rattle.answers.specs.declared.Answer.{Answer}
 use Rattle.answers.specs.declared.Operation.{Operation}
 use Rattle.answers.specs.declared.Operation.TheVariants.{Insert, Find, Finish, Take, Sweep}
-use Rattle.answers.specs.Refusals.{Outcome, Meets, accepted, refused, out_of_range, wrong_length, not_aList, bad_key, key_live, no_free_cell, nothing_live, key_not_live, key_not_standing}
+use Rattle.answers.specs.Refusals.{Outcome, Meets, accepted, refused, out_of_range, wrong_length, not_a_list, bad_key, key_live, no_free_cell, nothing_live, key_not_live, key_not_standing}
 use Rattle.book.specs.Book.{standing_key, fresh_book, with_row, last_in, standing_at, on_book_key, put_key, marked, position_with, insert_book, find_book, finish_book, dead_before, live_on, standing_above, standing_between, take_book, last_only, sweep_book, operation_book}
 use Rattle.row.specs.Row.{row_length, row_words, key_in, book_in, ascending, is_row, row_set_up_out, in_words, row_out}
 use Rattle.row.specs.Places.{word_of, place_of, stands_at, position_after}
 use Rattle.row.proofs.Written.{row_holds, read_length, read_at, read_from_lem}
 use Rattle.row.proofs.Searching.{place_within, place_put, place_below, marked_at, last_before, last_kept, others_length, between_up_to, dead_taken, live_dropped, dead_within}
-use Rattle.row.proofs.Found.{found-there, found_nowhere}
+use Rattle.row.proofs.Found.{found_there, found_nowhere}
 use Rattle.row.proofs.Turns.{keys_end}
 use Rattle.row.proofs.Checking.{held}
 
@@ -65,7 +65,7 @@ set_up_done D K C ws range long = rw (range, eq-eqb (length ws) (row_length C) l
 
 -- 3
 
-pub no_row : (operation : Operation) (ws : List ℕ) → is_row ws ≡ false → row_out operation ws ≡ refused not_aList ws
+pub no_row : (operation : Operation) (ws : List ℕ) → is_row ws ≡ false → row_out operation ws ≡ refused not_a_list ws
 unfolding row_out
 no_row operation ws e = rw e refl
 
@@ -81,70 +81,70 @@ module _ (ws : List ℕ) (e : is_row ws ≡ true) where
   -- 4
 
   module _ (key : ℕ) (bad : is_key (get_or ws 1 0) key ≡ false) where
-    pub insert-bad : (value : ℕ) → row_out (Insert key value) ws ≡ in_words (get_or ws 0 0) (refused bad_key (book_in ws))
+    pub insert_bad : (value : ℕ) → row_out (Insert key value) ws ≡ in_words (get_or ws 0 0) (refused bad_key (book_in ws))
     unfolding operation_book on_book_key book_in
-    insert-bad value = on_row (Insert key value) ∙ (rw bad refl)
+    insert_bad value = on_row (Insert key value) ∙ (rw bad refl)
 
-    pub find-bad : row_out (Find key) ws ≡ in_words (get_or ws 0 0) (refused bad_key (book_in ws))
+    pub find_bad : row_out (Find key) ws ≡ in_words (get_or ws 0 0) (refused bad_key (book_in ws))
     unfolding operation_book on_book_key book_in
-    find-bad = on_row (Find key) ∙ (rw bad refl)
+    find_bad = on_row (Find key) ∙ (rw bad refl)
 
-    pub finish-bad : row_out (Finish key) ws ≡ in_words (get_or ws 0 0) (refused bad_key (book_in ws))
+    pub finish_bad : row_out (Finish key) ws ≡ in_words (get_or ws 0 0) (refused bad_key (book_in ws))
     unfolding operation_book on_book_key book_in
-    finish-bad = on_row (Finish key) ∙ (rw bad refl)
+    finish_bad = on_row (Finish key) ∙ (rw bad refl)
 
   -- a key that is one, by what stands at its place
 
   module _ (key : ℕ) (good : is_key (get_or ws 1 0) key ≡ true) (i : ℕ) (is : i ≡ place_of key (book_in ws).row) where
-    there-found : stands_at ws i key ≡ true → standing_at key (book_in ws).row ≡ some (key_in ws i)
-    there-found there = rw is (found-there ws key (rw is at there))
+    there_found : stands_at ws i key ≡ true → standing_at key (book_in ws).row ≡ some (key_in ws i)
+    there_found there = rw is (found_there ws key (rw is at there))
 
     none_found : stands_at ws i key ≡ false → standing_at key (book_in ws).row ≡ none
     none_found other = found_nowhere ws key (get_or ws 1 0) rise (rw is at other)
 
-    there-marked :
+    there_marked :
         stands_at ws i key ≡ true → (value : ℕ) (live : Bool) → marked key value live (book_in ws).row ≡ set (book_in ws).row i (standing_key key value live)
-    there-marked there value live =
+    there_marked there value live =
         let t = both (ltb i (get_or ws 3 0)) (eqb (get_or ws (word_of i) 0) key) there in
         let within = there_within ws i key there in
-        let key-is : (get_or (book_in ws).row i (key_in ws i)).key ≡ key =
+        let key_is : (get_or (book_in ws).row i (key_in ws i)).key ≡ key =
         ap (λ x. x.key) (read_at ws i (key_in ws i) within) ∙ eqb-true (get_or ws (word_of i) 0) key t.1 in
-        rw key-is at (marked_at 0 (get_or ws 1 0) (book_in ws).row i value live (key_in ws i) rise (omega (arith, read_length ws)))
+        rw key_is at (marked_at 0 (get_or ws 1 0) (book_in ws).row i value live (key_in ws i) rise (omega (arith, read_length ws)))
 
     position_is : position_with key (book_in ws) ≡ position_after ws i key
     unfolding position_with book_in
     position_is = rw (is, place_below key 0 (get_or ws 1 0) (book_in ws).row rise) refl
 
-    pub insert-live :
+    pub insert_live :
         (value : ℕ) → stands_at ws i key ≡ true → get_or ws (word_of i + 2) 0 ≡ 1 →
         row_out (Insert key value) ws ≡ in_words (get_or ws 0 0) (refused (key_live key 0) (book_in ws))
     unfolding operation_book on_book_key book_in insert_book
-    insert-live value there live = on_row (Insert key value) ∙ (rw (good, there-found there, live) refl)
+    insert_live value there live = on_row (Insert key value) ∙ (rw (good, there_found there, live) refl)
 
-    pub insert-dead :
+    pub insert_dead :
         (value : ℕ) → stands_at ws i key ≡ true → (get_or ws (word_of i + 2) 0 ≡ 1 → ⊥) →
         row_out (Insert key value) ws
         ≡ in_words (get_or ws 0 0) (accepted key 0 0 (with_row (book_in ws) (set (book_in ws).row i (standing_key key value true)) (position_after ws i key)))
     unfolding operation_book on_book_key book_in insert_book
-    insert-dead value there dead =
+    insert_dead value there dead =
         on_row (Insert key value)
-        ∙ (rw (good, there-found there, ne_eqb (get_or ws (word_of i + 2) 0) 1 dead, there-marked there value true, position_is) refl)
+        ∙ (rw (good, there_found there, ne_eqb (get_or ws (word_of i + 2) 0) 1 dead, there_marked there value true, position_is) refl)
 
-    pub insert-full :
+    pub insert_full :
         (value : ℕ) → stands_at ws i key ≡ false → get_or ws 2 0 ≤ get_or ws 3 0 + 1 →
         row_out (Insert key value) ws ≡ in_words (get_or ws 0 0) (refused (no_free_cell key 0) (book_in ws))
     unfolding operation_book on_book_key book_in insert_book
-    insert-full value other full =
+    insert_full value other full =
         let none_left : get_or ws 2 0 ≤ suc (length (book_in ws).row) = omega (arith, read_length ws) in
         on_row (Insert key value) ∙ (rw (good, none_found other, le-ltb (suc (length (book_in ws).row)) (get_or ws 2 0) none_left) refl)
 
-    pub insert-new :
+    pub insert_new_lem :
         (value : ℕ) → stands_at ws i key ≡ false → get_or ws 3 0 + 1 < get_or ws 2 0 →
         row_out (Insert key value) ws
         ≡ in_words (get_or ws 0 0)
         (accepted key 0 0 (with_row (book_in ws) (take i (book_in ws).row ++ (standing_key key value true ∷ drop i (book_in ws).row)) (position_after ws i key)))
     unfolding operation_book on_book_key book_in insert_book
-    insert-new value other room =
+    insert_new_lem value other room =
         let some_left : suc (length (book_in ws).row) < get_or ws 2 0 = omega (arith, read_length ws) in
         let put : put_key (standing_key key value true) (book_in ws).row ≡ take i (book_in ws).row ++ (standing_key key value true ∷ drop i (book_in ws).row) =
         rw is (place_put (standing_key key value true) (book_in ws).row) in
@@ -154,43 +154,43 @@ module _ (ws : List ℕ) (e : is_row ws ≡ true) where
     unfolding operation_book on_book_key book_in find_book
     find_none other = on_row (Find key) ∙ (rw (good, none_found other) refl)
 
-    pub find-dead :
+    pub find_dead :
         stands_at ws i key ≡ true → (get_or ws (word_of i + 2) 0 ≡ 1 → ⊥) → row_out (Find key) ws ≡ in_words (get_or ws 0 0) (refused (key_not_live key 0) (book_in ws))
     unfolding operation_book on_book_key book_in find_book
-    find-dead there dead = on_row (Find key) ∙ (rw (good, there-found there, ne_eqb (get_or ws (word_of i + 2) 0) 1 dead) refl)
+    find_dead there dead = on_row (Find key) ∙ (rw (good, there_found there, ne_eqb (get_or ws (word_of i + 2) 0) 1 dead) refl)
 
-    pub find-live :
+    pub find_live :
         stands_at ws i key ≡ true → get_or ws (word_of i + 2) 0 ≡ 1 →
         row_out (Find key) ws ≡ in_words (get_or ws 0 0) (accepted key (get_or ws (word_of i + 1) 0) 0 (book_in ws))
     unfolding operation_book on_book_key book_in find_book
-    find-live there live = on_row (Find key) ∙ (rw (good, there-found there, live) refl)
+    find_live there live = on_row (Find key) ∙ (rw (good, there_found there, live) refl)
 
-    pub finish-none : stands_at ws i key ≡ false → row_out (Finish key) ws ≡ in_words (get_or ws 0 0) (refused (key_not_standing key) (book_in ws))
+    pub finish_none : stands_at ws i key ≡ false → row_out (Finish key) ws ≡ in_words (get_or ws 0 0) (refused (key_not_standing key) (book_in ws))
     unfolding operation_book on_book_key book_in finish_book
-    finish-none other = on_row (Finish key) ∙ (rw (good, none_found other) refl)
+    finish_none other = on_row (Finish key) ∙ (rw (good, none_found other) refl)
 
-    pub finish-there : stands_at ws i key ≡ true → row_out (Finish key) ws ≡ in_words (get_or ws 0 0) (accepted key 0 0 (book_in ws))
+    pub finish_there : stands_at ws i key ≡ true → row_out (Finish key) ws ≡ in_words (get_or ws 0 0) (accepted key 0 0 (book_in ws))
     unfolding operation_book on_book_key book_in finish_book
-    finish-there there = on_row (Finish key) ∙ (rw (good, there-found there) refl)
+    finish_there there = on_row (Finish key) ∙ (rw (good, there_found there) refl)
 
   -- take and sweep, by the place of the first live key
 
   module _ (i : ℕ) (is : i ≡ length (dead_before (book_in ws).row)) where
-    pub dead-fits : i ≤ get_or ws 3 0
-    dead-fits = omega (arith, dead_within (book_in ws).row, read_length ws)
+    pub dead_fits : i ≤ get_or ws 3 0
+    dead_fits = omega (arith, dead_within (book_in ws).row, read_length ws)
 
     live_on_lem : live_on (book_in ws).row ≡ drop i (book_in ws).row
     live_on_lem = rw is (live_dropped (book_in ws).row)
 
-    dead-before : dead_before (book_in ws).row ≡ take i (book_in ws).row
-    dead-before = rw is (dead_taken (book_in ws).row)
+    dead_before_lem : dead_before (book_in ws).row ≡ take i (book_in ws).row
+    dead_before_lem = rw is (dead_taken (book_in ws).row)
 
     pub take_none :
         get_or ws 3 0 ≤ i → row_out Take ws ≡ in_words (get_or ws 0 0) (refused (nothing_live (standing_above (get_or ws 4 0) (take i (book_in ws).row))) (book_in ws))
     unfolding operation_book book_in take_book
     take_none past = on_row Take ∙ (rw (live_on_lem, keys_end ws i past, take_all i (book_in ws).row (omega (arith, read_length ws))) refl)
 
-    pub take-live :
+    pub take_live :
         i < get_or ws 3 0 →
         let key = get_or ws (word_of i) 0 in
         row_out Take ws
@@ -198,27 +198,27 @@ module _ (ws : List ℕ) (e : is_row ws ≡ true) where
         (accepted key (get_or ws (word_of i + 1) 0) (standing_above (get_or ws 4 0) (take (i + 1) (book_in ws).row))
         (with_row (book_in ws) (set (book_in ws).row i (standing_key key 0 false)) key))
     unfolding operation_book book_in take_book
-    take-live h =
+    take_live h =
         let row = (book_in ws).row in
         let within : i < length row = omega (arith, read_length ws) in
-        let key-is : (get_or row i (key_in ws i)).key ≡ get_or ws (word_of i) 0 = ap (λ x. x.key) (read_at ws i (key_in ws i) h) in
+        let key_is : (get_or row i (key_in ws i)).key ≡ get_or ws (word_of i) 0 = ap (λ x. x.key) (read_at ws i (key_in ws i) h) in
         let passed : standing_between (get_or ws 4 0) (get_or ws (word_of i) 0) row ≡ standing_above (get_or ws 4 0) (take (i + 1) row) =
-        rw (add-one i) (rw key-is at (between_up_to 0 (get_or ws 4 0) (get_or ws 1 0) row i (key_in ws i) rise within)) in
+        rw (add-one i) (rw key_is at (between_up_to 0 (get_or ws 4 0) (get_or ws 1 0) row i (key_in ws i) rise within)) in
         let taken : marked (get_or ws (word_of i) 0) 0 false row ≡ set row i (standing_key (get_or ws (word_of i) 0) 0 false) =
-        rw key-is at (marked_at 0 (get_or ws 1 0) row i 0 false (key_in ws i) rise within) in
+        rw key_is at (marked_at 0 (get_or ws 1 0) row i 0 false (key_in ws i) rise within) in
         on_row Take ∙ (rw (live_on_lem, read_from_lem ws i h, passed, taken) refl)
 
-    pub sweep-none : i ≡ 0 → row_out Sweep ws ≡ in_words (get_or ws 0 0) (accepted 0 0 0 (with_row (book_in ws) (book_in ws).row 0))
+    pub sweep_none : i ≡ 0 → row_out Sweep ws ≡ in_words (get_or ws 0 0) (accepted 0 0 0 (with_row (book_in ws) (book_in ws).row 0))
     unfolding operation_book sweep_book last_only last_in
-    sweep-none zero_is = on_row Sweep ∙ (rw (dead-before, live_on_lem, zero_is) refl)
+    sweep_none zero_is = on_row Sweep ∙ (rw (dead_before_lem, live_on_lem, zero_is) refl)
 
-    pub sweep-some :
+    pub sweep_some :
         (j : ℕ) → i ≡ suc j →
         row_out Sweep ws ≡ in_words (get_or ws 0 0) (accepted 0 0 j (with_row (book_in ws) (drop j (book_in ws).row) (get_or ws (word_of j) 0)))
     unfolding operation_book sweep_book
-    sweep-some j next =
+    sweep_some j next =
         let row = (book_in ws).row in
-        let within : j < length row = omega (arith, dead-fits, read_length ws) in
-        let key-is : (get_or row j (key_in ws j)).key ≡ get_or ws (word_of j) 0 = ap (λ x. x.key) (read_at ws j (key_in ws j) (omega (arith, dead-fits))) in
+        let within : j < length row = omega (arith, dead_fits, read_length ws) in
+        let key_is : (get_or row j (key_in ws j)).key ≡ get_or ws (word_of j) 0 = ap (λ x. x.key) (read_at ws j (key_in ws j) (omega (arith, dead_fits))) in
         on_row Sweep
-        ∙ (rw (dead-before, live_on_lem, next, others_length row j within, last_kept row j within, last_before row j (key_in ws j) within, key-is) refl)
+        ∙ (rw (dead_before_lem, live_on_lem, next, others_length row j within, last_kept row j within, last_before row j (key_in ws j) within, key_is) refl)

@@ -20,7 +20,7 @@ use Rattle.row.specs.Promises.{RowsStayRows, RowIsBook, RefusedRowAltersNothing}
 use Rattle.row.proofs.Written.{book_back, row_written, row_holds, written_row}
 use Rattle.row.proofs.Checking.{Held, held, may_hold}
 use Rattle.row.proofs.Outcomes.{set_up_done, no_row, on_row}
-use Rattle.row.proofs.Staying.{find_left, finish_left, stays-held}
+use Rattle.row.proofs.Staying.{find_left, finish_left, stays_held}
 
 fresh_held : (D K C : ℕ) → in_range D K C ≡ true → Held D (fresh_book K C)
 unfolding ascending every
@@ -34,7 +34,7 @@ rows_stay_rows = (
   (λ operation ws e.
       let D = get_or ws 0 0 in
       let after = (operation_book operation (book_in ws)).left in
-      rw (on_row ws e operation) (written_row D after (may_hold D after (stays-held D (book_in ws) (held D (book_in ws) (row_holds ws e)) operation)))),
+      rw (on_row ws e operation) (written_row D after (may_hold D after (stays_held D (book_in ws) (held D (book_in ws) (row_holds ws e)) operation)))),
 )
 
 pub row_is_book : RowIsBook

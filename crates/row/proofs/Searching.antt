@@ -11,7 +11,7 @@ use borrow.Author.Tests.{ltb-true, leb-true, leb-false, lt-ltb, le-ltb, le-leb, 
 use Rattle.lists.specs.Lists.{those}
 use Rattle.lists.proofs.Tests.{both}
 use Rattle.lists.proofs.All.{All, all_map}
-use Rattle.lists.proofs.Those.{those-none}
+use Rattle.lists.proofs.Those.{those_none}
 use Rattle.book.specs.Book.{StandingKey, standing_key, last_in, standing_at, put_key, marked, dead_before, live_on, standing_above, standing_between, last_only}
 use Rattle.row.specs.Row.{ascending, stands}
 use Rattle.row.specs.Places.{place_of}
@@ -76,7 +76,7 @@ place_below key low K (x ∷ row) a =
         those (λ y. ltb y.key key) (x ∷ row) ≡ take (cond t 0 (suc (place_of key row))) (x ∷ row)
     at true e above more =
         let here = leb-true key x.key e in
-        those-none (λ y. ltb y.key key) (x ∷ row) (le-ltb x.key key here, all_map (λ y h. le-ltb y.key key (omega arith)) row above)
+        those_none (λ y. ltb y.key key) (x ∷ row) (le-ltb x.key key here, all_map (λ y h. le-ltb y.key key (omega arith)) row above)
     at false e above more = rw (lt-ltb x.key key (leb-false key x.key e)) (ap (λ (r : List StandingKey). x ∷ r) more)
 
 -- the key at its place, if it is this one, is the one that stands; if it is another, none does
@@ -189,7 +189,7 @@ between_up_to bottom low K (x ∷ row) zero z a h =
     let t = ascending_first bottom K x row a in
     let past : All (λ y. (ltb low y.key && leb y.key x.key) ≡ false) row =
     all_map (λ y h. ap (λ b. ltb low y.key && b) (lt-leb y.key x.key h) ∙ and-false (ltb low y.key)) row (keys_above_lem x.key K row t.1.1) in
-    rw (le-leb x.key x.key (omega arith), those-none (λ y. ltb low y.key && leb y.key x.key) row past) (at (ltb low x.key))
+    rw (le-leb x.key x.key (omega arith), those_none (λ y. ltb low y.key && leb y.key x.key) row past) (at (ltb low x.key))
   where
     at : (t : Bool) → length (cond (t && true) (x ∷ []) []) ≡ length (cond t (x ∷ []) [])
     at true = refl

@@ -266,9 +266,9 @@ module _ (D : ℕ) (k : Book) (h : Held D k) where
   old = every_all (right_mark k.position) k.row h.marks
 
   -- the position after an insert: the head or a standing key, below the key, and no higher than before
-  inserted-position : (key : ℕ) → 0 < key → (at_position (position_with key k) k.row ≡ true) × ((position_with key k < key) × (position_with key k ≤ k.position))
+  inserted_position : (key : ℕ) → 0 < key → (at_position (position_with key k) k.row ≡ true) × ((position_with key k < key) × (position_with key k ≤ k.position))
   unfolding position_with
-  inserted-position key positive = at (leb key k.position) refl
+  inserted_position key positive = at (leb key k.position) refl
     where
       at : (t : Bool) → leb key k.position ≡ t →
           (at_position (cond t (key_below key k.row) k.position) k.row ≡ true)
@@ -283,13 +283,13 @@ module _ (D : ℕ) (k : Book) (h : Held D k) where
   placed : (q : ℕ) (row other : List StandingKey) → (stands q row ≡ true → stands q other ≡ true) → at_position q row ≡ true → at_position q other ≡ true
   placed q row other kept e = or_more (eqb q 0) (stands q row) (stands q other) e kept
 
-  new-held : (key value : ℕ) → is_key k.largest key ≡ true → standing_at key k.row ≡ none → suc (length k.row) < k.cells →
+  new_held : (key value : ℕ) → is_key k.largest key ≡ true → standing_at key k.row ≡ none → suc (length k.row) < k.cells →
       Held D (with_row k (put_key (standing_key key value true) k.row) (position_with key k))
-  new-held key value good absent room =
+  new_held key value good absent room =
       let g = both (leb 1 key) (leb key k.largest) good in
       let positive = leb-true 1 key g.0 in
       let x = standing_key key value true in
-      let q = inserted-position key positive in
+      let q = inserted_position key positive in
       let under = q.1.0 in
       let lower = q.1.1 in
       record {
@@ -303,10 +303,10 @@ module _ (D : ℕ) (k : Book) (h : Held D k) where
             (all_map (λ y e. mark_again k.position (position_with key k) y e (λ l. let above = live_above k.position y e l in omega arith)) k.row old));
       }
 
-  marked-held :
+  marked_held :
       (key value : ℕ) (live : Bool) (q : ℕ) → at_position q k.row ≡ true → right_mark q (standing_key key value live) ≡ true →
       All (λ y. (y.key ≡ key → ⊥) → y.live ≡ true → q < y.key) k.row → Held D (with_row k (marked key value live k.row) q)
-  marked-held key value live q position right above =
+  marked_held key value live q position right above =
       record {
         range = h.range;
         room = rw (marked_length key value live k.row) h.room;
@@ -315,9 +315,9 @@ module _ (D : ℕ) (k : Book) (h : Held D k) where
         marks = all_every (right_mark q) (marked key value live k.row) (marked_right key value live k.position q k.row right old above);
       }
 
-  swept-held : (i : ℕ) → length (dead_before k.row) ≡ i → Held D (with_row k (last_only (dead_before k.row) ++ live_on k.row) (last_in (dead_before k.row)))
+  swept_held : (i : ℕ) → length (dead_before k.row) ≡ i → Held D (with_row k (last_only (dead_before k.row) ++ live_on k.row) (last_in (dead_before k.row)))
   unfolding last_only last_in
-  swept-held zero is =
+  swept_held zero is =
       let dead : dead_before k.row ≡ [] = dead_taken k.row ∙ ap (λ n. take n k.row) is in
       let live : live_on k.row ≡ k.row = live_dropped k.row ∙ ap (λ n. drop n k.row) is in
       rw (dead, live)
@@ -330,7 +330,7 @@ module _ (D : ℕ) (k : Book) (h : Held D k) where
             all_every (right_mark 0) k.row
             (all_zip (λ y e above. mark_again k.position 0 y e (λ l. above)) k.row old (keys_above_lem 0 k.largest k.row h.rise));
       }
-  swept-held (suc j) is =
+  swept_held (suc j) is =
       let row = k.row in
       let z = standing_key 0 0 true in
       let x = get_or row j z in
@@ -356,40 +356,40 @@ module _ (D : ℕ) (k : Book) (h : Held D k) where
             ));
       }
 
-  insert-held : (key value : ℕ) → is_key k.largest key ≡ true → (o : Option StandingKey) → standing_at key k.row ≡ o → Held D (insert_book key value k o).left
+  insert_held : (key value : ℕ) → is_key k.largest key ≡ true → (o : Option StandingKey) → standing_at key k.row ≡ o → Held D (insert_book key value k o).left
   unfolding insert_book
-  insert-held key value good none absent = at (ltb (suc (length k.row)) k.cells) refl
+  insert_held key value good none absent = at (ltb (suc (length k.row)) k.cells) refl
     where
       at : (t : Bool) → ltb (suc (length k.row)) k.cells ≡ t →
           Held D
           (cond t (accepted key 0 0 (with_row k (put_key (standing_key key value true) k.row) (position_with key k))) (refused (no_free_cell key 0) k)).left
-      at true e = new-held key value good absent (ltb-true (suc (length k.row)) k.cells e)
+      at true e = new_held key value good absent (ltb-true (suc (length k.row)) k.cells e)
       at false e = h
-  insert-held key value good (some x) there = at x.live
+  insert_held key value good (some x) there = at x.live
     where
       at : (t : Bool) → Held D (cond t (refused (key_live key 0) k) (accepted key 0 0 (with_row k (marked key value true k.row) (position_with key k)))).left
       at true = h
       at false =
-          let q = inserted-position key (leb-true 1 key (both (leb 1 key) (leb key k.largest) good).0) in
+          let q = inserted_position key (leb-true 1 key (both (leb 1 key) (leb key k.largest) good).0) in
           let lower = q.1.1 in
-          marked-held key value true (position_with key k) q.0 (lt-ltb (position_with key k) key q.1.0)
+          marked_held key value true (position_with key k) q.0 (lt-ltb (position_with key k) key q.1.0)
           (all_map (λ y e ne l. let above = live_above k.position y e l in omega arith) k.row old)
 
-  take-held : (live : List StandingKey) → live_on k.row ≡ live → Held D (take_book k live).left
+  take_held : (live : List StandingKey) → live_on k.row ≡ live → Held D (take_book k live).left
   unfolding take_book
-  take-held [] e = h
-  take-held (x ∷ later) e =
+  take_held [] e = h
+  take_held (x ∷ later) e =
       let f = first_live 0 k.largest k.row x later h.rise e in
-      marked-held x.key 0 false x.key (or_right (eqb x.key 0) (stands x.key k.row) f.0) refl f.1
+      marked_held x.key 0 false x.key (or_right (eqb x.key 0) (stands x.key k.row) f.0) refl f.1
 
-  pub stays-held : (operation : Operation) → Held D (operation_book operation k).left
+  pub stays_held : (operation : Operation) → Held D (operation_book operation k).left
   unfolding operation_book on_book_key sweep_book
-  stays-held (Insert key value) = at (is_key k.largest key) refl
+  stays_held (Insert key value) = at (is_key k.largest key) refl
     where
       at : (t : Bool) → is_key k.largest key ≡ t → Held D (cond t (insert_book key value k (standing_at key k.row)) (refused bad_key k)).left
-      at true good = insert-held key value good (standing_at key k.row) refl
+      at true good = insert_held key value good (standing_at key k.row) refl
       at false bad = h
-  stays-held (Find key) = rw (find_left key k) h
-  stays-held (Finish key) = rw (finish_left key k) h
-  stays-held Take = take-held (live_on k.row) refl
-  stays-held Sweep = swept-held (length (dead_before k.row)) refl
+  stays_held (Find key) = rw (find_left key k) h
+  stays_held (Finish key) = rw (finish_left key k) h
+  stays_held Take = take_held (live_on k.row) refl
+  stays_held Sweep = swept_held (length (dead_before k.row)) refl

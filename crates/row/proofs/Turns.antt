@@ -10,7 +10,7 @@ use lib.ListN.{length, get_or, take, drop, length-append, drop_of_length-le}
 use lib.Seq.{take-suc}
 use borrow.Author.Tests.{lt-ltb, le-ltb, le-leb, lt-leb, eq-eqb, ne_eqb}
 use Rattle.lists.specs.Lists.{those}
-use Rattle.lists.proofs.Those.{those-append}
+use Rattle.lists.proofs.Those.{those_append}
 use Rattle.book.specs.Book.{StandingKey, dead_before, standing_above}
 use Rattle.row.specs.Row.{key_in, book_in}
 use Rattle.row.specs.Places.{word_of, place_of, right_key, right_keys}
@@ -22,9 +22,9 @@ module _ (ws : List ℕ) (i : ℕ) (h : i < get_or ws 3 0) where
   unfolding place_of
   place_here key l = rw (read_from_lem ws i h, le-leb key (get_or ws (word_of i) 0) l) refl
 
-  pub place-on : (key : ℕ) → get_or ws (word_of i) 0 < key → place_of key (drop i (book_in ws).row) ≡ suc (place_of key (drop (i + 1) (book_in ws).row))
+  pub place_on_lem : (key : ℕ) → get_or ws (word_of i) 0 < key → place_of key (drop i (book_in ws).row) ≡ suc (place_of key (drop (i + 1) (book_in ws).row))
   unfolding place_of
-  place-on key l = rw (add-one i, read_from_lem ws i h, lt-leb key (get_or ws (word_of i) 0) l) refl
+  place_on_lem key l = rw (add-one i, read_from_lem ws i h, lt-leb key (get_or ws (word_of i) 0) l) refl
 
   -- the search for a live key ends at one, and goes on after a dead one
   pub live_here : get_or ws (word_of i + 2) 0 ≡ 1 → length (dead_before (drop i (book_in ws).row)) ≡ 0
@@ -40,16 +40,16 @@ module _ (ws : List ℕ) (i : ℕ) (h : i < get_or ws 3 0) where
   above_split low =
       let within : i < length (book_in ws).row = omega (arith, read_length ws) in
       let test : StandingKey → Bool = λ x. ltb low x.key in
-      rw (add-one i, take-suc (book_in ws).row i (key_in ws i) within, read_at ws i (key_in ws i) h, those-append test (take i (book_in ws).row) (key_in ws i ∷ []))
+      rw (add-one i, take-suc (book_in ws).row i (key_in ws i) within, read_at ws i (key_in ws i) h, those_append test (take i (book_in ws).row) (key_in ws i ∷ []))
       (length-append (those test (take i (book_in ws).row)) (those test (key_in ws i ∷ [])))
 
-  pub above-one : (low : ℕ) → low < get_or ws (word_of i) 0 → standing_above low (take (i + 1) (book_in ws).row) ≡ standing_above low (take i (book_in ws).row) + 1
+  pub above_one : (low : ℕ) → low < get_or ws (word_of i) 0 → standing_above low (take (i + 1) (book_in ws).row) ≡ standing_above low (take i (book_in ws).row) + 1
   unfolding those
-  above-one low l = rw (above_split low, lt-ltb low (get_or ws (word_of i) 0) l) refl
+  above_one low l = rw (above_split low, lt-ltb low (get_or ws (word_of i) 0) l) refl
 
-  pub above-none : (low : ℕ) → get_or ws (word_of i) 0 ≤ low → standing_above low (take (i + 1) (book_in ws).row) ≡ standing_above low (take i (book_in ws).row)
+  pub above_none : (low : ℕ) → get_or ws (word_of i) 0 ≤ low → standing_above low (take (i + 1) (book_in ws).row) ≡ standing_above low (take i (book_in ws).row)
   unfolding those
-  above-none low l = rw (above_split low, le-ltb low (get_or ws (word_of i) 0) l) (omega arith)
+  above_none low l = rw (above_split low, le-ltb low (get_or ws (word_of i) 0) l) (omega arith)
 
 -- behind the last key both end
 pub keys_end : (ws : List ℕ) (i : ℕ) → get_or ws 3 0 ≤ i → drop i (book_in ws).row ≡ []

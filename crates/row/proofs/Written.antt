@@ -60,8 +60,8 @@ module _ (D : ℕ) (k : Book) (i : ℕ) (within : i ≤ length k.row) where
   words_take =
       rw (words_split D k, take-append-add (front D k) (flat_map key_words k.row ++ unused k) (3 * i), keys_take k.row (unused k) i within) refl
 
-  pub words-drop : drop (word_of i) (row_words D k) ≡ flat_map key_words (drop i k.row) ++ unused k
-  words-drop =
+  pub words_drop : drop (word_of i) (row_words D k) ≡ flat_map key_words (drop i k.row) ++ unused k
+  words_drop =
       rw (words_split D k, drop-append-add (front D k) (flat_map key_words k.row ++ unused k) (3 * i), keys_drop k.row (unused k) i within) refl
 
 pub words_length : (D : ℕ) (k : Book) → length k.row < k.cells → length (row_words D k) ≡ row_length k.cells
@@ -84,7 +84,7 @@ pub word_back :
     (j : ℕ) → get_or (row_words D k) (word_of i + j) 0 ≡ get_or (key_words x ++ (flat_map key_words later ++ unused k)) j 0
 unfolding flat_map
 word_back D k i x later h e j =
-    let rest = words-drop D k i (omega arith) ∙ ap (λ r. flat_map key_words r ++ unused k) e in
+    let rest = words_drop D k i (omega arith) ∙ ap (λ r. flat_map key_words r ++ unused k) e in
     sym (get_or-drop (word_of i) (row_words D k) j 0) ∙ ap (λ l. get_or l j 0) rest
 
 key_back :

@@ -3,7 +3,7 @@ use Rattle.std.specs.Prelude.{Bool, true, false, cond, ◌&&◌, ◌||◌, ℕ, 
 use mathlib.Core.List.{List, [], ◌∷◌, ◌++◌, map, flat_map}
 use Rattle.settings.specs.Numbers.{in_range}
 use Rattle.lists.specs.Lists.{every, numbers_from, same}
-use Rattle.answers.specs.Refusals.{Outcome, accepted, refused, out_of_range, wrong_length, not_aList}
+use Rattle.answers.specs.Refusals.{Outcome, accepted, refused, out_of_range, wrong_length, not_a_list}
 use Rattle.answers.specs.declared.Operation.{Operation}
 use Rattle.book.specs.Book.{StandingKey, Book, fresh_book, operation_book}
 
@@ -80,4 +80,4 @@ in_words D o = record { answered = o.answered; left = row_words D o.left }
 
 -- any of the five: 3, then what it does to the book
 unfoldable pub row_out : Operation → List ℕ → Outcome (List ℕ)
-row_out operation ws = cond (is_row ws) (in_words (get_or ws 0 0) (operation_book operation (book_in ws))) (refused not_aList ws)
+row_out operation ws = cond (is_row ws) (in_words (get_or ws 0 0) (operation_book operation (book_in ws))) (refused not_a_list ws)

@@ -1,6 +1,8 @@
 // The plain row: a second engine beside the list, for acceptance (docs/REFERENCE.md, *The plain row*). The standing keys in ascending order, each with its
 // value and mark, searched from the front. It shares the settings check with the list and no other code. No exported function has a `requires`, and
 // each contract is the whole outcome of the call: the four numbers and every word.
+#![tactic(auto)]
+
 ghost use Rattle.std.specs.Prelude.{◌≡◌, true, [], ◌∷◌, ◌++◌, ◌+◌, ◌*◌, ◌-◌, ◌^◌, ◌≤◌, ◌<◌, length, get_or, take, drop, replicate};
 ghost use Rattle.std.proofs.lemmas.List.Edits.{sets};
 ghost use Rattle.lists.specs.Zeros.{all_zero};

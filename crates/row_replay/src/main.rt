@@ -2,6 +2,8 @@
 // program replay for words and calls (U, N, F, A, T, S, P, L), made on a row; each prints what the replay prints for it. Every other line is not readable.
 //
 // The file stdout has the answers of the separate ordered set: compare/ordered_set/target/release/ordered_set row_replay < stdin > stdout
+#![tactic(auto)]
+
 ghost use Rattle.std.specs.Prelude.{◌≡◌, length};
 ghost use Rattle.text.specs.Lines.{most_bytes};
 ghost use Rattle.trace.specs.Lines.{most_words};
@@ -10,7 +12,7 @@ ghost use Rattle.row_replay.specs.Kept.{Kept};
 use text::feed::Feed;
 
 // What is kept from one byte to the next, beside the words and the bytes of the line begun: how many words are held.
-#[derive(Drop)]
+#[derive(Clone, Copy)]
 pub struct State {
     pub feed: Feed,
     pub used: usize,

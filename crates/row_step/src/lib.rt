@@ -1,4 +1,6 @@
 // A line of a trace of calls on a plain row: its call on what is held, and what is printed for it. The format is at the head of the program row_replay.
+#![tactic(auto)]
+
 ghost use Rattle.std.specs.Prelude.{◌≡◌, ◌≤◌, length, take};
 ghost use Rattle.answers.specs.Refusals.{Meets};
 ghost use Rattle.text.specs.Feeding.{LineIn};
@@ -16,7 +18,7 @@ use trace_call::Reply;
 const LINE_BYTES: usize = report::ANSWER_BYTES + report::FIELD_BYTES;
 
 // After a line: how many words are held, and what the line is answered.
-#[derive(Drop)]
+#[derive(Clone, Copy)]
 struct Done {
     pub used: usize,
     pub reply: Reply,

@@ -3,6 +3,8 @@
 //
 // The file stdout has the answers of the separate ordered set to the same rows. In the crate's folder:
 //     sed -n 's/^    \[\(.*\)\],$/U \1/p' src/main.rt | tr -d , | ../../compare/ordered_set/target/release/ordered_set replay > stdout
+#![tactic(auto)]
+
 ghost use Rattle.std.specs.Prelude.{◌≡◌, ◌≤◌, length, take};
 ghost use Rattle.report.specs.Report.{checked_bytes};
 ghost use Rattle.samples.specs.Printed.{edge_text, row_text};

@@ -21,19 +21,19 @@ use Rattle.meaning.specs.Layer.Listed.{Listed}
 use Rattle.meaning.proofs.Rows.Keys.{shared_less, coordinate_less}
 use Rattle.meaning.proofs.Pictures.State.{Sound, base_positive}
 use Rattle.meaning.proofs.Pictures.Picture.{picture_dimensions}
-use Rattle.meaning.proofs.Cells.Placed.{Placed, Own, placed_below, placed-other, place-key}
-use Rattle.meaning.proofs.BothWays.SentencesShape.{key_below_lem, placed-ascends}
+use Rattle.meaning.proofs.Cells.Placed.{Placed, Own, placed_below, placed_other, place_key}
+use Rattle.meaning.proofs.BothWays.SentencesShape.{key_below_lem, placed_ascends}
 use Rattle.meaning.proofs.Kept.Slot.{gap, dimensions_positive}
 use Rattle.meaning.proofs.Rows.Nodes.{node_split}
 use Rattle.meaning.proofs.Rows.Nodes.{node_key}
 use Rattle.meaning.proofs.Walks.Walk.{Room, room_none, room_up}
 use Rattle.meaning.proofs.Walks.WalkStop.{Hangs, Wanting, Moved, rests}
-use Rattle.meaning.proofs.Walks.Lower.{Nears, hangs_nears, Leads, LeadsNowhere, nears-up, nears-along, link-leads, led, lower-is}
+use Rattle.meaning.proofs.Walks.Lower.{Nears, hangs_nears, Leads, LeadsNowhere, nears_up, nears_along, link_leads, led, lower_is}
 use Rattle.words.proofs.Listed.{on_listed}
 use Rattle.search.specs.Found.{slot_number, slot_parent, found_at, found_of, Sought}
 use Rattle.search.specs.declared.Found.{Found}
 use Rattle.search.proofs.Sides.{Sides, sides_absent, sides_present}
-use Rattle.search.proofs.Resting.{hangs-parent}
+use Rattle.search.proofs.Resting.{hangs_parent}
 
 -- Where the way starts: k hangs, or would hang, from its parent.
 record HangsFrom (s : State) (k : ℕ) : Type 0 where
@@ -48,7 +48,7 @@ hangs_from s v k least most = at (node_at k s.row) refl
     of : {x : ℕ} {p : Place} {pre middle post : List Node} → Sides k s.row pre middle post → Placed s x p →
         Hangs s.settings.base s.settings.dimensions k p → HangsFrom s k
     of {p = p} sides placed hangs =
-        let is = hangs-parent v least placed hangs sides in
+        let is = hangs_parent v least placed hangs sides in
         record { place = p; placed = subst (λ c. Placed s c p) is.0 placed; hangs = hangs; number = is.1 }
 
     by : {pre middle post : List Node} → Sides k s.row pre middle post → Wanting s k (rest (picture s) k) ⊎ Moved s k (rest (picture s) k) → HangsFrom s k
@@ -95,9 +95,9 @@ way_starts {s} v {k} least most {f} is =
     }
 
 module _ {s : State} (v : Sound s) {k last at d : ℕ} (w : OnWay s (picture s) k last at d) where
-  way-ended : s.settings.dimensions ≤ d → at ≡ last
+  way_ended : s.settings.dimensions ≤ d → at ≡ last
   unfolding way_from
-  way-ended top = sym (w.same ∙ none w.fuel)
+  way_ended top = sym (w.same ∙ none w.fuel)
     where
       none : (fuel : ℕ) → last_gone at (way_from fuel (picture s) at d) ≡ at
       none zero = refl
@@ -112,7 +112,7 @@ module _ {s : State} (v : Sound s) {k last at d : ℕ} (w : OnWay s (picture s) 
     leads = led v w.placed d w.nears.dimension l Between w.nears.between
 
     link : link_read (picture s) at d ≡ first_sharing s.settings.base s.settings.dimensions w.place.node.key d w.place.later
-    link = link-leads v w.placed d w.nears.dimension l
+    link = link_leads v w.placed d w.nears.dimension l
 
     -- where the link leads nowhere, on with the next number
     way_up : link_read (picture s) at d ≡ 0 → OnWay s (picture s) k last at (suc d)
@@ -125,25 +125,25 @@ module _ {s : State} (v : Sound s) {k last at d : ℕ} (w : OnWay s (picture s) 
             last ≡ last_gone at (way_from fuel (picture s) at d) → OnWay s (picture s) k last at (suc d)
         go (inr t) fuel room same =
             let above = t.above in
-            let real = placed-other v t.holds (omega arith) in
+            let real = placed_other v t.holds (omega arith) in
             absurd (omega (arith, nowhere, link, t.leads))
         go (inl t) zero room same = absurd (room_none s.settings.base s.settings.dimensions w.place.node.key d (base_positive s v) l room)
         go (inl t) (suc fuel) room same =
             record {
               place = w.place;
               placed = w.placed;
-              nears = nears-up (base_positive s v) w.nears (placed-ascends v w.placed) t;
+              nears = nears_up (base_positive s v) w.nears (placed_ascends v w.placed) t;
               fuel = fuel;
               room = room_up s.settings.base s.settings.dimensions fuel w.place.node.key d (base_positive s v) room;
               same = same ∙ rw (picture_dimensions s, lt-ltb d s.settings.dimensions l, eq-eqb (link_read (picture s) at d) 0 nowhere) refl;
             }
 
     -- else along it, to a cell with a larger digit there
-    way-along : (link_read (picture s) at d ≡ 0 → ⊥) → OnWay s (picture s) k last (link_read (picture s) at d) d ×
+    way_along : (link_read (picture s) at d ≡ 0 → ⊥) → OnWay s (picture s) k last (link_read (picture s) at d) d ×
         (coordinate s.settings.base s.settings.dimensions (key_at (picture s) at) d
         < coordinate s.settings.base s.settings.dimensions (key_at (picture s) (link_read (picture s) at d)) d)
     unfolding way_from
-    way-along there = go leads w.fuel w.room w.same
+    way_along there = go leads w.fuel w.room w.same
       where
         b : ℕ
         b = s.settings.base
@@ -167,12 +167,12 @@ module _ {s : State} (v : Sound s) {k last at d : ℕ} (w : OnWay s (picture s) 
               record {
                 place = t.to;
                 placed = placed;
-                nears = nears-along (base_positive s v) w.nears (placed-ascends v w.placed) t;
+                nears = nears_along (base_positive s v) w.nears (placed_ascends v w.placed) t;
                 fuel = fuel;
                 room = omega arith;
                 same = same ∙ rw (picture_dimensions s, lt-ltb d s.settings.dimensions l, ne_eqb (link_read (picture s) at d) 0 there) refl;
               },
-              rw (place-key v w.placed, place-key v placed) raised,
+              rw (place_key v w.placed, place_key v placed) raised,
             )
 
 -- On a list, as the code has it
@@ -183,16 +183,16 @@ pub record OnSomeWay (ws : List ℕ) (last at d : ℕ) : Type 0 where
   pub way : OnWay (read ws) ws key last at d
 
 module _ {ws : List ℕ} {s : Settings} (h : Listed ws s) where
-  pub lower-starts : {k : ℕ} {f : Found} → Sought ws s k f → OnSomeWay ws (lower_from ws f.parent (suc f.p)) f.parent (suc f.p)
-  lower-starts {k} {f} k-sought =
+  pub lower_starts : {k : ℕ} {f : Found} → Sought ws s k f → OnSomeWay ws (lower_from ws f.parent (suc f.p)) f.parent (suc f.p)
+  lower_starts {k} {f} k-sought =
       record {
         key = k;
         way = on_listed (λ t ws s. k ≤ s.largest → f ≡ found_of t k → OnWay t ws k (lower_from ws f.parent (suc f.p)) f.parent (suc f.p))
             (λ t v m q. way_starts v k-sought.least m q) h k-sought.most k-sought.is;
       }
 
-  pub lower-number : {k : ℕ} {f : Found} → Sought ws s k f → f.p < s.dimensions
-  lower-number {k} {f} h =
+  pub lower_number : {k : ℕ} {f : Found} → Sought ws s k f → f.p < s.dimensions
+  lower_number {k} {f} h =
       on_listed (λ t ws s. k ≤ s.largest → f ≡ found_of t k → f.p < s.dimensions)
       (λ t v m q.
       let from = hangs_from t v k h.least m in
@@ -206,14 +206,14 @@ module _ {ws : List ℕ} {s : Settings} (h : Listed ws s) where
       h.list h.most h.is
 
   module _ {last at d : ℕ} (w : OnSomeWay ws last at d) where
-    pub lower-cell : at < s.cells
-    lower-cell = on_listed (λ t ws s. OnWay t ws w.key last at d → at < s.cells) (λ t v o. placed_below v o.placed) h w.way
+    pub lower_cell : at < s.cells
+    lower_cell = on_listed (λ t ws s. OnWay t ws w.key last at d → at < s.cells) (λ t v o. placed_below v o.placed) h w.way
 
-    pub lower-ends : s.dimensions ≤ d → at ≡ last
-    lower-ends = on_listed (λ t ws s. OnWay t ws w.key last at d → s.dimensions ≤ d → at ≡ last) (λ t v o. way-ended v o) h w.way
+    pub lower_ends : s.dimensions ≤ d → at ≡ last
+    lower_ends = on_listed (λ t ws s. OnWay t ws w.key last at d → s.dimensions ≤ d → at ≡ last) (λ t v o. way_ended v o) h w.way
 
-    pub lower-up : d < s.dimensions → link_read ws at d ≡ 0 → OnSomeWay ws last at (suc d)
-    lower-up l e =
+    pub lower_up : d < s.dimensions → link_read ws at d ≡ 0 → OnSomeWay ws last at (suc d)
+    lower_up l e =
         record {
           key = w.key;
           way = on_listed
@@ -221,20 +221,20 @@ module _ {ws : List ℕ} {s : Settings} (h : Listed ws s) where
               (λ t v o m. way_up v o m) h w.way l e;
         }
 
-    lower-on : d < s.dimensions → (link_read ws at d ≡ 0 → ⊥) → OnWay (read ws) ws w.key last (link_read ws at d) d ×
+    lower_on : d < s.dimensions → (link_read ws at d ≡ 0 → ⊥) → OnWay (read ws) ws w.key last (link_read ws at d) d ×
         (coordinate s.base s.dimensions (key_at ws at) d < coordinate s.base s.dimensions (key_at ws (link_read ws at d)) d)
-    lower-on =
+    lower_on =
         on_listed
         (λ t ws s. OnWay t ws w.key last at d → d < s.dimensions → (link_read ws at d ≡ 0 → ⊥) → OnWay t ws w.key last (link_read ws at d) d ×
         (coordinate s.base s.dimensions (key_at ws at) d < coordinate s.base s.dimensions (key_at ws (link_read ws at d)) d))
-        (λ t v o m. way-along v o m) h w.way
+        (λ t v o m. way_along v o m) h w.way
 
-    pub lower-along : d < s.dimensions → (link_read ws at d ≡ 0 → ⊥) → OnSomeWay ws last (link_read ws at d) d
-    lower-along l there = record { key = w.key; way = (lower-on l there).0 }
+    pub lower_along : d < s.dimensions → (link_read ws at d ≡ 0 → ⊥) → OnSomeWay ws last (link_read ws at d) d
+    lower_along l there = record { key = w.key; way = (lower_on l there).0 }
 
-    pub lower-raised : d < s.dimensions → (link_read ws at d ≡ 0 → ⊥) →
+    pub lower_raised : d < s.dimensions → (link_read ws at d ≡ 0 → ⊥) →
         coordinate s.base s.dimensions (key_at ws at) d < coordinate s.base s.dimensions (key_at ws (link_read ws at d)) d
-    lower-raised l there = (lower-on l there).1
+    lower_raised l there = (lower_on l there).1
 
 -- The last cell of the way is that of next smaller key.
 pub lower_found : {ws : List ℕ} {s : Settings} {k : ℕ} {f : Found} → Sought ws s k f → lower_from ws f.parent (suc f.p) ≡ (smaller_than k (read ws).row).cell
@@ -244,5 +244,5 @@ lower_found {k = k} {f = f} h =
     let from = hangs_from t v k h.least m in
     let at = found_from t k q in
     subst₂ (λ x n. lower_from (picture t) x (suc n) ≡ (smaller_than k t.row).cell) at.0 (from.number ∙ at.1)
-    (lower-is t v k from.placed from.hangs))
+    (lower_is t v k from.placed from.hangs))
     h.list h.most h.is

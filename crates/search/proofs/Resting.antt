@@ -29,9 +29,9 @@ use Rattle.meaning.proofs.Kept.Slot as slot
 use Rattle.meaning.proofs.Rows.Nodes.{node_split}
 use Rattle.meaning.proofs.Kept.KeepsInsert.{slot_first}
 use Rattle.meaning.proofs.Cells.WalkRead.{settled_above}
-use Rattle.meaning.proofs.Walks.Walk.{walk-looked}
+use Rattle.meaning.proofs.Walks.Walk.{walk_looked}
 use Rattle.meaning.proofs.Walks.WalkStop.{rest_walk, Hangs, Wanting, Moved, rests}
-use Rattle.meaning.proofs.Cells.Placed.{Placed, placed-cell, placed_below, placed-other, place-key}
+use Rattle.meaning.proofs.Cells.Placed.{Placed, placed_cell, placed_below, placed_other, place_key}
 use Rattle.search.specs.Found.{slot_number, slot_parent, slot_shared, slot_cell, found_at, found_of, Searched}
 use Rattle.search.specs.declared.Found.{Found}
 use Rattle.words.proofs.Listed.{on_listed}
@@ -85,19 +85,19 @@ next_is b D k d pre (x ∷ post) {c} {to} o nz e found =
 module _ {s : State} (v : Sound s) {k : ℕ} (least : 1 ≤ k) {x : ℕ} {p : Place} (here : Placed s x p)
     (h : Hangs s.settings.base s.settings.dimensions k p) where
   -- parent and number of a slot, where k would hang from place p
-  pub hangs-parent : {pre middle post : List Node} → Sides k s.row pre middle post →
+  pub hangs_parent : {pre middle post : List Node} → Sides k s.row pre middle post →
       (x ≡ slot_parent s k) × (shared s.settings.base s.settings.dimensions p.node.key k ≡ slot_number s k)
-  hangs-parent sides =
+  hangs_parent sides =
       let t = slot_at s v k least sides in
       let is = hung_at v least sides here h in
-      (sym (t.parent ∙ is.1 ∙ placed-cell here), sym (t.number ∙ is.0))
+      (sym (t.parent ∙ is.1 ∙ placed_cell here), sym (t.number ∙ is.0))
 
   -- the cell in the slot, where k does not stand: where the parent's link leads
-  slot-leads : node_at k s.row ≡ none →
+  slot_leads : node_at k s.row ≡ none →
       slot_cell s k ≡ first_sharing s.settings.base s.settings.dimensions p.node.key
       (shared s.settings.base s.settings.dimensions p.node.key k) p.later
   unfolding settled_link_at
-  slot-leads absent =
+  slot_leads absent =
       let b = s.settings.base in
       let D = s.settings.dimensions in
       let g = slot.gap k 0 s.row v.ascends absent in
@@ -110,41 +110,41 @@ module _ {s : State} (v : Sound s) {k : ℕ} (least : 1 ≤ k) {x : ℕ} {p : Pl
       (slot.slot-c b D (base_positive s v) (slot.dimensions-positive s v) k g.pre g.post least (asc_left 0 g.pre g.post a)
       (apart_left (head_node ∷ g.pre) g.post o) g.below
       (slot.gap-above k (last_from head_node g.pre).key g.post (asc_last head_node g.pre g.post a) g.above))
-      ∙ ap₂ (λ d c. settled_link_at b D d (place_of c (places b D (g.pre ++ g.post)))) is.0 (is.1 ∙ placed-cell here)
+      ∙ ap₂ (λ d c. settled_link_at b D d (place_of c (places b D (g.pre ++ g.post)))) is.0 (is.1 ∙ placed_cell here)
       ∙ ap (settled_link_at b D (shared b D p.node.key k)) (subst (λ r. place_of x (places b D r) ≡ some p) g.splits here.found)
       ∙ settled_above b D p (shared b D p.node.key k) h.dimension
 
 module _ (s : State) (v : Sound s) (k : ℕ) (least : 1 ≤ k) (most : k ≤ s.settings.largest) (r : Rest) (is : r ≡ rest (picture s) k) where
-  looked-is : r.looked ≡ looked s k
-  looked-is = ap (λ t. t.looked) is ∙ rest_walk (picture s) k ∙ walk-looked s v k least most
+  looked_is : r.looked ≡ looked s k
+  looked_is = ap (λ t. t.looked) is ∙ rest_walk (picture s) k ∙ walk_looked s v k least most
 
   -- for want of a link
-  wanting-found : Wanting s k r → record { standing = false; parent = r.at; p = r.coordinate; c = 0; q = 0; looked = r.looked } ≡ found_of s k
-  wanting-found w =
-      let t = hangs-parent v least w.placed w.hangs (sides_absent (slot.gap k 0 s.row v.ascends w.absent)) in
-      let empty : slot_cell s k ≡ 0 = slot-leads v least w.placed w.hangs w.absent ∙ rw w.coordinate at w.leads in
-      absent_is s k w.absent t.0 (w.coordinate ∙ t.1) (sym empty) (rw (eq-eqb (slot_cell s k) 0 empty) refl) looked-is
+  wanting_found : Wanting s k r → record { standing = false; parent = r.at; p = r.coordinate; c = 0; q = 0; looked = r.looked } ≡ found_of s k
+  wanting_found w =
+      let t = hangs_parent v least w.placed w.hangs (sides_absent (slot.gap k 0 s.row v.ascends w.absent)) in
+      let empty : slot_cell s k ≡ 0 = slot_leads v least w.placed w.hangs w.absent ∙ rw w.coordinate at w.leads in
+      absent_is s k w.absent t.0 (w.coordinate ∙ t.1) (sym empty) (rw (eq-eqb (slot_cell s k) 0 empty) refl) looked_is
 
   -- after a last move
-  moved-present : (m : Moved s k r) → m.to.node.key ≡ k →
+  moved_present : (m : Moved s k r) → m.to.node.key ≡ k →
       record { standing = true; parent = r.from; p = r.number; c = r.at; q = s.settings.dimensions; looked = r.looked } ≡ found_of s k
-  moved-present m e =
+  moved_present m e =
       let split = node_split k m.to.node s.row (m.present e) in
-      let t = hangs-parent v least m.placed m.hangs (sides_present split.0 m.to.node split.1 v.ascends e split.2) in
-      present_is s k (m.present e) t.0 (m.number ∙ t.1) (sym (placed-cell m.to_placed)) refl looked-is
+      let t = hangs_parent v least m.placed m.hangs (sides_present split.0 m.to.node split.1 v.ascends e split.2) in
+      present_is s k (m.present e) t.0 (m.number ∙ t.1) (sym (placed_cell m.to_placed)) refl looked_is
 
-  moved-absent : (m : Moved s k r) → k < m.to.node.key →
+  moved_absent : (m : Moved s k r) → k < m.to.node.key →
       record { standing = false; parent = r.from; p = r.number; c = r.at; q = r.coordinate; looked = r.looked } ≡ found_of s k
-  moved-absent m above =
+  moved_absent m above =
       let b = s.settings.base in
       let D = s.settings.dimensions in
       let absent = m.absent above in
       let g = slot.gap k 0 s.row v.ascends absent in
       let sides = sides_absent g in
-      let t = hangs-parent v least m.placed m.hangs sides in
+      let t = hangs_parent v least m.placed m.hangs sides in
       let is = slot_at s v k least sides in
-      let held : slot_cell s k ≡ r.at = slot-leads v least m.placed m.hangs absent ∙ rw m.number at m.leads in
-      let other = placed-other v m.to_placed (omega arith) in
+      let held : slot_cell s k ≡ r.at = slot_leads v least m.placed m.hangs absent ∙ rw m.number at m.leads in
+      let other = placed_other v m.to_placed (omega arith) in
       let next : (first_of g.post).key ≡ m.to.node.key =
       next_is b D k (dimension_after b D head_node g.pre k) g.pre g.post
       (subst (λ r. Apart (head_node ∷ r)) g.splits (slot.sound-apart s v)) other (sym is.cell ∙ held)
@@ -153,27 +153,27 @@ module _ (s : State) (v : Sound s) (k : ℕ) (least : 1 ≤ k) (most : k ≤ s.s
       let less = shared_less b D m.to.node.key k (slot.dimensions-positive s v) (omega arith) in
       let shares : slot_shared s k ≡ shared b D m.to.node.key k = is.shares ∙ ap (shared b D k) next ∙ shared_sym b D k m.to.node.key in
       let q : r.coordinate ≡ slot_shared s k = (let c = m.coordinate in omega arith) in
-      absent_is s k absent t.0 (m.number ∙ t.1) (sym held) (rw (ne_eqb (slot_cell s k) 0 some-c) q) looked-is
+      absent_is s k absent t.0 (m.number ∙ t.1) (sym held) (rw (ne_eqb (slot_cell s k) 0 some-c) q) looked_is
 
   -- which of the three it is
-  pub rest-answers : Answers s s.settings k (key_at (picture s) r.at) r
-  rest-answers = at (subst (λ t. Wanting s k t ⊎ Moved s k t) (sym is) (rests s v k least most))
+  pub rest_answers : Answers s s.settings k (key_at (picture s) r.at) r
+  rest_answers = at (subst (λ t. Wanting s k t ⊎ Moved s k t) (sym is) (rests s v k least most))
     where
       at : Wanting s k r ⊎ Moved s k r → Answers s s.settings k (key_at (picture s) r.at) r
       at (inl w) =
-          let key = place-key v w.placed in
+          let key = place_key v w.placed in
           record {
-            below = λ h. wanting-found w;
+            below = λ h. wanting_found w;
             above = λ h. absurd (omega (arith, w.hangs.below));
             here = λ h. absurd (omega (arith, w.hangs.below));
             cell = placed_below v w.placed;
           }
       at (inr m) =
-          let key = place-key v m.to_placed in
+          let key = place_key v m.to_placed in
           record {
             below = λ h. absurd (omega (arith, m.reached));
-            above = λ h. moved-absent m (omega arith);
-            here = λ h. moved-present m (sym key ∙ h);
+            above = λ h. moved_absent m (omega arith);
+            here = λ h. moved_present m (sym key ∙ h);
             cell = placed_below v m.to_placed;
           }
 
@@ -183,7 +183,7 @@ pub answers :
     Answers (read ws) s k key r
 answers h k least most {r} is e =
     rw e
-    (on_listed (λ t ws u. k ≤ u.largest → r ≡ rest ws k → Answers t u k (key_at ws r.at) r) (λ t v m q. rest-answers t v k least m r q)
+    (on_listed (λ t ws u. k ≤ u.largest → r ≡ rest ws k → Answers t u k (key_at ws r.at) r) (λ t v m q. rest_answers t v k least m r q)
     h most is)
 
 -- what is answered of the place where the walk rests is answered of the walk: g is that, and f what the function gives

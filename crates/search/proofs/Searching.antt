@@ -18,10 +18,10 @@ use Rattle.meaning.specs.Resting.{at_head, rest_over, rest}
 use Rattle.meaning.specs.Layer.Listed.{Listed}
 use Rattle.meaning.proofs.Pictures.State.{base_of_lem}
 use Rattle.meaning.specs.Layer.Near.{NearAlong}
-use Rattle.meaning.proofs.Walks.Walk.{trail-ends, trail-near, walk_bounded}
+use Rattle.meaning.proofs.Walks.Walk.{trail_ends, trail_near, walk_bounded}
 use Rattle.meaning.proofs.Walks.WalkStop.{rest_looked, rest_walk}
 use Rattle.words.proofs.Listed.{on_listed, listed_shaped, listed_cells, listed_link}
-use Rattle.steps.proofs.Walking.{trail_at, Walking, walking_start, walked, walking-go, walking-up}
+use Rattle.steps.proofs.Walking.{trail_at, Walking, walking_start, walked, walking_go, walking_up}
 
 -- The walk for k has come to r, and rests where the trail from there leads.
 pub record Searching (ws : List ℕ) (s : Settings) (k : ℕ) (r : Rest) : Type 0 where
@@ -31,16 +31,16 @@ pub record Searching (ws : List ℕ) (s : Settings) (k : ℕ) (r : Rest) : Type 
 pub searching_start : {ws : List ℕ} {s : Settings} → Listed ws s → (k : ℕ) → 1 ≤ k → k ≤ s.largest → Searching ws s k at_head
 unfolding rest trail
 searching_start h k least most =
-    let ended = on_listed (λ t l u. k ≤ u.largest → ends (trail l k) ≡ true) (λ t v m. trail-ends t v k least m) h most in
+    let ended = on_listed (λ t l u. k ≤ u.largest → ends (trail l k) ≡ true) (λ t v m. trail_ends t v k least m) h most in
     let near =
-    on_listed (λ t l u. k ≤ u.largest → NearAlong u.base u.dimensions k (key_at l) 0 0 (trail l k)) (λ t v m. trail-near t v k least m) h most
+    on_listed (λ t l u. k ≤ u.largest → NearAlong u.base u.dimensions k (key_at l) 0 0 (trail l k)) (λ t v m. trail_near t v k least m) h most
     in
     record { walking = walking_start (listed_shaped h) (omega (arith, listed_cells h)) ended near; rested = refl }
 
 module _ {ws : List ℕ} {s : Settings} (h : Listed ws s) {k : ℕ} {r : Rest} (w : Searching ws s k r) where
   -- the cells gone to are at most D(b-1), which is at most 16 * 65,535
-  pub looked-fits : 1 ≤ k → k ≤ s.largest → r.looked ≤ 1048560
-  looked-fits least most =
+  pub looked_fits : 1 ≤ k → k ≤ s.largest → r.looked ≤ 1048560
+  looked_fits least most =
       let bound : length (walk ws k) ≤ s.dimensions * (s.base - 1) =
       on_listed (λ t l u. k ≤ u.largest → length (walk l k) ≤ u.dimensions * (u.base - 1)) (λ t v m. walk_bounded t v k least m) h most in
       let base : s.base ≤ 65536 =
@@ -50,22 +50,22 @@ module _ {ws : List ℕ} {s : Settings} (h : Listed ws s) {k : ℕ} {r : Rest} (
       omega (arith, ap (λ t. t.looked) w.rested, rest_walk ws k, rest_looked r (trail_at ws k r.at r.coordinate))
 
   module _ {t : Step} (is : t ≡ step_at ws k r.at r.coordinate) where
-    pub searching-go : {y : ℕ} → t ≡ Go y →
+    pub searching_go : {y : ℕ} → t ≡ Go y →
         Searching ws s k (record { from = r.at; number = r.coordinate; at = y; coordinate = r.coordinate; looked = r.looked + 1 })
     unfolding rest_over
-    searching-go e =
+    searching_go e =
         rw (add-one r.looked)
-        (record { walking = walking-go w.walking is (listed_link h) e; rested = w.rested ∙ ap (rest_over r) (walked w.walking is e) })
+        (record { walking = walking_go w.walking is (listed_link h) e; rested = w.rested ∙ ap (rest_over r) (walked w.walking is e) })
 
-    pub searching-up : t ≡ Up →
+    pub searching_up : t ≡ Up →
         Searching ws s k (record { from = r.from; number = r.number; at = r.at; coordinate = r.coordinate + 1; looked = r.looked })
     unfolding rest_over
-    searching-up e =
+    searching_up e =
         record {
-          walking = walking-up w.walking is (listed_shaped h) e;
+          walking = walking_up w.walking is (listed_shaped h) e;
           rested = rw (add-one r.coordinate) (w.rested ∙ ap (rest_over r) (walked w.walking is e));
         }
 
-    pub searching-end : t ≡ End → r ≡ rest ws k
+    pub searching_end : t ≡ End → r ≡ rest ws k
     unfolding rest_over
-    searching-end e = sym (w.rested ∙ ap (rest_over r) (walked w.walking is e))
+    searching_end e = sym (w.rested ∙ ap (rest_over r) (walked w.walking is e))

@@ -9,7 +9,7 @@ use native.Mathlib.Omega.{arith}
 use lib.Dec.{leb, ltb}
 use borrow.Author.Tests.{lt-ltb, le-ltb}
 use Rattle.lists.specs.Lists.{those}
-use Rattle.lists.proofs.Those.{those-all, those-none, those-append}
+use Rattle.lists.proofs.Those.{those_all, those_none, those_append}
 use Rattle.lists.proofs.All.{All, all_map, all_append, all_left, all_zip}
 use Rattle.meaning.specs.Keys.{shared}
 use Rattle.meaning.specs.Row.{Node, head_node, first_of, Place, places_after, places, smaller_than}
@@ -19,11 +19,11 @@ use Rattle.meaning.proofs.Rows.AscendingRow.{Asc, asc_above}
 use Rattle.meaning.proofs.Rows.Keys.{shared_same, shared_less, ultra}
 use Rattle.meaning.proofs.Pictures.State.{Sound, base_positive}
 use Rattle.meaning.proofs.Rows.Places.{asc_left, asc_smaller, asc_larger, places_nodes, last_from}
-use Rattle.meaning.proofs.Rows.Parent.{dimension_least, dimension_after, parent_after, places_from, all_last, last_least, last_greatest, first-skips}
-use Rattle.meaning.proofs.Rows.Parent.{first-hits, first-front}
+use Rattle.meaning.proofs.Rows.Parent.{dimension_least, dimension_after, parent_after, places_from, all_last, last_least, last_greatest, first_skips}
+use Rattle.meaning.proofs.Rows.Parent.{first_hits, first_front}
 use Rattle.meaning.proofs.Walks.Smaller as smaller
 use Rattle.meaning.proofs.Kept.Slot as slot
-use Rattle.meaning.proofs.Cells.Placed.{Placed, placed-has}
+use Rattle.meaning.proofs.Cells.Placed.{Placed, placed_has}
 use Rattle.meaning.proofs.Walks.WalkStop.{Hangs}
 use Rattle.search.specs.Found.{larger_than, slot_number, slot_parent, slot_shared, slot_cell}
 
@@ -59,16 +59,16 @@ module _ {k : ℕ} {row pre middle post : List Node} (g : Sides k row pre middle
       ∙ smaller.smaller-is k pre (middle ++ post) g.below
       (all_append (λ y. k ≤ y.key) middle post (all_map (λ y h. omega arith) middle g.here) (all_map (λ y h. omega arith) post g.above))
 
-  pub larger-is : larger_than k row ≡ first_of post
-  larger-is =
+  pub larger_is : larger_than k row ≡ first_of post
+  larger_is =
       let test : Node → Bool = λ x. ltb k x.key in
       ap (λ r. first_of (those test r)) g.splits
       ∙ ap first_of
-      (those-append test pre (middle ++ post)
-      ∙ ap₂ ◌++◌ (those-none test pre (all_map (λ y h. le-ltb k y.key (omega arith)) pre g.below))
-      (those-append test middle post
-      ∙ ap₂ ◌++◌ (those-none test middle (all_map (λ y h. le-ltb k y.key (omega arith)) middle g.here))
-      (those-all test post (all_map (λ y h. lt-ltb k y.key h) post g.above))))
+      (those_append test pre (middle ++ post)
+      ∙ ap₂ ◌++◌ (those_none test pre (all_map (λ y h. le-ltb k y.key (omega arith)) pre g.below))
+      (those_append test middle post
+      ∙ ap₂ ◌++◌ (those_none test middle (all_map (λ y h. le-ltb k y.key (omega arith)) middle g.here))
+      (those_all test post (all_map (λ y h. lt-ltb k y.key h) post g.above))))
 
 -- The slot of k
 
@@ -95,10 +95,10 @@ slot_at s v k h {pre} {middle} {post} g =
       parent =
           ap₂ (λ key n. first_with b D key (suc n) (head_node ∷ s.row)) (ap (λ y. y.key) (smaller_is g)) number
           ∙ ap (λ row. first_with b D (last_from head_node pre).key (suc (dimension_after b D head_node pre k)) (head_node ∷ row)) g.splits
-          ∙ first-front b D (last_from head_node pre).key (suc (dimension_after b D head_node pre k)) head_node pre (middle ++ post)
+          ∙ first_front b D (last_from head_node pre).key (suc (dimension_after b D head_node pre k)) head_node pre (middle ++ post)
           (last_below_lem b D k pre (slot.dimensions-positive s v) h g.below);
-      shares = ap (λ y. shared b D k y.key) (larger-is g);
-      cell = ap₂ (λ n y. cond (leb n (shared b D k y.key)) y.cell 0) number (larger-is g) ∙ held (dimension_after b D head_node pre k) post;
+      shares = ap (λ y. shared b D k y.key) (larger_is g);
+      cell = ap₂ (λ n y. cond (leb n (shared b D k y.key)) y.cell 0) number (larger_is g) ∙ held (dimension_after b D head_node pre k) post;
     }
   where
     b : ℕ
@@ -131,7 +131,7 @@ module _ (b D : ℕ) (pos : 0 < b) (deep : 0 < D) where
   hung k w f y e [] rest h a l g = (
     λ t. (
       refl,
-      first-hits b D y.key (suc (shared b D y.key k)) y []
+      first_hits b D y.key (suc (shared b D y.key k)) y []
           (omega (arith, shared_same b D y.key, shared_less b D y.key k deep (omega arith))),
     ),
     all_map (λ p m t. absurd (let low = t.below in omega arith)) (places_after b D y e rest) (places_nodes (λ z. k ≤ z.key) b D y e rest g),
@@ -141,7 +141,7 @@ module _ (b D : ℕ) (pos : 0 < b) (deep : 0 < D) where
         let more : shared b D y.key k < shared b D y.key A.key =
         all_last Nearer z pre t.between.0 (all_left Nearer pre rest t.between.1) low in
         let u = ultra b D y.key A.key k pos (last_least y (z ∷ pre) ascends) (omega (arith, low)) in
-        (omega arith, first-hits b D A.key (suc (shared b D A.key k)) y (z ∷ pre) (omega arith)),
+        (omega arith, first_hits b D A.key (suc (shared b D A.key k)) y (z ∷ pre) (omega arith)),
     all_zip {P = Known} {Q = λ p. Hangs b D k p → Is (z ∷ pre) p} {R = λ p. Hangs b D k p → Is (y ∷ z ∷ pre) p}
         (λ p m ih t. past p m t (ih t)) (places_after b D y e later) known (hung k y e z (shared b D y.key z.key) pre rest l.0 a.1 l.1 g),
   )
@@ -183,7 +183,7 @@ module _ (b D : ℕ) (pos : 0 < b) (deep : 0 < D) where
       past p m t is =
           let after = m.0 in
           let u = ultra b D y.key p.node.key A.key pos (omega arith) (m.1.0 t.below) in
-          (is.0, first-skips b D A.key (suc (shared b D A.key k)) y (z ∷ pre) (omega (arith, u, is.0, m.1.1, t.dimension)) ∙ is.1)
+          (is.0, first_skips b D A.key (suc (shared b D A.key k)) y (z ∷ pre) (omega (arith, u, is.0, m.1.1, t.dimension)) ∙ is.1)
 
 -- In a state in order, a place from which k would hang is the parent of k's slot, and its link that is wanted has the slot's number.
 pub hung_at : {s : State} → Sound s → {k : ℕ} → 0 < k → {pre middle post : List Node} → Sides k s.row pre middle post → {x : ℕ} {p : Place} →
@@ -191,7 +191,7 @@ pub hung_at : {s : State} → Sound s → {k : ℕ} → 0 < k → {pre middle po
     (dimension_after s.settings.base s.settings.dimensions head_node pre k ≡ shared s.settings.base s.settings.dimensions p.node.key k)
     × (parent_after s.settings.base s.settings.dimensions head_node pre k ≡ p.node.cell)
 unfolding places
-hung_at {s} v {k} h {pre} {middle} {post} g here = placed-has here Is (subst (λ row. All Is (places b D row)) (sym g.splits) all)
+hung_at {s} v {k} h {pre} {middle} {post} g here = placed_has here Is (subst (λ row. All Is (places b D row)) (sym g.splits) all)
   where
     b : ℕ
     b = s.settings.base

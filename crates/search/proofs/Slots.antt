@@ -24,11 +24,11 @@ use Rattle.meaning.specs.declared.Slot.{Slot}
 use Rattle.meaning.proofs.Rows.Keys.{shared_less}
 use Rattle.meaning.proofs.Pictures.State.{Sound}
 use Rattle.meaning.proofs.Rows.Places.{last_from}
-use Rattle.meaning.proofs.Rows.Parent.{dimension_after, Apart, all_last, apart_before, place_at, first-among, parent_is}
+use Rattle.meaning.proofs.Rows.Parent.{dimension_after, Apart, all_last, apart_before, place_at, first_among, parent_is}
 use Rattle.meaning.proofs.Kept.Slot as slot
 use Rattle.meaning.proofs.Rows.Nodes.{node_split}
 use Rattle.meaning.proofs.Kept.KeepsInsert.{slot_first}
-use Rattle.meaning.proofs.Cells.Placed.{Placed, occurs_placed, placed_below, mark_one, mark_other, place-mark}
+use Rattle.meaning.proofs.Cells.Placed.{Placed, occurs_placed, placed_below, mark_one, mark_other, place_mark}
 use Rattle.meaning.proofs.Rows.Nodes.{node_key, node_has}
 use Rattle.words.proofs.Listed.{on_listed}
 use Rattle.search.specs.Found.{slot_number, slot_parent, slot_shared, slot_cell, found_at, found_of, Sought}
@@ -106,7 +106,7 @@ module _ (s : State) (v : Sound s) (k : ℕ) (least : 1 ≤ k) where
       let D = s.settings.dimensions in
       let all = all_stand s in
       rw (slot_at s v k least g).parent
-      (first-among b D (Stands s) (last_from head_node pre).key (suc (dimension_after b D head_node pre k)) head_node pre
+      (first_among b D (Stands s) (last_from head_node pre).key (suc (dimension_after b D head_node pre k)) head_node pre
       (last_below_lem b D k pre (slot.dimensions-positive s v) least g.below) all.0
       (all_left (λ x. Stands s x.cell) pre (middle ++ post) (subst (All (λ x. Stands s x.cell)) g.splits all.1)))
 
@@ -118,12 +118,12 @@ module _ (s : State) (v : Sound s) (k : ℕ) (least : 1 ≤ k) where
       omega (arith, (slot_at s v k least g).number, shared_less b D (last_from head_node pre).key k (slot.dimensions-positive s v) (omega arith))
 
   -- what has the slot, where k does not stand: the node of next larger key, if any
-  slot-holds : (pre post : List Node) → SlotAt s k pre post → All (λ y. k < y.key) post → All (λ x. Stands s x.cell) post → Dec (slot_cell s k ≡ 0) →
+  slot_holds : (pre post : List Node) → SlotAt s k pre post → All (λ y. k < y.key) post → All (λ x. Stands s x.cell) post → Dec (slot_cell s k ≡ 0) →
       Stands s (slot_cell s k) × (cond (eqb (slot_cell s k) 0) 0 (slot_shared s k) < s.settings.dimensions)
-  slot-holds pre post t above all (yes e) =
+  slot_holds pre post t above all (yes e) =
       (subst (Stands s) (sym e) (all_stand s).0, rw (eq-eqb (slot_cell s k) 0 e) (slot.dimensions-positive s v))
-  slot-holds pre [] t above all (no ne) = absurd (ne t.cell)
-  slot-holds pre (x ∷ post) t above all (no ne) =
+  slot_holds pre [] t above all (no ne) = absurd (ne t.cell)
+  slot_holds pre (x ∷ post) t above all (no ne) =
       let b = s.settings.base in
       let D = s.settings.dimensions in
       let h = above.0 in
@@ -132,9 +132,9 @@ module _ (s : State) (v : Sound s) (k : ℕ) (least : 1 ≤ k) where
         rw (ne_eqb (slot_cell s k) 0 ne, t.shares) less,
       )
 
-  pub present-at : (x : Node) → node_at k s.row ≡ some x → Present s k x (found_at s k (some x))
+  pub present_at : (x : Node) → node_at k s.row ≡ some x → Present s k x (found_at s k (some x))
   unfolding found_at
-  present-at x e =
+  present_at x e =
       let split = node_split k x s.row e in
       let pre = split.0 in
       let post = split.1 in
@@ -154,15 +154,15 @@ module _ (s : State) (v : Sound s) (k : ℕ) (least : 1 ≤ k) where
         p_below = number_below g;
       }
 
-  pub absent-at : node_at k s.row ≡ none → Absent s k (found_at s k none)
+  pub absent_at : node_at k s.row ≡ none → Absent s k (found_at s k none)
   unfolding found_at
-  absent-at e =
+  absent_at e =
       let gap = slot.gap k 0 s.row v.ascends e in
       let g = sides_absent gap in
       let t = slot_at s v k least g in
       let stands = parent_stands g in
       let all = all_right (λ x. Stands s x.cell) gap.pre gap.post (subst (All (λ x. Stands s x.cell)) gap.splits (all_stand s).1) in
-      let held = slot-holds gap.pre gap.post t gap.above all (ℕ_discrete (slot_cell s k) 0) in
+      let held = slot_holds gap.pre gap.post t gap.above all (ℕ_discrete (slot_cell s k) 0) in
       record {
         node = e;
         standing = refl;
@@ -177,9 +177,9 @@ module _ (s : State) (v : Sound s) (k : ℕ) (least : 1 ≤ k) where
       }
 
   -- the slot in which an insert puts the key
-  pub slot-at-absent : node_at k s.row ≡ none → 0 < length s.free → SlotFound (found_at s k none) (slot_for s k)
+  pub slot_at_absent : node_at k s.row ≡ none → 0 < length s.free → SlotFound (found_at s k none) (slot_for s k)
   unfolding found_at
-  slot-at-absent e room =
+  slot_at_absent e room =
       let gap = slot.gap k 0 s.row v.ascends e in
       let t = slot_at s v k least (sides_absent gap) in
       let is = slot.slot_is s v k least gap room in
@@ -194,41 +194,41 @@ module _ (s : State) (v : Sound s) (k : ℕ) (least : 1 ≤ k) where
 -- the same of an answer of the search, by whether the key stands
 
 module _ {s : State} (v : Sound s) {k : ℕ} (least : 1 ≤ k) {f : Found} (is : f ≡ found_of s k) where
-  pub found-standing : f.standing ≡ true → (x : Node) × Present s k x f
+  pub found_standing : f.standing ≡ true → (x : Node) × Present s k x f
   unfolding found_of found_at
-  found-standing t = at (node_at k s.row) refl
+  found_standing t = at (node_at k s.row) refl
     where
       at : (o : Option Node) → node_at k s.row ≡ o → (x : Node) × Present s k x f
       at none e = absurd (let q : f ≡ found_at s k none = is ∙ ap (found_at s k) e in let z : false ≡ true = sym (ap (λ g. g.standing) q) ∙ t in false≢true z)
-      at (some x) e = (x, subst (Present s k x) (sym (is ∙ ap (found_at s k) e)) (present-at s v k least x e))
+      at (some x) e = (x, subst (Present s k x) (sym (is ∙ ap (found_at s k) e)) (present_at s v k least x e))
 
-  pub found-missing : f.standing ≡ false → Absent s k f
+  pub found_missing : f.standing ≡ false → Absent s k f
   unfolding found_of found_at
-  found-missing t = at (node_at k s.row) refl
+  found_missing t = at (node_at k s.row) refl
     where
       at : (o : Option Node) → node_at k s.row ≡ o → Absent s k f
-      at none e = subst (Absent s k) (sym (is ∙ ap (found_at s k) e)) (absent-at s v k least e)
+      at none e = subst (Absent s k) (sym (is ∙ ap (found_at s k) e)) (absent_at s v k least e)
       at (some x) e = absurd (let q : f ≡ found_at s k (some x) = is ∙ ap (found_at s k) e in let z : false ≡ true = sym t ∙ ap (λ g. g.standing) q in
           false≢true z)
 
-  pub found-slot : f.standing ≡ false → 0 < length s.free → SlotFound f (slot_for s k)
+  pub found_slot : f.standing ≡ false → 0 < length s.free → SlotFound f (slot_for s k)
   unfolding found_of
-  found-slot t room =
-      let e = (found-missing t).node in
-      subst (λ g. SlotFound g (slot_for s k)) (sym (is ∙ ap (found_at s k) e)) (slot-at-absent s v k least e room)
+  found_slot t room =
+      let e = (found_missing t).node in
+      subst (λ g. SlotFound g (slot_for s k)) (sym (is ∙ ap (found_at s k) e)) (slot_at_absent s v k least e room)
 
 -- the mark of a standing key's cell, as it is read, says whether the key is live
 module _ {s : State} (v : Sound s) {k : ℕ} {x : Node} {f : Found} (found : Present s k x f) {m : ℕ} (reads : m ≡ mark_at (picture s) f.c) where
-  mark-is : m ≡ mark x.live
-  mark-is =
+  mark_is : m ≡ mark x.live
+  mark_is =
       let (p, here) = node_placed v k x found.node in
-      reads ∙ ap (mark_at (picture s)) found.c ∙ place-mark v here.0 ∙ ap (λ y. mark y.live) here.1
+      reads ∙ ap (mark_at (picture s)) found.c ∙ place_mark v here.0 ∙ ap (λ y. mark y.live) here.1
 
-  pub marked-live : m ≡ 1 → x.live ≡ true
-  marked-live one = mark_one x.live (sym mark-is ∙ one)
+  pub marked_live : m ≡ 1 → x.live ≡ true
+  marked_live one = mark_one x.live (sym mark_is ∙ one)
 
-  pub marked-dead : (m ≡ 1 → ⊥) → x.live ≡ false
-  marked-dead other = mark_other x.live (λ z. other (mark-is ∙ z))
+  pub marked_dead : (m ≡ 1 → ⊥) → x.live ≡ false
+  marked_dead other = mark_other x.live (λ z. other (mark_is ∙ z))
 
 -- On a list: what holds of each state in order, its picture and its settings, where the search has answered so, holds of the list.
 pub on_sought :
@@ -238,4 +238,4 @@ on_sought P {key = key} {f = f} k g = on_listed (λ t ws s. key ≤ s.largest �
 
 -- the cell of a key that stands
 pub standing_cell : {ws : List ℕ} {s : Settings} {key : ℕ} {f : Found} → Sought ws s key f → f.standing ≡ true → f.c < s.cells
-standing_cell {f = f} k stands = on_sought (λ t ws s. f.c < s.cells) k (λ t v m q. (found-standing v k.least q stands).1.c_below)
+standing_cell {f = f} k stands = on_sought (λ t ws s. f.c < s.cells) k (λ t v m q. (found_standing v k.least q stands).1.c_below)

@@ -1,5 +1,5 @@
 -- What the search for a key answers on a list, over the standing keys. The slot is put by the next smaller and the next larger key, as the
--- walk finds it; that it is the meaning's own (slot_for) is found-slot in proofs/Slots.antt. Where there is no c, q is 0.
+-- walk finds it; that it is the meaning's own (slot_for) is found_slot in proofs/Slots.antt. Where there is no c, q is 0.
 use Rattle.std.specs.Prelude.{◌≡◌, true, false, cond, List, ◌∷◌, ℕ, suc, ◌≤◌, eqb, leb, ltb, length}
 use Rattle.std.proofs.Math.Option.{Option, none, some}
 use Rattle.settings.specs.declared.Settings.{Settings}

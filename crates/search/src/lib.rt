@@ -1,6 +1,8 @@
 // The search that insert, find and finish share. It goes by the one step function of crate words, so that looked is the number of
 // steps that go to a cell; no cell is read that the walk does not meet, but for an owed cell whose link is read. From where it rests,
 // insert asks for the standing cell of next smaller key; that way is no part of the walk.
+#![tactic(auto)]
+
 ghost use Rattle.std.specs.Prelude.{◌≡◌, suc, ◌≤◌, ◌<◌};
 ghost use Rattle.settings.specs.Levels.{PowersOf};
 ghost use Rattle.meaning.specs.Lower.{lower_from};
@@ -13,7 +15,7 @@ use meaning::{Rest, Step};
 use settings::Settings;
 
 // What is known when the walk for k has come to rest.
-#[derive(Drop)]
+#[derive(Clone, Copy)]
 pub struct Found {
     // whether k stands
     pub standing: bool,

@@ -28,15 +28,15 @@ module _ (D K C : ℕ) (checked : Checked) (is : checked ≡ checked_of D K C) w
       rw r.1 (b.dimensions_most, b.cells_most)
 
   module _ (ws : List ℕ) (r : Answer) where
-    pub out-of-range-meets : checked ≡ OutOfRange → r ≡ answer 1 0 0 0 → Meets (set_up_out D K C ws) r ws
+    pub out_of_range_meets : checked ≡ OutOfRange → r ≡ answer 1 0 0 0 → Meets (set_up_out D K C ws) r ws
     unfolding set_up_out set_up_by
-    out-of-range-meets e a = rw (← is, e) (record { answered = a; left = refl })
+    out_of_range_meets e a = rw (← is, e) (record { answered = a; left = refl })
 
-    pub wrong-length-meets :
+    pub wrong_length_meets :
         {s : Settings} → checked ≡ Accepted s → (length ws ≡ length_of s.dimensions s.cells → ⊥) → r ≡ answer 2 0 0 0 →
         Meets (set_up_out D K C ws) r ws
     unfolding set_up_out set_up_by
-    wrong-length-meets {s} e differ a =
+    wrong_length_meets {s} e differ a =
         rw (← is, e, ne_eqb (length ws) (length_of s.dimensions s.cells) differ, set_up_by) (record { answered = a; left = refl })
 
     pub fresh_meets :

@@ -81,9 +81,9 @@ unfolding fresh_cells flat_map numbers_from
 cells_start l D C = rw (append-nil (take (header_words + D) l)) (sym (take-append-drop (header_words + D) l))
 
 module _ (l : List ℕ) (D C : ℕ) (long : length l ≡ length_of D C) where
-  length-cells-done : (x : ℕ) → length (cells_done l D C x) ≡ header_words + D + x * cell_words D
+  length-cells_done : (x : ℕ) → length (cells_done l D C x) ≡ header_words + D + x * cell_words D
   unfolding fresh_cells
-  length-cells-done x =
+  length-cells_done x =
       let h : header_words + D ≤ length l = omega arith in
       omega (
         arith,
@@ -96,15 +96,15 @@ module _ (l : List ℕ) (D C : ℕ) (long : length l ≡ length_of D C) where
   cell_inside x h = omega (arith, mul-le-mul_right (cell_words D) h, suc-mul x (cell_words D))
 
   -- cell x written after the cells before it
-  pub cells-more :
+  pub cells_more :
       (x : ℕ) {a : ℕ} {list ys : List ℕ} → a ≡ header_words + D + x * cell_words D → list ≡ cells_done l D C x ++ drop a l → ys ≡ fresh_cell D C x →
       put_mid a (a + cell_words D - a) list ys ≡ cells_done l D C (x + 1) ++ drop (a + cell_words D) l
-  cells-more x {a} at so cell =
+  cells_more x {a} at so cell =
       rw (so, cell, fresh_cells_more D C x, ← append_assoc (take (header_words + D) l) (fresh_cells D C x) (fresh_cell D C x))
-      (written (cells_done l D C x) (fresh_cell D C x) l a (a + cell_words D) (length-cells-done x ∙ sym at) (omega arith))
+      (written (cells_done l D C x) (fresh_cell D C x) l a (a + cell_words D) (length-cells_done x ∙ sym at) (omega arith))
 
-  pub cells-all : (x : ℕ) {a : ℕ} → x ≡ C → a ≡ header_words + D + x * cell_words D → cells_done l D C x ++ drop a l ≡ cells_done l D C C
-  cells-all x {a} h at =
+  pub cells_all : (x : ℕ) {a : ℕ} → x ≡ C → a ≡ header_words + D + x * cell_words D → cells_done l D C x ++ drop a l ≡ cells_done l D C C
+  cells_all x {a} h at =
       let e : length l ≤ a = rw (at, h) (omega arith) in
       rw (drop_of_length-le l e, append-nil (cells_done l D C x), h) refl
 

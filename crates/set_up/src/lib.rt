@@ -1,4 +1,6 @@
 // Set up: a fresh list in the lent words: The operations 1.
+#![tactic(auto)]
+
 ghost use Rattle.std.specs.Prelude.{◌≡◌, ◌++◌, ◌+◌, ◌≤◌, ◌<◌, length, take, drop};
 ghost use Rattle.settings.specs.Numbers.{header_words, length_of};
 ghost use Rattle.answers.specs.Refusals.{Meets};

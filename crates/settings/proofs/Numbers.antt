@@ -127,7 +127,7 @@ pub record Ranges (D K C : ℕ) : Type 0 where
   pub cells_least : least_cells ≤ C
   pub cells_most : C ≤ most_cells
 
-pub in_range : (D K C : ℕ) → Ranges D K C → in_range D K C ≡ true
+pub in_range_lem : (D K C : ℕ) → Ranges D K C → in_range D K C ≡ true
 unfolding in_range
 in_range_lem D K C r =
     simp (
@@ -184,8 +184,8 @@ module _ {K key : ℕ} where
   pub key_within : is_key K key ≡ true → (1 ≤ key) × (key ≤ K)
   key_within = bounds 1 K key
 
-  pub key-out : (1 ≤ key → K < key) → is_key K key ≡ false
-  key-out outside = at_test (is_key K key) refl
+  pub key_out : (1 ≤ key → K < key) → is_key K key ≡ false
+  key_out outside = at_test (is_key K key) refl
     where
       at_test : (t : Bool) → is_key K key ≡ t → t ≡ false
       at_test true e = let (least, most) = key_within e in absurd (not-le_of_lt (outside least) most)

@@ -1,5 +1,7 @@
 // The settings of a list: dimensions D, largest key K, cells C and the base b that follows from D and K, with the length of the
 // list's words (docs/REFERENCE.md, *Numbers* and *The words*).
+#![tactic(auto)]
+
 ghost use Rattle.std.specs.Prelude.{◌≡◌, true, ◌^◌, ◌≤◌, ◌<◌, ltb};
 ghost use Rattle.settings.specs.Numbers.{least_dimensions, most_dimensions, least_largest, most_largest, most_cells};
 ghost use Rattle.settings.specs.Numbers.{in_range, is_key, base_of, cell_words, length_of};
@@ -7,7 +9,7 @@ ghost use Rattle.settings.specs.Checked.{checked_of};
 ghost use Rattle.settings.specs.Base.{IsBase, is_base};
 ghost use Rattle.settings.specs.Levels.{PowersOf};
 
-#[derive(Drop)]
+#[derive(Clone, Copy)]
 pub struct Settings {
     pub dimensions: u32,
     pub largest: u32,
@@ -16,14 +18,14 @@ pub struct Settings {
 }
 
 // What the checked constructor answers: settings in range, or that a number is not (*Refusals*, number 1).
-#[derive(Drop)]
+#[derive(Clone, Copy)]
 pub enum Checked {
     Accepted(Settings),
     OutOfRange,
 }
 
 // The powers of b by which the blocks of keys are told, worked out once a call: at level d, b to the power D - d.
-#[derive(Drop)]
+#[derive(Clone, Copy)]
 pub struct Powers {
     pub of: [u64; 17],
 }

@@ -16,8 +16,8 @@ use Rattle.meaning.proofs.Rows.Blocks.{shared_block}
 
 module _ {s : Settings} {powers : List ℕ} (p : PowersOf s powers) {x y : ℕ} (less : x < y) (fits : y < s.base ^ s.dimensions) where
   -- different keys do not share all coordinates
-  pub shared-not-all : shared s.base s.dimensions x y < s.dimensions
-  shared-not-all = go (ℕ_discrete s.dimensions 0)
+  pub shared_not_all : shared s.base s.dimensions x y < s.dimensions
+  shared_not_all = go (ℕ_discrete s.dimensions 0)
     where
       go : Dec (s.dimensions ≡ 0) → shared s.base s.dimensions x y < s.dimensions
       go (yes none) = absurd (omega (arith, less, rw (none, pow-zero s.base) at fits))
@@ -31,14 +31,14 @@ module _ {s : Settings} {powers : List ℕ} (p : PowersOf s powers) {x y : ℕ} 
         is ∙ ap (λ m. y - y % m) power
 
     -- x is inside y's block of level d + 1, ..
-    pub shared-more : start ≤ x → d + 1 ≤ shared s.base s.dimensions x y
-    shared-more from =
+    pub shared_more : start ≤ x → d + 1 ≤ shared s.base s.dimensions x y
+    shared_more from =
         let more = (shared_block s.base s.dimensions x y (suc d) p.some fits (omega (arith, less)) inside).1 (omega (arith, from, start_is)) in
         omega (arith, more)
 
     -- .. or before it
-    pub shared-ends : d ≤ shared s.base s.dimensions x y → x < start → d ≡ shared s.base s.dimensions x y
-    shared-ends upto before = go (dec_lt d (shared s.base s.dimensions x y))
+    pub shared_ends : d ≤ shared s.base s.dimensions x y → x < start → d ≡ shared s.base s.dimensions x y
+    shared_ends upto before = go (dec_lt d (shared s.base s.dimensions x y))
       where
         go : Dec (d < shared s.base s.dimensions x y) → d ≡ shared s.base s.dimensions x y
         go (yes h) =

@@ -17,7 +17,7 @@ use Rattle.meaning.specs.Keys.{coordinate, shared, block_start}
 use Rattle.meaning.specs.Words.{key_at}
 use Rattle.meaning.specs.Walk.{link_read, step_along, step_at}
 use Rattle.meaning.specs.declared.Step.TheVariants.{Go, Up, End}
-use Rattle.meaning.proofs.Rows.Blocks.{block-before, block_inside, block-past}
+use Rattle.meaning.proofs.Rows.Blocks.{block_before, block_inside, block_past}
 use Rattle.words.specs.Shaped.{Shaped}
 use Rattle.steps.specs.Blocks.{BlocksOf, Met}
 use Rattle.words.proofs.Shaped.{shaped_dimensions, shaped_base}
@@ -41,44 +41,44 @@ module _ {ws : List ℕ} {s : Settings} (h : Shaped ws s) (k x d : ℕ) {starts 
   size_is : get_or powers (d + 1) 0 ≡ s.base ^ (s.dimensions - suc d)
   size_is = rw (add-one d) (sought.sizes.level (suc d) met.inside)
 
-  own-fits : own < s.base ^ s.dimensions
-  own-fits = rw here met.fits
+  own_fits : own < s.base ^ s.dimensions
+  own_fits = rw here met.fits
 
-  own-shares : d ≤ shared s.base s.dimensions own k
-  own-shares = rw here met.shares
+  own_shares : d ≤ shared s.base s.dimensions own k
+  own_shares = rw here met.shares
 
   below : own < get_or starts d 0 → ltb (digit own) (digit k) ≡ true
   below less =
       lt-ltb _ _
-      (block-before s.base s.dimensions own k d sought.sizes.some own-fits sought.fits met.inside own-shares (omega (arith, less, start_is)))
+      (block_before s.base s.dimensions own k d sought.sizes.some own_fits sought.fits met.inside own_shares (omega (arith, less, start_is)))
 
-  pub step-none : {y : ℕ} → own < get_or starts d 0 → y ≡ link_read ws x d → y ≡ 0 → step_at ws k x d ≡ End
-  step-none less e none = step_is ∙ rw (below less, ← e, eq-eqb _ 0 none) refl
+  pub step_none : {y : ℕ} → own < get_or starts d 0 → y ≡ link_read ws x d → y ≡ 0 → step_at ws k x d ≡ End
+  step_none less e none = step_is ∙ rw (below less, ← e, eq-eqb _ 0 none) refl
 
-  pub step-go : {y : ℕ} → own < get_or starts d 0 → y ≡ link_read ws x d → (y ≡ 0 → ⊥) → step_at ws k x d ≡ Go y
-  step-go less e some = step_is ∙ rw (below less, ← e, ne_eqb _ 0 some) refl
+  pub step_go : {y : ℕ} → own < get_or starts d 0 → y ≡ link_read ws x d → (y ≡ 0 → ⊥) → step_at ws k x d ≡ Go y
+  step_go less e some = step_is ∙ rw (below less, ← e, ne_eqb _ 0 some) refl
 
   module _ (from : get_or starts d 0 ≤ own) where
     same : own - get_or starts d 0 < get_or powers (d + 1) 0 → digit own ≡ digit k
     same less =
-        block_inside s.base s.dimensions own k d sought.sizes.some own-fits sought.fits met.inside own-shares (omega (arith, from, start_is))
+        block_inside s.base s.dimensions own k d sought.sizes.some own_fits sought.fits met.inside own_shares (omega (arith, from, start_is))
         (omega (arith, from, less, start_is, size_is))
 
-    pub step-last : own - get_or starts d 0 < get_or powers (d + 1) 0 → d + 1 ≡ s.dimensions → step_at ws k x d ≡ End
-    step-last less last =
+    pub step_last : own - get_or starts d 0 < get_or powers (d + 1) 0 → d + 1 ≡ s.dimensions → step_at ws k x d ≡ End
+    step_last less last =
         let e = same less in
         step_is ∙ rw (le-ltb (digit own) (digit k) (omega arith), eq-eqb (digit own) (digit k) e, eq-eqb (d + 1) s.dimensions last) refl
 
-    pub step-up : own - get_or starts d 0 < get_or powers (d + 1) 0 → (d + 1 ≡ s.dimensions → ⊥) → step_at ws k x d ≡ Up
-    step-up less more =
+    pub step_up : own - get_or starts d 0 < get_or powers (d + 1) 0 → (d + 1 ≡ s.dimensions → ⊥) → step_at ws k x d ≡ Up
+    step_up less more =
         let e = same less in
         step_is ∙ rw (le-ltb (digit own) (digit k) (omega arith), eq-eqb (digit own) (digit k) e, ne_eqb (d + 1) s.dimensions more) refl
 
-    pub step-above : get_or powers (d + 1) 0 ≤ own - get_or starts d 0 → step_at ws k x d ≡ End
-    step-above past =
+    pub step_above : get_or powers (d + 1) 0 ≤ own - get_or starts d 0 → step_at ws k x d ≡ End
+    step_above past =
         let some : 0 < get_or powers (d + 1) 0 = power_some sought.sizes (omega (arith, met.inside)) in
         let above =
-        block-past s.base s.dimensions own k d sought.sizes.some own-fits sought.fits met.inside own-shares
+        block_past s.base s.dimensions own k d sought.sizes.some own_fits sought.fits met.inside own_shares
         (omega (arith, from, past, some, start_is, size_is))
         in
         step_is ∙ rw (le-ltb (digit own) (digit k) (omega arith), ne_eqb (digit own) (digit k) (λ e. omega arith)) refl

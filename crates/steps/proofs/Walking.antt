@@ -59,9 +59,9 @@ module _ {ws : List ℕ} {s : Settings} {k x d : ℕ} (w : Walking ws s k x d) {
   near_on : {t : Step} → r ≡ t → NearAlong s.base s.dimensions k (key_at ws) x d (t ∷ on_from (trail_at ws k) x d t)
   near_on e = subst (NearAlong s.base s.dimensions k (key_at ws) x d) (walked e) w.near
 
-  pub walking-go : ((x d : ℕ) → x < s.cells → d < s.dimensions → link_read ws x d < s.cells) → {y : ℕ} → r ≡ Go y → Walking ws s k y d
+  pub walking_go : ((x d : ℕ) → x < s.cells → d < s.dimensions → link_read ws x d < s.cells) → {y : ℕ} → r ≡ Go y → Walking ws s k y d
   unfolding ends
-  walking-go links e =
+  walking_go links e =
       record {
         ended = sym (ap ends (walked e)) ∙ w.ended;
         cell = omega (arith, tells e, links x d w.cell w.inside);
@@ -69,15 +69,15 @@ module _ {ws : List ℕ} {s : Settings} {k x d : ℕ} (w : Walking ws s k x d) {
         near = (near_on e).1;
       }
 
-  pub walking-up : Shaped ws s → r ≡ Up → Walking ws s k x (d + 1)
+  pub walking_up : Shaped ws s → r ≡ Up → Walking ws s k x (d + 1)
   unfolding ends
-  walking-up h e =
+  walking_up h e =
       let more = tells e in
       rw (add-one d)
       (record { ended = sym (ap ends (walked e)) ∙ w.ended; cell = w.cell; inside = omega (arith, w.inside, shaped_dimensions h); near = (near_on e).1 })
 
-  pub left-go : {y : ℕ} → r ≡ Go y → length (trail_at ws k y d) < length (trail_at ws k x d)
-  left-go e = omega (arith, ap length (walked e))
+  pub left_go : {y : ℕ} → r ≡ Go y → length (trail_at ws k y d) < length (trail_at ws k x d)
+  left_go e = omega (arith, ap length (walked e))
 
   pub left_up : r ≡ Up → length (trail_at ws k x (d + 1)) < length (trail_at ws k x d)
   left_up e = rw (add-one d) (omega (arith, ap length (walked e)))

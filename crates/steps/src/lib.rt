@@ -1,4 +1,6 @@
 // One step of the walk for a key, by where the key's blocks start; and how many coordinates two keys share.
+#![tactic(auto)]
+
 ghost use Rattle.std.specs.Prelude.{◌≡◌, ◌-◌, ◌%◌, ◌^◌, ◌<◌, ◌≤◌};
 ghost use Rattle.settings.specs.Numbers.{most_dimensions};
 ghost use Rattle.settings.specs.Levels.{PowersOf};

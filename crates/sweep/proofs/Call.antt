@@ -34,10 +34,10 @@ listed_outcome : {ws : List ℕ} {s : Settings} → Listed ws s → sweep_out ws
 listed_outcome = on_listed (λ t ws s. sweep_out ws ≡ accepted 0 0 (length (freed_by t.row)) (picture (swept t))) sweep_outcome
 
 module _ {ws : List ℕ} {s : Settings} (h : Listed ws s) {all : List ℕ} (pays : all ≡ finish_all s.dimensions ws 1 (s.cells - 1)) where
-  pub swept-meets :
+  pub swept_meets :
       {r : Answer} {left : List ℕ} {count : ℕ} → left ≡ picture (swept (read all)) → count ≡ length (freed_by (read all).row) →
       r ≡ answer 0 0 0 count → Meets (sweep_out ws) r left
-  swept-meets words freed a =
+  swept_meets words freed a =
       let same = paid_read h pays in
       let result : swept (read all) ≡ swept (read ws) = ap swept same ∙ swept_paid (read ws) in
       let number : length (freed_by (read all).row) ≡ length (freed_by (read ws).row) =
@@ -45,8 +45,8 @@ module _ {ws : List ℕ} {s : Settings} (h : Listed ws s) {all : List ℕ} (pays
       rw (listed_outcome h) (record { answered = a ∙ ap (answer 0 0 0) (freed ∙ number); left = words ∙ ap picture result })
 
   -- the position stays the head
-  pub stays-meets : {t : Target} {r : Answer} → Paid all s → SweptTo all s t → t.cell ≡ 0 → r ≡ answer 0 0 0 0 → Meets (sweep_out ws) r all
-  stays-meets k to none a =
+  pub stays_meets : {t : Target} {r : Answer} → Paid all s → SweptTo all s t → t.cell ≡ 0 → r ≡ answer 0 0 0 0 → Meets (sweep_out ws) r all
+  stays_meets k to none a =
       let so : (all ≡ picture (swept (read all))) × (0 ≡ length (freed_by (read all).row)) =
       on_listed
       (λ u ws s. map paid u.row ≡ u.row → (last_of (dead_front u.row)).cell ≡ 0 → (ws ≡ picture (swept u)) × (0 ≡ length (freed_by u.row)))
@@ -54,4 +54,4 @@ module _ {ws : List ℕ} {s : Settings} (h : Listed ws s) {all : List ℕ} (pays
       let same : swept u ≡ u = swept_stays u v head ∙ ap (with_row u) unowing in
       (ap picture (sym same), omega (arith, freed_count u, ap (λ g. length g.free) same)))
       k.listed k.unowing (sym to.cell ∙ none) in
-      swept-meets so.0 so.1 a
+      swept_meets so.0 so.1 a

@@ -14,13 +14,13 @@ use Rattle.meaning.specs.Operations.{dimension_at, keys_above}
 use Rattle.meaning.specs.Layer.Listed.{Listed}
 use Rattle.meaning.specs.Layer.Paths.{PathOf, dimension_in}
 use Rattle.meaning.proofs.Cells.Placed.{mark_one, mark_other, head_placed}
-use Rattle.meaning.proofs.Paths.PathNext.{last_of_lem, way-key}
+use Rattle.meaning.proofs.Paths.PathNext.{last_of_lem, way_key}
 use Rattle.meaning.proofs.Paths.PathTake.{Stops, Live, stops, above_later}
 use Rattle.words.proofs.Listed.{on_listed}
 use Rattle.paths.specs.declared.Path.{Path}
 use Rattle.paths.specs.declared.Reached.{Reached}
 use Rattle.paths.specs.Paths.{path_of, Formed, PathIn, NextIs}
-use Rattle.paths.proofs.Ways.{head_starts, way_in, MovesOn, moves-on, moves-end}
+use Rattle.paths.proofs.Ways.{head_starts, way_in, MovesOn, moves_on, moves_end}
 use Rattle.free_between.specs.Between.{SweptTo}
 
 -- the path has come past dead nodes to cell `at`, which was reached by link `number`
@@ -54,7 +54,7 @@ above_is :
     c ≡ (last_of front).cell → keys_above (key_at ws c) (read ws).row ≡ length later
 above_is h {path} {front} {later} {c} =
     on_listed (λ t ws s. PathOf t path front later → c ≡ (last_of front).cell → keys_above (key_at ws c) t.row ≡ length later)
-    (λ t v w e. rw (e, way-key v w) (above_later v w)) h
+    (λ t v w e. rw (e, way_key v w) (above_later v w)) h
 
 module _ {ws : List ℕ} {s : Settings} (h : Listed ws s) {at number : ℕ} {p : Path} (k : Seeking ws s at number p) {r : Reached}
     (n : NextIs ws s p r) where
@@ -65,24 +65,24 @@ module _ {ws : List ℕ} {s : Settings} (h : Listed ws s) {at number : ℕ} {p :
       let stop = subst (λ row. Stops row k.front later) (sym w.split) (stops k.front later k.dead live) in
       record { on_way = rw (stop.dead, stop.live) w; cell = rw stop.dead k.cell; number = k.reached; path_in = k.path_in }
 
-  pub seeking-end : r.cell ≡ 0 → SweptTo ws s (record { cell = at; number = number; path = p })
-  seeking-end none = found [] (moves-end h n k.later k.on_way none) tt
+  pub seeking_end : r.cell ≡ 0 → SweptTo ws s (record { cell = at; number = number; path = p })
+  seeking_end none = found [] (moves_end h n k.later k.on_way none) tt
 
   module _ (some : r.cell ≡ 0 → ⊥) where
     on : MovesOn (read ws) ws k.front k.later r
-    on = moves-on h n k.later k.on_way some
+    on = moves_on h n k.later k.on_way some
 
-    pub seeking-less : keys_above (key_at ws r.cell) (read ws).row < keys_above (key_at ws at) (read ws).row
-    seeking-less =
+    pub seeking_less : keys_above (key_at ws r.cell) (read ws).row < keys_above (key_at ws at) (read ws).row
+    seeking_less =
         let there = on.to.cell ∙ ap (λ y. y.cell) (sym (last_of_lem k.front on.node)) in
         omega (arith, above_is h on.to.on_way there, above_is h k.on_way k.cell, ap length on.next)
 
     module _ {mark : ℕ} (is : mark ≡ mark_at ws r.cell) where
-      pub seeking-live : mark ≡ 1 → SweptTo ws s (record { cell = at; number = number; path = p })
-      seeking-live one = found (on.node ∷ on.rest) on.next (mark_one on.node.live (sym on.to.mark ∙ sym is ∙ one))
+      pub seeking_live : mark ≡ 1 → SweptTo ws s (record { cell = at; number = number; path = p })
+      seeking_live one = found (on.node ∷ on.rest) on.next (mark_one on.node.live (sym on.to.mark ∙ sym is ∙ one))
 
-      pub seeking-onward : (mark ≡ 1 → ⊥) → Seeking ws s r.cell r.number r.path
-      seeking-onward other =
+      pub seeking_onward : (mark ≡ 1 → ⊥) → Seeking ws s r.cell r.number r.path
+      seeking_onward other =
           let y = on.node in
           record {
             front = k.front ++ (y ∷ []);

@@ -1,5 +1,7 @@
 // Sweep: finishes all that is owed, moves the position to the last dead cell before the first live one, and has the cells between the
 // head and it freed.
+#![tactic(auto)]
+
 ghost use Rattle.std.specs.Prelude.{◌≡◌, ◌-◌};
 ghost use Rattle.settings.specs.Levels.{PowersOf};
 ghost use Rattle.answers.specs.Refusals.{Meets};

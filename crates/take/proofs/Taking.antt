@@ -25,17 +25,17 @@ use Rattle.meaning.proofs.Pictures.State.{Sound}
 use Rattle.meaning.proofs.Pictures.StateCells.{free_length}
 use Rattle.meaning.proofs.Pictures.Picture.{path_length}
 use Rattle.meaning.proofs.Kept.KeepsState.{cell_alone, live_split}
-use Rattle.meaning.proofs.Cells.Placed.{mark_one, mark_other, place-key, place-value}
-use Rattle.meaning.proofs.BothWays.SentencesShape.{HasPlace, row-placed}
-use Rattle.meaning.proofs.Paths.PathNext.{last_of_lem, way-within}
+use Rattle.meaning.proofs.Cells.Placed.{mark_one, mark_other, place_key, place_value}
+use Rattle.meaning.proofs.BothWays.SentencesShape.{HasPlace, row_placed}
+use Rattle.meaning.proofs.Paths.PathNext.{last_of_lem, way_within}
 use Rattle.meaning.proofs.Paths.PathTake.{stops, position_on_way, above_more, passed_upto, taken_path}
-use Rattle.meaning.proofs.Written.TakeWords.{taken_words}
+use Rattle.meaning.proofs.Written.TakeWords.{taken_words_lem}
 use Rattle.meaning.proofs.Outcomes.{take_outcome_none, take_outcome_first}
 use Rattle.paths.specs.declared.Path.{Path}
 use Rattle.paths.specs.declared.Reached.{Reached}
 use Rattle.paths.specs.Paths.{path_of, Formed, PathIn, NextIs}
 use Rattle.words.proofs.Listed.{listed_picture, on_listed}
-use Rattle.paths.proofs.Ways.{MovesOn, moves-on, moves-end}
+use Rattle.paths.proofs.Ways.{MovesOn, moves_on, moves_end}
 use Rattle.take.specs.declared.Ahead.{Ahead}
 use Rattle.take.specs.Ahead.{AheadIs, FirstLive}
 
@@ -71,7 +71,7 @@ passing_start h {p} =
       position = omega (arith, w.key);
       count = sym w.none_above;
       room = omega (arith, v.ranges.cells_least, free_length t v, ap length w.on_way.split, length-append w.front w.later);
-      path_in = record { formed = f; below = λ d l. way-within v here d };
+      path_in = record { formed = f; below = λ d l. way_within v here d };
     })
     h
 
@@ -80,9 +80,9 @@ module _ {ws : List ℕ} {s : Settings} (h : Listed ws s) {p : Path} {passed : �
   abbrev t : State
   t = read ws
 
-  pub passing-end : r.cell ≡ 0 → FirstLive ws s (record { cell = 0; passed = passed; path = p })
-  passing-end none =
-      let split = g.on_way.split ∙ ap (λ l. g.front ++ l) (moves-end h n g.later g.on_way none) in
+  pub passing_end : r.cell ≡ 0 → FirstLive ws s (record { cell = 0; passed = passed; path = p })
+  passing_end none =
+      let split = g.on_way.split ∙ ap (λ l. g.front ++ l) (moves_end h n g.later g.on_way none) in
       let all : t.row ≡ g.front = split ∙ append-nil g.front in
       record {
         found =
@@ -94,13 +94,13 @@ module _ {ws : List ℕ} {s : Settings} (h : Listed ws s) {p : Path} {passed : �
 
   module _ (some : r.cell ≡ 0 → ⊥) {mark : ℕ} (is : mark ≡ mark_at ws r.cell) where
     on : MovesOn t ws g.front g.later r
-    on = moves-on h n g.later g.on_way some
+    on = moves_on h n g.later g.on_way some
 
     above : position_key t < on.node.key
     above = omega (arith, g.position, on.to.above)
 
-    pub passing-here : mark ≡ 1 → FirstLive ws s (record { cell = r.cell; passed = passed + 1; path = r.path })
-    passing-here one =
+    pub passing_here : mark ≡ 1 → FirstLive ws s (record { cell = r.cell; passed = passed + 1; path = r.path })
+    passing_here one =
         let x = on.node in
         let live = mark_one x.live (sym on.to.mark ∙ sym is ∙ one) in
         let split = g.on_way.split ∙ ap (λ l. g.front ++ l) on.next in
@@ -118,8 +118,8 @@ module _ {ws : List ℕ} {s : Settings} (h : Listed ws s) {p : Path} {passed : �
           formed = n.path_in.formed;
         }
 
-    pub passing-past : (mark ≡ 1 → ⊥) → Passing t s r.path (passed + 1)
-    passing-past other =
+    pub passing_past : (mark ≡ 1 → ⊥) → Passing t s r.path (passed + 1)
+    passing_past other =
         let y = on.node in
         record {
           front = g.front ++ (y ∷ []);
@@ -138,25 +138,25 @@ node_stored : (D : ℕ) (ws : List ℕ) (x value mark : ℕ) → store D (store 
 node_stored D ws x value mark = let next : word_index D x 2 ≡ suc (word_index D x 1) = omega arith in rw next refl
 
 module _ (t : State) (v : Sound t) (a : Ahead) {r : Answer} where
-  none-meets :
+  none_meets :
       (live : List Node) → from_live t.row ≡ live → AheadIs t a live → a.cell ≡ 0 → r ≡ answer 7 0 0 a.passed →
       Meets (take_out (picture t)) r (picture t)
-  none-meets [] q f none e = rw (take_outcome_none t v q) (record { answered = e ∙ ap (λ n. answer 7 0 0 n) f.passed; left = refl })
-  none-meets (x ∷ later) q f none e =
+  none_meets [] q f none e = rw (take_outcome_none t v q) (record { answered = e ∙ ap (λ n. answer 7 0 0 n) f.passed; left = refl })
+  none_meets (x ∷ later) q f none e =
       absurd (omega (arith, f.cell, (cell_alone t v (dead_front t.row) x later (live_split t.row x later q)).standing))
 
-  taken-meets :
+  taken_meets :
       (live : List Node) → from_live t.row ≡ live → AheadIs t a live →
       {key value : ℕ} {after : List ℕ} → (a.cell ≡ 0 → ⊥) → key ≡ key_at (picture t) a.cell → value ≡ value_at (picture t) a.cell →
       after
       ≡ write_path (store t.settings.dimensions (store t.settings.dimensions (picture t) a.cell 1 0) a.cell 2 2) (path_of a.path) →
       r ≡ answer 0 key value a.passed → Meets (take_out (picture t)) r after
-  taken-meets [] q f some is_key is-value left e = absurd (some f.cell)
-  taken-meets (x ∷ later) q f some is_key is-value left e =
+  taken_meets [] q f some is_key is-value left e = absurd (some f.cell)
+  taken_meets (x ∷ later) q f some is_key is-value left e =
       let D = t.settings.dimensions in
-      let there = all_at (HasPlace t) (dead_front t.row) x later (subst (All (HasPlace t)) (live_split t.row x later q) (row-placed v)) in
-      let key_of = is_key ∙ ap (key_at (picture t)) f.cell ∙ place-key v there.placed ∙ ap (λ y. y.key) there.node in
-      let value_of_lem = is-value ∙ ap (value_at (picture t)) f.cell ∙ place-value v there.placed ∙ ap (λ y. y.value) there.node in
+      let there = all_at (HasPlace t) (dead_front t.row) x later (subst (All (HasPlace t)) (live_split t.row x later q) (row_placed v)) in
+      let key_of = is_key ∙ ap (key_at (picture t)) f.cell ∙ place_key v there.placed ∙ ap (λ y. y.key) there.node in
+      let value_of_lem = is-value ∙ ap (value_at (picture t)) f.cell ∙ place_value v there.placed ∙ ap (λ y. y.value) there.node in
       rw (take_outcome_first t v x later q)
       (record {
         answered = e ∙ ap₂ (λ k w. answer 0 k w a.passed) key_of value_of_lem ∙ ap (λ n. answer 0 x.key x.value n) f.passed;
@@ -164,14 +164,14 @@ module _ (t : State) (v : Sound t) (a : Ahead) {r : Answer} where
             left
             ∙ ap₂ (λ c p. write_path (store D (store D (picture t) c 1 0) c 2 2) p) f.cell (f.path ∙ sym (taken_path t x later v q))
             ∙ ap (λ l. write_path l (path (taken t x))) (node_stored D (picture t) x.cell 0 2)
-            ∙ sym (taken_words t x later v q);
+            ∙ sym (taken_words_lem t x later v q);
       })
 
 module _ {ws : List ℕ} {s : Settings} (h : Listed ws s) {a : Ahead} (f : FirstLive ws s a) {r : Answer} where
-  pub take-none-meets : a.cell ≡ 0 → r ≡ answer 7 0 0 a.passed → Meets (take_out ws) r ws
-  take-none-meets =
+  pub take_none_meets : a.cell ≡ 0 → r ≡ answer 7 0 0 a.passed → Meets (take_out ws) r ws
+  take_none_meets =
       on_listed (λ t ws s. AheadIs t a (from_live t.row) → a.cell ≡ 0 → r ≡ answer 7 0 0 a.passed → Meets (take_out ws) r ws)
-      (λ t v g. none-meets t v a (from_live t.row) refl g) h f.found
+      (λ t v g. none_meets t v a (from_live t.row) refl g) h f.found
 
   pub take_meets :
       {key value : ℕ} {one two after : List ℕ} → (a.cell ≡ 0 → ⊥) → key ≡ key_at ws a.cell → value ≡ value_at ws a.cell →
@@ -184,4 +184,4 @@ module _ {ws : List ℕ} {s : Settings} (h : Listed ws s) {a : Ahead} (f : First
       (λ t ws s.
       AheadIs t a (from_live t.row) → key ≡ key_at ws a.cell → value ≡ value_at ws a.cell →
       after ≡ write_path (store s.dimensions (store s.dimensions ws a.cell 1 0) a.cell 2 2) (path_of a.path) → Meets (take_out ws) r after)
-      (λ t v g k w l. taken-meets t v a (from_live t.row) refl g some k w l e) h f.found is_key is-value written
+      (λ t v g k w l. taken_meets t v a (from_live t.row) refl g some k w l e) h f.found is_key is-value written

@@ -1,4 +1,6 @@
 // Take: from the position's path onward, past dead cells, to the least live key. No link changes.
+#![tactic(auto)]
+
 ghost use Rattle.answers.specs.Refusals.{Meets};
 ghost use Rattle.meaning.specs.Operations.{take_out};
 ghost use Rattle.meaning.specs.Layer.Listed.{Listed};
@@ -9,7 +11,7 @@ use paths::Path;
 use settings::Settings;
 
 // What stands after the position: the first live cell, 0 if there is none, its path, and how many cells were passed up to it.
-#[derive(Drop)]
+#[derive(Clone, Copy)]
 pub struct Ahead {
     pub cell: u32,
     pub passed: u32,

@@ -85,8 +85,8 @@ parts_hand parts = parts_join line_handing (line []) parts ∙ input_hands (flat
 module _
     {before after : List ℕ} {feed : Feed} {byte : ℕ} {r : Fed} (step : Stepped before after feed byte r) (begun : Handed)
     (holds : Holds before feed begun) where
-  pub step-holds : Holds after r.feed (begun_after begun byte)
-  step-holds = record { ready = step.ready; is = step.begun ∙ ap (λ (h : Handed). begun_after h byte) holds.is }
+  pub step_holds : Holds after r.feed (begun_after begun byte)
+  step_holds = record { ready = step.ready; is = step.begun ∙ ap (λ (h : Handed). begun_after h byte) holds.is }
 
   pub step_tells : told_in after r.told ≡ handed_by begun byte
   step_tells = step.told ∙ ap (λ (h : Handed). handed_by h byte) holds.is

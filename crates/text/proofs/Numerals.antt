@@ -51,8 +51,8 @@ module _ {line : List ℕ} {at r : ℕ} (end : FieldEnd line at r) where
   none_before : (k : ℕ) → k < r - at → get_or (drop at line) k 0 ≡ space → ⊥
   none_before k h e = end.before (at + k) (omega arith) (omega arith) (sym (get_or-drop at line k 0) ∙ e)
 
-  pub last-field : r ≡ length line → fields_of (drop at line) ≡ take (r - at) (drop at line) ∷ []
-  last-field e =
+  pub last_field : r ≡ length line → fields_of (drop at line) ≡ take (r - at) (drop at line) ∷ []
+  last_field e =
       let long = length-drop at line in
       rw (take_all (r - at) (drop at line) (omega arith))
       (whole (drop at line) (λ k h. none_before k (omega arith)))
@@ -98,25 +98,25 @@ pub within_digits : (byte : ℕ) → 48 ≤ byte → byte ≤ 57 → is_digit by
 within_digits byte low high = rw (le-leb 48 byte low, le-leb byte 57 high) refl
 
 module _ (most byte : ℕ) where
-  pub first-none : is_digit byte ≡ false → NoNumber ≡ digit_on most NoDigit byte
+  pub first_none : is_digit byte ≡ false → NoNumber ≡ digit_on most NoDigit byte
   unfolding digit_on
-  first-none e = rw e refl
+  first_none e = rw e refl
 
   pub first_is : is_digit byte ≡ true → up_to most (byte - 48) ≡ digit_on most NoDigit byte
   unfolding digit_on
   first_is e = rw e refl
 
-  pub zero-ends : (n : ℕ) → n ≡ 0 → NoNumber ≡ digit_on most (Value n) byte
+  pub zero_ends : (n : ℕ) → n ≡ 0 → NoNumber ≡ digit_on most (Value n) byte
   unfolding digit_on
-  zero-ends n e = rw e refl
+  zero_ends n e = rw e refl
 
-  pub further-none : (n : ℕ) → is_digit byte ≡ false → NoNumber ≡ digit_on most (Value n) byte
+  pub further_none : (n : ℕ) → is_digit byte ≡ false → NoNumber ≡ digit_on most (Value n) byte
   unfolding digit_on
-  further-none n e = rw (e, and-false (ltb 0 n)) refl
+  further_none n e = rw (e, and-false (ltb 0 n)) refl
 
-  pub further-is : (n : ℕ) → 0 < n → is_digit byte ≡ true → up_to most (n * 10 + (byte - 48)) ≡ digit_on most (Value n) byte
+  pub further_is : (n : ℕ) → 0 < n → is_digit byte ≡ true → up_to most (n * 10 + (byte - 48)) ≡ digit_on most (Value n) byte
   unfolding digit_on
-  further-is n some e = rw (lt-ltb 0 n some, e) refl
+  further_is n some e = rw (lt-ltb 0 n some, e) refl
 
 -- what digits make of a number n before them
 unfoldable digits_from : ℕ → ℕ → List ℕ → Begun
@@ -149,22 +149,22 @@ unfolding after_all digits_from all_digits decimal_from
 digits_end most n below = rw (le-leb n most below) refl
 
 module _ (most n byte : ℕ) (bytes : List ℕ) where
-  digit-next : is_digit byte ≡ true → digits_from most n (byte ∷ bytes) ≡ digits_from most (n * 10 + (byte - 48)) bytes
+  digit_next : is_digit byte ≡ true → digits_from most n (byte ∷ bytes) ≡ digits_from most (n * 10 + (byte - 48)) bytes
   unfolding digits_from all_digits decimal_from
-  digit-next e = rw e refl
+  digit_next e = rw e refl
 
   no_digit : is_digit byte ≡ false → digits_from most n (byte ∷ bytes) ≡ NoNumber
   unfolding digits_from all_digits
   no_digit e = rw e refl
 
-  digit-further :
+  digit_further :
       0 < n → is_digit byte ≡ true → digits_on most (Value n) (byte ∷ bytes) ≡ digits_on most (up_to most (n * 10 + (byte - 48))) bytes
   unfolding after_all digit_on
-  digit-further some e = rw (lt-ltb 0 n some, e) refl
+  digit_further some e = rw (lt-ltb 0 n some, e) refl
 
-  no-further : is_digit byte ≡ false → digits_on most (Value n) (byte ∷ bytes) ≡ NoNumber
+  no_further : is_digit byte ≡ false → digits_on most (Value n) (byte ∷ bytes) ≡ NoNumber
   unfolding after_all digit_on
-  no-further e = rw (e, and-false (ltb 0 n)) (digits_none most bytes)
+  no_further e = rw (e, and-false (ltb 0 n)) (digits_none most bytes)
 
 -- digits after a number above 0
 digits_on_lem : (most n : ℕ) (bytes : List ℕ) → 0 < n → n ≤ most → digits_on most (Value n) bytes ≡ digits_from most n bytes
@@ -176,42 +176,42 @@ digits_on_lem most n (byte ∷ bytes) some below = at (is_digit byte) refl (digi
         (n * 10 + (byte - 48) ≤ most → digits_on most (Value (n * 10 + (byte - 48))) bytes ≡ digits_from most (n * 10 + (byte - 48)) bytes) →
         digits_on most (Value n) (byte ∷ bytes) ≡ digits_from most n (byte ∷ bytes)
     at true e rest =
-        digit-further most n byte bytes some e ∙ (digits_up most (n * 10 + (byte - 48)) bytes rest ∙ sym (digit-next most n byte bytes e))
-    at false e rest = no-further most n byte bytes e ∙ sym (no_digit most n byte bytes e)
+        digit_further most n byte bytes some e ∙ (digits_up most (n * 10 + (byte - 48)) bytes rest ∙ sym (digit_next most n byte bytes e))
+    at false e rest = no_further most n byte bytes e ∙ sym (no_digit most n byte bytes e)
 
 -- Numbers, as fields
 
 -- A field: an empty one, a leading zero, or digits without one.
 module _ (least most : ℕ) where
-  number-empty : ended_at least (digits_on most NoDigit []) ≡ number_of least most []
+  number_empty : ended_at least (digits_on most NoDigit []) ≡ number_of least most []
   unfolding after_all number_of is_number is_decimal
-  number-empty = refl
+  number_empty = refl
 
-  number-plain :
+  number_plain :
       (field : List ℕ) → 0 < length field → (eqb (length field) 1 || ltb 48 (get_or field 0 0)) ≡ true →
       ended_at least (digits_from most 0 field) ≡ number_of least most field
   unfolding digits_from number_of is_number is_decimal
-  number-plain field some plain =
-      rw (lt-ltb 0 (length field) some, plain) (at-tests (all_digits field) (leb (decimal_from 0 field) most))
+  number_plain field some plain =
+      rw (lt-ltb 0 (length field) some, plain) (at_tests (all_digits field) (leb (decimal_from 0 field) most))
     where
       n : ℕ
       n = decimal_from 0 field
 
-      at-tests :
+      at_tests :
           (digits low : Bool) →
           ended_at least (cond (digits && low) (Value n) NoNumber) ≡ cond (digits && true && leb least n && low) (numeral.Value n) Unreadable
-      at-tests true true = rw (and-true (leb least n)) refl
-      at-tests true false = rw (and-false (leb least n)) refl
-      at-tests false low = refl
+      at_tests true true = rw (and-true (leb least n)) refl
+      at_tests true false = rw (and-false (leb least n)) refl
+      at_tests false low = refl
 
   module _ (byte : ℕ) (bytes : List ℕ) where
-    first-digit : is_digit byte ≡ true → digits_on most NoDigit (byte ∷ bytes) ≡ digits_on most (up_to most (byte - 48)) bytes
+    first_digit : is_digit byte ≡ true → digits_on most NoDigit (byte ∷ bytes) ≡ digits_on most (up_to most (byte - 48)) bytes
     unfolding after_all digit_on
-    first-digit e = rw e refl
+    first_digit e = rw e refl
 
-    no-first : is_digit byte ≡ false → ended_at least (digits_on most NoDigit (byte ∷ bytes)) ≡ number_of least most (byte ∷ bytes)
+    no_first : is_digit byte ≡ false → ended_at least (digits_on most NoDigit (byte ∷ bytes)) ≡ number_of least most (byte ∷ bytes)
     unfolding after_all digit_on number_of is_number is_decimal all_digits
-    no-first e = rw (e, digits_none most bytes, and-false (ltb 0 (suc (length bytes)))) refl
+    no_first e = rw (e, digits_none most bytes, and-false (ltb 0 (suc (length bytes)))) refl
 
     -- digits without a leading zero
     number_digits :
@@ -221,46 +221,46 @@ module _ (least most : ℕ) where
     number_digits e plain within =
         let value : 0 * 10 + (byte - 48) ≡ byte - 48 = omega arith in
         ap (ended_at least)
-        (first-digit e ∙ (digits_up most (byte - 48) bytes within ∙ sym (digit-next most 0 byte bytes e ∙ rw value refl))) ∙
-        number-plain (byte ∷ bytes) (omega arith) plain
+        (first_digit e ∙ (digits_up most (byte - 48) bytes within ∙ sym (digit_next most 0 byte bytes e ∙ rw value refl))) ∙
+        number_plain (byte ∷ bytes) (omega arith) plain
 
   -- a leading zero
-  zero-leads : (field : List ℕ) → (length field ≡ 1 → ⊥) → get_or field 0 0 ≤ 48 → number_of least most field ≡ Unreadable
+  zero_leads : (field : List ℕ) → (length field ≡ 1 → ⊥) → get_or field 0 0 ≤ 48 → number_of least most field ≡ Unreadable
   unfolding number_of is_number is_decimal
-  zero-leads field several low =
+  zero_leads field several low =
       rw (ne_eqb (length field) 1 several, le-ltb 48 (get_or field 0 0) low, and-false (ltb 0 (length field) && all_digits field)) refl
 
-  number-leading :
+  number_leading :
       (next : ℕ) (bytes : List ℕ) → ended_at least (digits_on most NoDigit (48 ∷ next ∷ bytes)) ≡ number_of least most (48 ∷ next ∷ bytes)
   unfolding after_all digit_on
-  number-leading next bytes =
+  number_leading next bytes =
       rw (le-leb 0 most (omega arith))
-      (ap (ended_at least) (digits_none most bytes) ∙ sym (zero-leads (48 ∷ next ∷ bytes) (λ e. omega arith) (omega arith)))
+      (ap (ended_at least) (digits_none most bytes) ∙ sym (zero_leads (48 ∷ next ∷ bytes) (λ e. omega arith) (omega arith)))
 
-  digit-within : (byte : ℕ) → is_digit byte ≡ true → 48 ≤ byte
-  digit-within byte e = leb-true 48 byte (and_left (leb 48 byte) (leb byte 57) e)
+  digit_within : (byte : ℕ) → is_digit byte ≡ true → 48 ≤ byte
+  digit_within byte e = leb-true 48 byte (and_left (leb 48 byte) (leb byte 57) e)
 
-  pub number-by-digits : (field : List ℕ) → ended_at least (digits_on most NoDigit field) ≡ number_of least most field
-  number-by-digits [] = number-empty
-  number-by-digits (byte ∷ bytes) = at (is_digit byte) refl (ℕ_discrete byte 48) bytes
+  pub number_by_digits : (field : List ℕ) → ended_at least (digits_on most NoDigit field) ≡ number_of least most field
+  number_by_digits [] = number_empty
+  number_by_digits (byte ∷ bytes) = at (is_digit byte) refl (ℕ_discrete byte 48) bytes
     where
       at :
           (t : Bool) → is_digit byte ≡ t → Dec (byte ≡ 48) → (bytes : List ℕ) →
           ended_at least (digits_on most NoDigit (byte ∷ bytes)) ≡ number_of least most (byte ∷ bytes)
-      at false e zero-digit bytes = no-first byte bytes e
+      at false e zero-digit bytes = no_first byte bytes e
       at true e zero-digit [] = number_digits byte [] e refl (digits_end most (byte - 48))
       at true e (yes z) (next ∷ bytes) =
-          subst (λ b. ended_at least (digits_on most NoDigit (b ∷ next ∷ bytes)) ≡ number_of least most (b ∷ next ∷ bytes)) (sym z) (number-leading next bytes)
+          subst (λ b. ended_at least (digits_on most NoDigit (b ∷ next ∷ bytes)) ≡ number_of least most (b ∷ next ∷ bytes)) (sym z) (number_leading next bytes)
       at true e (no z) (next ∷ bytes) =
-          let low = digit-within byte e in
+          let low = digit_within byte e in
           number_digits byte (next ∷ bytes) e (rw (lt-ltb 48 byte (omega arith)) (or-true (eqb (suc (length (next ∷ bytes))) 1)))
           (digits_on_lem most (byte - 48) (next ∷ bytes) (omega arith))
 
 module _ (least most : ℕ) (field : List ℕ) where
   -- a value is the field's number
-  pub number-value : {n : ℕ} → number_of least most field ≡ numeral.Value n → (is_number least most field ≡ true) × (n ≡ decimal_from 0 field)
+  pub number_value : {n : ℕ} → number_of least most field ≡ numeral.Value n → (is_number least most field ≡ true) × (n ≡ decimal_from 0 field)
   unfolding number_of
-  number-value {n} e = at_test (is_number least most field) refl e
+  number_value {n} e = at_test (is_number least most field) refl e
     where
       at_test :
           (t : Bool) → is_number least most field ≡ t → cond t (numeral.Value (decimal_from 0 field)) Unreadable ≡ numeral.Value n →
@@ -269,10 +269,10 @@ module _ (least most : ℕ) (field : List ℕ) where
       at_test false is v = let z : ◌≡◌ {A = ℕ} 0 1 = cc in absurd (omega arith)
 
   -- and in the range asked for
-  pub number-within : {n : ℕ} → number_of least most field ≡ numeral.Value n → (least ≤ n) × (n ≤ most)
+  pub number_within : {n : ℕ} → number_of least most field ≡ numeral.Value n → (least ≤ n) × (n ≤ most)
   unfolding is_number
-  number-within e =
-      let v = number-value e in
+  number_within e =
+      let v = number_value e in
       let d = decimal_from 0 field in
       let low = leb-true least d (and_right (is_decimal field) (leb least d) (and_left _ (leb d most) v.0)) in
       let high = leb-true d most (and_right (is_decimal field && leb least d) (leb d most) v.0) in

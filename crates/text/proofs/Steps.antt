@@ -22,9 +22,9 @@ module _ (buffer : List ℕ) (long : length buffer ≡ most_bytes) (fill byte : 
       let a = length-append (take fill buffer) (byte ∷ []) in
       omega arith
 
-  pub kept-room : fill < most_bytes → Kept buffer (set buffer fill byte) fill byte (record { fill = fill + 1; over = false })
+  pub kept_room : fill < most_bytes → Kept buffer (set buffer fill byte) fill byte (record { fill = fill + 1; over = false })
   unfolding begun_in
-  kept-room h =
+  kept_room h =
       let n = length-longer (omega arith) in
       record {
         begun =
@@ -37,9 +37,9 @@ module _ (buffer : List ℕ) (long : length buffer ≡ most_bytes) (fill byte : 
         ready = record { long = length-set buffer fill byte ∙ long; fits = omega arith };
       }
 
-  pub kept-over : fill ≡ most_bytes → Kept buffer buffer fill byte (record { fill = fill; over = true })
+  pub kept_over : fill ≡ most_bytes → Kept buffer buffer fill byte (record { fill = fill; over = true })
   unfolding begun_in
-  kept-over h =
+  kept_over h =
       let n = length-longer (omega arith) in
       record {
         begun = rw (lt-leb (length (take fill buffer ++ (byte ∷ []))) most_bytes (omega arith)) refl;
@@ -48,16 +48,16 @@ module _ (buffer : List ℕ) (long : length buffer ≡ most_bytes) (fill byte : 
 
 -- A byte of the input: a line feed, one more of a line that is too long already, or one that is kept.
 module _ {buffer : List ℕ} {feed : Feed} (ready : Ready buffer feed) where
-  ended-fits : (n : ℕ) → ended_of feed ≡ Line n → n ≤ most_bytes
-  ended-fits n e = at_test feed.over e
+  ended_fits : (n : ℕ) → ended_of feed ≡ Line n → n ≤ most_bytes
+  ended_fits n e = at_test feed.over e
     where
       at_test : (t : Bool) → cond t LongLine (Line feed.fill) ≡ Line n → n ≤ most_bytes
       at_test true d = let z : ◌≡◌ {A = ℕ} 0 1 = cc in omega arith
       at_test false d = let same : feed.fill ≡ n = cc in let fits = ready.fits in omega arith
 
-  ended-told : told_in buffer (ended_of feed) ≡ begun_in buffer feed ∷ []
+  ended_told : told_in buffer (ended_of feed) ≡ begun_in buffer feed ∷ []
   unfolding told_in begun_in
-  ended-told = at_test feed.over
+  ended_told = at_test feed.over
     where
       at_test :
           (t : Bool) →
@@ -65,20 +65,20 @@ module _ {buffer : List ℕ} {feed : Feed} (ready : Ready buffer feed) where
       at_test true = refl
       at_test false = refl
 
-  pub ended-step : {byte : ℕ} → byte ≡ line_feed → Stepped buffer buffer feed byte (record { feed = started; told = ended_of feed })
+  pub ended_step : {byte : ℕ} → byte ≡ line_feed → Stepped buffer buffer feed byte (record { feed = started; told = ended_of feed })
   unfolding begun_after handed_by begun_in
-  ended-step {byte} e =
+  ended_step {byte} e =
       record {
         begun = rw (eq-eqb byte line_feed e) refl;
-        told = rw (eq-eqb byte line_feed e) ended-told;
+        told = rw (eq-eqb byte line_feed e) ended_told;
         ready = record { long = ready.long; fits = omega arith };
-        line_fits = ended-fits;
+        line_fits = ended_fits;
       }
 
-  pub over-step :
+  pub over_step :
       {byte : ℕ} → (byte ≡ line_feed → ⊥) → feed.over ≡ true → Stepped buffer buffer feed byte (record { feed = feed; told = NoLine })
   unfolding begun_after handed_by begun_in told_in
-  over-step {byte} other over =
+  over_step {byte} other over =
       record {
         begun = rw (ne_eqb byte line_feed other, over) refl;
         told = rw (ne_eqb byte line_feed other) refl;

@@ -9,7 +9,7 @@ pub const MOST_BYTES: usize = 64;
 const LINE_FEED: u8 = 10;
 
 // The line begun: its first `fill` bytes stand in the buffer; or it is over the 64 bytes that a line may have.
-#[derive(Drop)]
+#[derive(Clone, Copy)]
 pub struct Feed {
     pub fill: usize,
     pub over: bool,
@@ -17,7 +17,7 @@ pub struct Feed {
 
 // What a byte, or the end of the input, ends: no line; a line of so many bytes, which stand in the buffer until the next byte; or a line
 // of more than 64 bytes, which is told of once and here alone.
-#[derive(Drop)]
+#[derive(Clone, Copy)]
 pub enum Told {
     NoLine,
     Line(usize),
@@ -25,7 +25,7 @@ pub enum Told {
 }
 
 // What one byte leads to: the feed for the next byte, and what it ends.
-#[derive(Drop)]
+#[derive(Clone, Copy)]
 pub struct Fed {
     pub feed: Feed,
     pub told: Told,

@@ -10,7 +10,7 @@ const DIGIT_0: u8 = 48;
 const DIGIT_9: u8 = 57;
 
 // What a field says as a decimal number: its value, or that it is none in the range asked for.
-#[derive(Drop)]
+#[derive(Clone, Copy)]
 pub enum Numeral {
     Value(u32),
     Unreadable,
@@ -18,7 +18,7 @@ pub enum Numeral {
 
 // What is known of a number while its digits come in: none yet, the value of those so far, or that no number up to the most asked for begins
 // with them.
-#[derive(Drop)]
+#[derive(Clone, Copy)]
 pub enum Begun {
     NoDigit,
     Value(u32),

@@ -1,4 +1,6 @@
 // The lines of a trace of calls: their kinds, and a line read as one of them. The format is at the head of the program replay.
+#![tactic(auto)]
+
 ghost use Rattle.std.specs.Prelude.{◌≤◌, length};
 ghost use Rattle.trace.specs.Lines.{Fits};
 
@@ -16,7 +18,7 @@ const MOST_DIGITS: usize = 60;
 const MOST_NUMBERS: usize = 4;
 
 // What a line says.
-#[derive(Drop)]
+#[derive(Clone, Copy)]
 pub enum Kind {
     // U: the length of a new buffer, and the set up on it
     Fresh(u32, Call),
@@ -39,7 +41,7 @@ pub enum Kind {
 
 // The numbers of a line, the fields after its first: `count` of them, first in `values`. They are not readable where a field is no number,
 // or where there are more than 4.
-#[derive(Drop)]
+#[derive(Clone, Copy)]
 pub struct Numbers {
     pub readable: bool,
     pub count: usize,

@@ -1,4 +1,6 @@
 // The call that a line of a trace makes on what is held.
+#![tactic(auto)]
+
 ghost use Rattle.answers.specs.Refusals.{Meets};
 ghost use Rattle.meaning.specs.Operations.{operation_out};
 ghost use Rattle.calls.specs.Records.{lent_of};
@@ -10,7 +12,7 @@ use calls::Call;
 use trace::Kind;
 
 // What a line is answered: four numbers, or none where it makes no call.
-#[derive(Drop)]
+#[derive(Clone, Copy)]
 pub enum Reply {
     Four(Answer),
     NoCall,

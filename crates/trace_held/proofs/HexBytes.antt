@@ -46,9 +46,9 @@ module _ (array digits : List ℕ) (filled : ℕ) {all : List ℕ} where
       is ∙ rw (hex_from digits i h, ← e, next, take-suc-set array (filled + i) byte room) (sym more)
 
   -- and in the end they are in the array.
-  pub added-all :
+  pub added_all :
       (i : ℕ) → all ≡ take (filled + i) array ++ hex_bytes (drop (2 * i) digits) → length digits ≤ 2 * i + 1 → take (filled + i) array ≡ all
-  added-all i is h =
+  added_all i is h =
       let none = hex_none (drop (2 * i) digits) (simp length-drop (omega arith)) in
       sym (is ∙ ap (λ more. take (filled + i) array ++ more) none ∙ append-nil (take (filled + i) array))
 
@@ -58,14 +58,14 @@ module _ {array : List ℕ} {filled : ℕ} (digits : List ℕ) (held : Held most
   sum = omega (arith, length-take-le filled array (omega (arith, held.room, held.within)), hex_length digits)
 
   -- bytes that fit are added
-  pub added-fit : filled + length digits / 2 ≤ most_held → added_to (take filled array) (hex_bytes digits) ≡ take filled array ++ hex_bytes digits
-  added-fit h = rw (sum, le-leb (filled + length digits / 2) most_held h) refl
+  pub added_fit : filled + length digits / 2 ≤ most_held → added_to (take filled array) (hex_bytes digits) ≡ take filled array ++ hex_bytes digits
+  added_fit h = rw (sum, le-leb (filled + length digits / 2) most_held h) refl
 
   -- too many are not
-  pub added-not : most_held < filled + length digits / 2 → added_to (take filled array) (hex_bytes digits) ≡ take filled array
-  added-not h = rw (sum, lt-leb (filled + length digits / 2) most_held h) refl
+  pub added_not : most_held < filled + length digits / 2 → added_to (take filled array) (hex_bytes digits) ≡ take filled array
+  added_not h = rw (sum, lt-leb (filled + length digits / 2) most_held h) refl
 
   -- less than a pair of digits adds nothing
   pub added_none : length digits ≤ 1 → added_to (take filled array) (hex_bytes digits) ≡ take filled array
   added_none h =
-      added-fit (omega (arith, held.within)) ∙ ap (λ more. take filled array ++ more) (hex_none digits h) ∙ append-nil (take filled array)
+      added_fit (omega (arith, held.within)) ∙ ap (λ more. take filled array ++ more) (hex_none digits h) ∙ append-nil (take filled array)

@@ -22,8 +22,8 @@ use Rattle.trace_step.specs.Printed.{head_text, tail_text, tells, left_by, line_
 module _
     (kind : Kind) (line : List ℕ) (before : Lent) {words bytes : List ℕ} {n m last : ℕ} (holds : Holds most_words words n (buffer_after kind before.words))
     (holds-bytes : Holds most_held bytes m (bytes_after kind line before.bytes)) (is_last : last ≡ last_after kind before.last) where
-  altered-is : lent_of (take (n - 0) words) (take (m - 0) bytes) last ≡ altered_by kind line before
-  altered-is =
+  altered_is : lent_of (take (n - 0) words) (take (m - 0) bytes) last ≡ altered_by kind line before
+  altered_is =
       let first = ap (λ (k : ℕ). take k words) (sub-zero n) ∙ holds.is in
       let front = ap (λ (k : ℕ). take k bytes) (sub-zero m) ∙ holds-bytes.is in
       λ i. lent_of (first i) (front i) (is_last i)
@@ -35,7 +35,7 @@ module _
       (first-bytes : take m after-bytes ≡ called-bytes) where
     left_is : lent_of called called-bytes now-last ≡ left_by kind line before
     unfolding left_by
-    left_is = made.left ∙ ap (after_call kind) altered-is
+    left_is = made.left ∙ ap (after_call kind) altered_is
 
     told_is : lent_of (take (n - 0) after) (take (m - 0) after-bytes) now-last ≡ left_by kind line before
     told_is =
@@ -43,12 +43,12 @@ module _
         let front_Bytes = ap (λ (k : ℕ). take k after-bytes) (sub-zero m) ∙ first-bytes in
         ap₂ (λ (ws bs : List ℕ). lent_of ws bs now-last) front front_Bytes ∙ left_is
 
-    pub line-answered :
+    pub line_answered :
         {room middle out : List ℕ} {at end : ℕ} {told : Bool} → told ≡ tells kind → Put room 0 (head_text reply) middle at →
         Put middle at (tail_text told (lent_of (take (n - 0) after) (take (m - 0) after-bytes) now-last) line_feed) out end → end ≤ length room →
         LineAnswered kind line before after after-bytes now-last out (record { used = n; filled = m; text = end })
     unfolding line_text
-    line-answered tell head tail fits =
+    line_answered tell head tail fits =
         let put = put_start (put_more head tail) fits in
         record {
           words_are = record { held = held; is = first ∙ ap (λ (l : Lent). l.words) left_is };
@@ -56,7 +56,7 @@ module _
           last_is = ap (λ (l : Lent). l.last) left_is;
           is =
               put.0 ∙
-              ap₂ (λ (xs ys : List ℕ). xs ++ ys) (ap head_text (made.reply ∙ ap (reply_of kind) altered-is)) (ap₂ (λ (t : Bool) (l : Lent). tail_text t l line_feed) tell told_is);
+              ap₂ (λ (xs ys : List ℕ). xs ++ ys) (ap head_text (made.reply ∙ ap (reply_of kind) altered_is)) (ap₂ (λ (t : Bool) (l : Lent). tail_text t l line_feed) tell told_is);
           within = put.1;
         }
 

@@ -1,4 +1,6 @@
 // What a line of a trace does to what is held, what it is answered, and what is printed for it.
+#![tactic(auto)]
+
 ghost use Rattle.std.specs.Prelude.{◌≡◌, ◌≤◌, length};
 ghost use Rattle.text.specs.Feeding.{LineIn};
 ghost use Rattle.calls.specs.Records.{lent_of};
@@ -15,14 +17,14 @@ pub mod put; // put.rt: the line printed
 const LINE_BYTES: usize = report::ANSWER_BYTES + 3 * report::FIELD_BYTES;
 
 // How many of the words and of the bytes are held.
-#[derive(Drop)]
+#[derive(Clone, Copy)]
 pub struct Sizes {
     pub used: usize,
     pub filled: usize,
 }
 
 // After a line: what is held, and how many bytes are printed.
-#[derive(Drop)]
+#[derive(Clone, Copy)]
 struct Answered {
     pub used: usize,
     pub filled: usize,

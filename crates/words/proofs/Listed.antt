@@ -15,7 +15,7 @@ use Rattle.meaning.specs.Layer.Listed.{Listed}
 use Rattle.meaning.proofs.Pictures.State.{Sound, base_of_lem, base_positive, base_above}
 use Rattle.meaning.proofs.Pictures.Picture.{picture_length}
 use Rattle.meaning.proofs.Pictures.ReadBack.{list_is_picture, list_sound}
-use Rattle.meaning.proofs.Cells.CellsWithin.{owed-within, linkRead-within}
+use Rattle.meaning.proofs.Cells.CellsWithin.{owed_within, link_read-within}
 use Rattle.words.specs.Shaped.{Shaped}
 
 pub picture_shaped : (t : State) → Sound t → Shaped (picture t) t.settings
@@ -68,7 +68,7 @@ listed_fits h most = omega (arith, most, on_listed (λ t ws s. s.largest < s.bas
 
 -- the cell that is owed from, and the one to which a link leads as it is read
 pub listed_owed : {ws : List ℕ} {s : Settings} → Listed ws s → (x : ℕ) → x < s.cells → owed_at ws x < s.cells
-listed_owed = on_listed (λ t ws s. (x : ℕ) → x < s.cells → owed_at ws x < s.cells) owed-within
+listed_owed = on_listed (λ t ws s. (x : ℕ) → x < s.cells → owed_at ws x < s.cells) owed_within
 
 pub listed_link : {ws : List ℕ} {s : Settings} → Listed ws s → (x d : ℕ) → x < s.cells → d < s.dimensions → link_read ws x d < s.cells
-listed_link = on_listed (λ t ws s. (x d : ℕ) → x < s.cells → d < s.dimensions → link_read ws x d < s.cells) linkRead-within
+listed_link = on_listed (λ t ws s. (x d : ℕ) → x < s.cells → d < s.dimensions → link_read ws x d < s.cells) link_read-within

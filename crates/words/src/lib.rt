@@ -1,5 +1,7 @@
 // The words of a list, used in place: reading and writing a word of a cell, a cell's links read through what is owed. What takes a list asks
 // that its words have the shape of one (Shaped), and what writes a cell's word hands that on.
+#![tactic(auto)]
+
 ghost use Rattle.std.specs.Prelude.{◌≡◌, ◌<◌, ◌≤◌};
 ghost use Rattle.settings.specs.Numbers.{most_dimensions, most_cells};
 ghost use Rattle.meaning.specs.Words.{word_index, word_at, position_at, owed_at, link_field, link_at};

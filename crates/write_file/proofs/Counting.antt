@@ -15,7 +15,7 @@ use Rattle.meaning.specs.Reading.{read}
 use Rattle.meaning.specs.Words.{mark_at, live_mark}
 use Rattle.calls.specs.Pairs.{pair, live_pairs}
 use Rattle.meaning.specs.Layer.Listed.{Listed}
-use Rattle.meaning.proofs.Cells.Folded.{row_from, no_cells, row_from_lem, put-folded, live-folded}
+use Rattle.meaning.proofs.Cells.Folded.{row_from, no_cells, row_from_lem, put_folded, live_folded}
 use Rattle.words.proofs.Listed.{listed_cells}
 
 -- the live ones of some nodes
@@ -40,7 +40,7 @@ first_live_count x row = at x.live
     at false = refl
 
 put_live_count : (x : Node) (row : List Node) → length (live_ones (put x row)) ≡ more x.live (length (live_ones row))
-put_live_count = put-folded (λ row. length (live_ones row)) (λ x n. more x.live n) first_live_count (λ x y n. more_twice x.live y.live n)
+put_live_count = put_folded (λ row. length (live_ones row)) (λ x n. more x.live n) first_live_count (λ x y n. more_twice x.live y.live n)
 
 -- how many of n cells from x on are live
 abbrev pub lives_from : List ℕ → ℕ → ℕ → ℕ
@@ -48,7 +48,7 @@ lives_from ws x n = length (live_ones (row_from ws x n))
 
 -- one cell more: one more if its mark is 1
 one_more : (ws : List ℕ) (x n : ℕ) → lives_from ws x (suc n) ≡ more (eqb (mark_at ws x) live_mark) (lives_from ws (suc x) n)
-one_more = live-folded (λ row. length (live_ones row)) (λ y n. suc n) put_live_count
+one_more = live_folded (λ row. length (live_ones row)) (λ y n. suc n) put_live_count
 
 -- n cells before x are live, and with those from x on they are all that are
 pub record Counted (ws : List ℕ) (s : Settings) (n x : ℕ) : Type 0 where
@@ -65,20 +65,20 @@ counted_start {ws} h =
     }
 
 module _ {ws : List ℕ} {s : Settings} {n x : ℕ} (c : Counted ws s n x) (inside : x < s.cells) {mark : ℕ} (is : mark ≡ mark_at ws x) where
-  rest-count : lives_from ws x (s.cells - x) ≡ more (eqb (mark_at ws x) live_mark) (lives_from ws (x + 1) (s.cells - (x + 1)))
-  rest-count =
+  rest_count : lives_from ws x (s.cells - x) ≡ more (eqb (mark_at ws x) live_mark) (lives_from ws (x + 1) (s.cells - (x + 1)))
+  rest_count =
       let k : s.cells - x ≡ suc (s.cells - (x + 1)) = omega arith in
       let j : suc x ≡ x + 1 = omega arith in
       ap (lives_from ws x) k ∙ one_more ws x (s.cells - (x + 1)) ∙ ap (λ y. more (eqb (mark_at ws x) live_mark) (lives_from ws y (s.cells - (x + 1)))) j
 
-  pub counted-live : mark ≡ 1 → Counted ws s (n + 1) (x + 1)
-  counted-live one =
-      let e = rest-count ∙ ap (λ b. more b (lives_from ws (x + 1) (s.cells - (x + 1)))) (eq-eqb (mark_at ws x) 1 (sym is ∙ one)) in
+  pub counted_live : mark ≡ 1 → Counted ws s (n + 1) (x + 1)
+  counted_live one =
+      let e = rest_count ∙ ap (λ b. more b (lives_from ws (x + 1) (s.cells - (x + 1)))) (eq-eqb (mark_at ws x) 1 (sym is ∙ one)) in
       record { fewer = omega (arith, c.fewer); most = omega arith; all = omega (arith, c.all, e) }
 
-  pub counted-other : (mark ≡ 1 → ⊥) → Counted ws s n (x + 1)
-  counted-other other =
-      let e = rest-count ∙ ap (λ b. more b (lives_from ws (x + 1) (s.cells - (x + 1)))) (ne_eqb (mark_at ws x) 1 (λ q. other (is ∙ q))) in
+  pub counted_other : (mark ≡ 1 → ⊥) → Counted ws s n (x + 1)
+  counted_other other =
+      let e = rest_count ∙ ap (λ b. more b (lives_from ws (x + 1) (s.cells - (x + 1)))) (ne_eqb (mark_at ws x) 1 (λ q. other (is ∙ q))) in
       record { fewer = omega (arith, c.fewer); most = omega arith; all = omega (arith, c.all, e) }
 
 pub counted_all : {ws : List ℕ} {s : Settings} {n x : ℕ} → Counted ws s n x → s.cells ≤ x → (n ≡ length (live_pairs ws)) × (n < s.cells)

@@ -42,8 +42,8 @@ module _ {ws : List ℕ} {s : Settings} (h : Listed ws s) (file : List ℕ) {n :
   long : length (file_of s (live_pairs ws)) ≡ file_length n
   long = file_length_lem s (live_pairs ws) ∙ ap file_length (sym count)
 
-  pub write-refused : {r : Answer} → length file < file_length n → r ≡ answer 12 0 0 0 → Meets (write_out (file_lent ws file)) r (file_lent ws file)
-  write-refused few e =
+  pub write_refused : {r : Answer} → length file < file_length n → r ≡ answer 12 0 0 0 → Meets (write_out (file_lent ws file)) r (file_lent ws file)
+  write_refused few e =
       rw (outcome_is h file, lt-leb (length (file_of s (live_pairs ws))) (length file) (omega (arith, long))) (record { answered = e; left = refl })
 
   pub write_accepted :

@@ -26,18 +26,18 @@ use Rattle.meaning.proofs.Pictures.State.{Sound}
 use Rattle.meaning.proofs.Pictures.StateCells.{free_length}
 use Rattle.meaning.proofs.Rows.Parent.{all_last}
 use Rattle.meaning.proofs.Rows.Places.{last_from_lem}
-use Rattle.meaning.proofs.Cells.Placed.{Placed, placed-keyOf, head_placed, place-key, place-value, mark_one, mark_other}
-use Rattle.meaning.proofs.BothWays.SentencesShape.{HasPlace, row-placed}
+use Rattle.meaning.proofs.Cells.Placed.{Placed, placed_key_of, head_placed, place_key, place_value, mark_one, mark_other}
+use Rattle.meaning.proofs.BothWays.SentencesShape.{HasPlace, row_placed}
 use Rattle.meaning.proofs.Written.InsertSlot.{placed_occurs}
 use Rattle.meaning.proofs.Pictures.ReadBack.{first_in}
 use Rattle.meaning.proofs.Paths.Path.{path_for-at}
-use Rattle.meaning.proofs.Paths.PathNext.{way-key}
+use Rattle.meaning.proofs.Paths.PathNext.{way_key}
 use Rattle.meaning.proofs.Paths.PathTake.{above_later}
 use Rattle.words.proofs.Listed.{listed_shaped, on_listed}
 use Rattle.paths.specs.declared.Path.{Path}
 use Rattle.paths.specs.declared.Reached.{Reached}
 use Rattle.paths.specs.Paths.{path_of, Formed, PathIn, NextIs}
-use Rattle.paths.proofs.Ways.{head_starts, way_in, MovesOn, moves-on, moves-end}
+use Rattle.paths.proofs.Ways.{head_starts, way_in, MovesOn, moves_on, moves_end}
 use Rattle.write_file.proofs.Counting.{live_ones}
 
 -- The pairs of the live ones of some nodes
@@ -94,7 +94,7 @@ path_ends {t} v {x} {p} here =
     let least = v.ranges.dimensions_least in
     let all : suc (D - 1) ≡ D = omega arith in
     path_for-at b D t.row p.node.key (D - 1) (omega arith)
-    ∙ ap₂ (λ n key. first_with b D key n (head_node ∷ t.row)) all (sym (placed-keyOf here))
+    ∙ ap₂ (λ n key. first_with b D key n (head_node ∷ t.row)) all (sym (placed_key_of here))
     ∙ first_in b D x head_node t.row (omega arith) v.ascends (placed_occurs here)
 
 way_ends :
@@ -102,7 +102,7 @@ way_ends :
     get_or path (t.settings.dimensions - 1) 0 ≡ (last_of front).cell
 way_ends {t} v {path} {front} {later} w =
     let Own : Node → Type 0 = λ y. last_word t y.key ≡ y.cell in
-    let row = all_map (λ y p. subst (λ z. last_word t z.key ≡ y.cell) p.node (path_ends v p.placed)) t.row (row-placed v) in
+    let row = all_map (λ y p. subst (λ z. last_word t z.key ≡ y.cell) p.node (path_ends v p.placed)) t.row (row_placed v) in
     let fronts = all_left Own front later (subst (All Own) w.split row) in
     rw (w.is, last_from_lem front) (all_last Own head_node front (path_ends v (head_placed t)) fronts)
 
@@ -116,7 +116,7 @@ ahead_is :
 ahead_is h p {front} {later} =
     on_listed
     (λ t ws s. PathOf t (path_of p) front later → keys_above (key_at ws (get_or (path_of p) (s.dimensions - 1) 0)) t.row ≡ length later)
-    (λ t v w. rw (way_ends v w, way-key v w) (above_later v w)) h
+    (λ t v w. rw (way_ends v w, way_key v w) (above_later v w)) h
 
 -- The pair of a node, by the words of its cell
 
@@ -130,10 +130,10 @@ pair_there :
 pair_there h front y later =
     on_listed (λ t ws s. t.row ≡ front ++ (y ∷ later) → PairThere ws y)
     (λ t v split.
-    let there = all_at (HasPlace t) front y later (subst (All (HasPlace t)) split (row-placed v)) in
+    let there = all_at (HasPlace t) front y later (subst (All (HasPlace t)) split (row_placed v)) in
     record {
-      key = place-key v there.placed ∙ ap (λ z. z.key) there.node;
-      value = place-value v there.placed ∙ ap (λ z. z.value) there.node;
+      key = place_key v there.placed ∙ ap (λ z. z.key) there.node;
+      value = place_value v there.placed ∙ ap (λ z. z.value) there.node;
     })
     h
 
@@ -172,25 +172,25 @@ writing_length {f = f} {entry = entry} g = ap length g.bytes ∙ length-sets ent
 module _ {ws : List ℕ} {s : Settings} (h : Listed ws s) {f : ℕ} {entry file : List ℕ} {p : Path} {i : ℕ} (g : Writing ws s f entry file p i) {r : Reached}
     (n : NextIs ws s p r) where
   -- all are written
-  pub writing-end : r.cell ≡ 0 → file ≡ sets entry f (pair_bytes (live_pairs ws))
-  writing-end none =
+  pub writing_end : r.cell ≡ 0 → file ≡ sets entry f (pair_bytes (live_pairs ws))
+  writing_end none =
       let all : (read ws).row ≡ g.front =
-      g.on_way.split ∙ ap (λ l. g.front ++ l) (moves-end h n g.later g.on_way none) ∙ append-nil g.front in
+      g.on_way.split ∙ ap (λ l. g.front ++ l) (moves_end h n g.later g.on_way none) ∙ append-nil g.front in
       g.bytes ∙ ap (λ row. sets entry f (pair_bytes (pairs_of row))) (sym all)
 
   module _ (some : r.cell ≡ 0 → ⊥) where
     on : MovesOn (read ws) ws g.front g.later r
-    on = moves-on h n g.later g.on_way some
+    on = moves_on h n g.later g.on_way some
 
     split : (read ws).row ≡ g.front ++ (on.node ∷ on.rest)
     split = g.on_way.split ∙ ap (λ l. g.front ++ l) on.next
 
-    pub writing-less : keys_ahead ws s r.path < keys_ahead ws s p
-    writing-less = omega (arith, ahead_is h r.path on.to.on_way, ahead_is h p g.on_way, ap length on.next)
+    pub writing_less : keys_ahead ws s r.path < keys_ahead ws s p
+    writing_less = omega (arith, ahead_is h r.path on.to.on_way, ahead_is h p g.on_way, ap length on.next)
 
     module _ {mark : ℕ} (is : mark ≡ mark_at ws r.cell) where
-      pub writing-past : (mark ≡ 1 → ⊥) → Writing ws s f entry file r.path i
-      writing-past other =
+      pub writing_past : (mark ≡ 1 → ⊥) → Writing ws s f entry file r.path i
+      writing_past other =
           let y = on.node in
           let same = pairs_same g.front y (mark_other y.live (λ e. other (is ∙ on.to.mark ∙ e))) in
           record {
@@ -208,16 +208,16 @@ module _ {ws : List ℕ} {s : Settings} (h : Listed ws s) {f : ℕ} {entry file 
         live = mark_one on.node.live (sym on.to.mark ∙ sym is ∙ one)
 
         -- there is room for the pair
-        pub writing-room : {m : ℕ} → m ≡ length (live_pairs ws) → f + 8 * m ≤ length entry → f + 8 * (i + 1) ≤ length file
-        writing-room count room =
+        pub writing_room : {m : ℕ} → m ≡ length (live_pairs ws) → f + 8 * m ≤ length entry → f + 8 * (i + 1) ≤ length file
+        writing_room count room =
             let all = ap pairs_of split ∙ pairs_live g.front on.node on.rest live in
             let long = ap length all ∙ length-append (pairs_of g.front) (pair on.node ∷ pairs_of on.rest) in
             omega (arith, room, count, writing_length g, g.count, long)
 
-        pub writing-here :
+        pub writing_here :
             {key value : ℕ} {after : List ℕ} → key ≡ key_at ws r.cell → value ≡ value_at ws r.cell →
             after ≡ sets file (f + 8 * i) (pair_bytes (record { key = key; value = value } ∷ [])) → Writing ws s f entry after r.path (i + 1)
-        writing-here {key} {value} {after} is_key is-value written =
+        writing_here {key} {value} {after} is_key is-value written =
             let y = on.node in
             let there = pair_there h g.front y on.rest split in
             let is-pair : ◌≡◌ {A = Pair} (record { key = key; value = value }) (pair y) =

@@ -1,4 +1,6 @@
 // Write: what waits in a list becomes the bytes of a file.
+#![tactic(auto)]
+
 ghost use Rattle.std.specs.Prelude.{◌≡◌, ◌≤◌, ◌<◌, length};
 ghost use Rattle.std.proofs.lemmas.List.Edits.{sets};
 ghost use Rattle.files.specs.Files.{before, file_length, pair_bytes};

@@ -164,25 +164,25 @@ module _ (bytes : List ℕ) (s : State) (v : Sound s) where
   size = file_length (length (those (λ x. x.live) (standing_in s.row)))
 
   -- the file is as long as the live keys say
-  file-size : length (file_for (picture s)) ≡ size
-  file-size =
+  file_size : length (file_for (picture s)) ≡ size
+  file_size =
       file_length_lem (settings_at (picture s)) (live_pairs (picture s))
       ∙ ap (λ t. file_length (length (pairs_in t.row))) (read_of_picture s v)
       ∙ ap file_length (sym (pairs_counted s.row))
 
-  write-booked : Booking s keeping (write_out lent).left.words (write_out lent).answered (write_reply size (length bytes))
-  write-booked = still s v _ _ _ (write_keeps_words lent) (room_cases lent small enough)
+  write_booked : Booking s keeping (write_out lent).left.words (write_out lent).answered (write_reply size (length bytes))
+  write_booked = still s v _ _ _ (write_keeps_words lent) (room_cases lent small enough)
     where
       list : is_list (picture s) ≡ true
       list = picture_is_list s v
 
       small : length bytes < length (file_for (picture s)) → (write_out lent).answered ≡ write_reply size (length bytes)
-      small h = ap (λ o. o.answered) (write_outcome_no_room lent list h) ∙ rw (lt-leb size (length bytes) (omega (arith, file-size, h))) refl
+      small h = ap (λ o. o.answered) (write_outcome_no_room lent list h) ∙ rw (lt-leb size (length bytes) (omega (arith, file_size, h))) refl
 
       enough : length (file_for (picture s)) ≤ length bytes → (write_out lent).answered ≡ write_reply size (length bytes)
       enough h =
-          ap (λ o. o.answered) (write_outcome lent list h) ∙ ap (answer 0 0 0) file-size
-          ∙ rw (le-leb size (length bytes) (omega (arith, file-size, h))) refl
+          ap (λ o. o.answered) (write_outcome lent list h) ∙ ap (answer 0 0 0) file_size
+          ∙ rw (le-leb size (length bytes) (omega (arith, file_size, h))) refl
 
 -- Read
 
@@ -245,5 +245,5 @@ call_booked made s v = at made.call
         subst (λ (o : Outcome Lent). Booking s (asked_effect (asked_in made)) o.left.words (uncounted o.answered) (asked_reply (asked_in made) (book_in s)))
         (sym (record_asks (lending made (picture s)) (picture_is_list s v)))
         (asked_booked made (asked_in made) s v)
-    at Write = write-booked made.bytes s v
+    at Write = write_booked made.bytes s v
     at Read = read_booked made.bytes s v

@@ -9,7 +9,7 @@ use native.Mathlib.Decide.{dec_le}
 use native.Mathlib.Omega.{arith}
 use lib.ListN.{length}
 use borrow.Author.Tests.{lt-ltb, le-ltb, le-leb, lt-leb}
-use Rattle.settings.proofs.Numbers.{key_in, key-out}
+use Rattle.settings.proofs.Numbers.{key_in, key_out}
 use Rattle.lists.proofs.All.{all_map}
 use Rattle.answers.specs.Refusals.{Outcome, Refusal, answer, answer_of, refused, bad_key, key_live, no_free_cell, nothing_live, key_not_live, key_not_standing}
 use Rattle.answers.specs.declared.Operation.{Operation}
@@ -34,7 +34,7 @@ use Rattle.meaning.proofs.Kept.KeepsFinish.{paid_keeping, finished_sound}
 use Rattle.meaning.proofs.Kept.KeepsTake.{dead_keeping, taken_key, taken_sound}
 use Rattle.meaning.proofs.Kept.KeepsSweep.{kept_by, paid_all_keeping, swept_key, swept_sound}
 use Rattle.meaning.proofs.Kept.Slot.{gap, slot_is, last_changed}
-use Rattle.meaning.proofs.Kept.KeepsInsert.{revived-keeping, revived-position, revived_sound, added-row, added-position-lowered, added-key-kept, added_sound}
+use Rattle.meaning.proofs.Kept.KeepsInsert.{revived_keeping, revived_position, revived_sound, added_row, added_position_lowered, added_key_kept, added_sound}
 use Rattle.meaning.proofs.Outcomes.{insert_outcome_bad_key, insert_outcome_live, insert_outcome_dead, insert_outcome_full, insert_outcome_new, find_outcome_bad_key}
 use Rattle.meaning.proofs.Outcomes.{find_outcome_absent, find_outcome_dead, find_outcome_live, finish_outcome_bad_key, finish_outcome_absent}
 use Rattle.meaning.proofs.Outcomes.{finish_outcome_standing, take_outcome_none, take_outcome_first, sweep_outcome, key_cases, live_cases, free_cases}
@@ -78,7 +78,7 @@ on_key_lem key k done l h = rw (key_in l h) refl
 
 off_key : (key : ℕ) (k : Book) (done : Outcome Book) → (1 ≤ key → k.largest < key) → on_book_key key k done ≡ refused bad_key k
 unfolding on_book_key
-off_key key k done f = rw (key-out f) refl
+off_key key k done f = rw (key_out f) refl
 
 -- Insert
 
@@ -107,15 +107,15 @@ module _ (s : State) (v : Sound s) (key value : ℕ) (l : 1 ≤ key) (h : key �
       on_key_lem key (book_in s) (insert_book key value (book_in s) (standing_at key (standing_in s.row))) l h
       ∙ ap (insert_book key value (book_in s)) (standing_at_lem key s.row ∙ ap told e)
 
-  insert-live : (x : Node) → node_at key s.row ≡ some x → x.live ≡ true → Booked insert s
+  insert_live : (x : Node) → node_at key s.row ≡ some x → x.live ≡ true → Booked insert s
   unfolding insert_book
-  insert-live x e live =
+  insert_live x e live =
       ends insert s (insert_outcome_live s v key value l h x e live) (inserts (some x) e ∙ rw live refl)
       (turned insert s v (key_live key (looked s key)) (key_live key 0) refl)
 
-  insert-full : node_at key s.row ≡ none → length s.free ≡ 0 → Booked insert s
+  insert_full : node_at key s.row ≡ none → length s.free ≡ 0 → Booked insert s
   unfolding insert_book
-  insert-full e full =
+  insert_full e full =
       ends insert s (insert_outcome_full s v key value l h e full)
       (inserts none e ∙ rw (le-ltb (suc (length (standing_in s.row))) s.settings.cells (omega (arith, room s v))) refl)
       (turned insert s v (no_free_cell key (looked s key)) (no_free_cell key 0) refl)
@@ -131,22 +131,22 @@ module _ (s : State) (v : Sound s) (key value : ℕ) (l : 1 ≤ key) (h : key �
     sound : Sound (revived s x value)
     sound = revived_sound s x value v (subst (λ k. node_at k s.row ≡ some x) (sym same) e) dead
 
-    revived-row : standing_in (revived s x value).row ≡ marked key value true (standing_in s.row)
+    revived_row : standing_in (revived s x value).row ≡ marked key value true (standing_in s.row)
     unfolding revived
-    revived-row =
+    revived_row =
         let (front, later, split) = node_split key x s.row e in
         standing_marked s v front x later split (revived_node value) value true (λ y. refl) ∙ ap (λ k. marked k value true (standing_in s.row)) same
 
-    revived-at : position_key (revived s x value) ≡ position_with x.key (book_in s)
+    revived_at : position_key (revived s x value) ≡ position_with x.key (book_in s)
     unfolding revived position_after
-    revived-at =
+    revived_at =
         let (front, later, split) = node_split key x s.row e in
-        let keeping = revived-keeping s x value v front later split in
+        let keeping = revived_keeping s x value v front later split in
         let up : Asc 0 (front ++ (x ∷ later)) = subst (Asc 0) split v.ascends in
         position_goes s (revived s x value) x.key
         (λ low.
         position_last (revived s x value) sound (map revive front) (revive x ∷ map revive later) (ap (map revive) split ∙ map-append revive front (x ∷ later))
-        (revived-position s x value v front later split low)
+        (revived_position s x value v front later split low)
         ∙ last_key_changed revive keeping front
         ∙ sym (ap (λ r. (smaller_than x.key r).key) split ∙ ap (λ y. y.key) (smaller_is x.key front (x ∷ later) (asc_smaller 0 front x later up)
         (omega arith, all_map (λ y above. omega arith) later (asc_larger 0 front x later up)))))
@@ -154,17 +154,17 @@ module _ (s : State) (v : Sound s) (key value : ℕ) (l : 1 ≤ key) (h : key �
         ap (λ t. key_of (cond t (smaller_than x.key s.row).cell s.position) (head_node ∷ map revive s.row)) (lt-leb x.key (position_key s) above)
         ∙ key_of_head_changed revive keeping s.position s.row)
 
-    insert-dead : Booked insert s
+    insert_dead : Booked insert s
     unfolding insert_book revived
-    insert-dead =
+    insert_dead =
         ends insert s (insert_outcome_dead s v key value l h x e dead) (inserts (some x) e ∙ rw dead refl)
         (record {
           after = revived s x value;
           sound = sound;
           left = refl;
           settings = refl;
-          book = book_is s (revived s x value) (marked key value true (standing_in s.row)) (position_with key (book_in s)) refl revived-row
-              (revived-at ∙ ap (λ k. position_with k (book_in s)) same);
+          book = book_is s (revived s x value) (marked key value true (standing_in s.row)) (position_with key (book_in s)) refl revived_row
+              (revived_at ∙ ap (λ k. position_with k (book_in s)) same);
           answered = refl;
         })
 
@@ -179,8 +179,8 @@ module _ (s : State) (v : Sound s) (key value : ℕ) (l : 1 ≤ key) (h : key �
     abbrev pay : List Node → List Node
     pay row = finished slot.c (finished slot.parent row)
 
-    new-sound : Sound (added s key value slot)
-    new-sound = added_sound s key value v l h absent space
+    new_sound : Sound (added s key value slot)
+    new_sound = added_sound s key value v l h absent space
 
     new_row : standing_in (added s key value slot).row ≡ put_key (standing_key key value true) (standing_in s.row)
     unfolding added
@@ -188,36 +188,36 @@ module _ (s : State) (v : Sound s) (key value : ℕ) (l : 1 ≤ key) (h : key �
         standing_put node (pay s.row)
         ∙ ap (put_key (standing_key key value true)) (standing_finished slot.c (finished slot.parent s.row) ∙ standing_finished slot.parent s.row)
 
-    pay-last : (row : List Node) → (last_from head_node (pay row)).key ≡ (last_from head_node row).key
+    pay_last : (row : List Node) → (last_from head_node (pay row)).key ≡ (last_from head_node row).key
     unfolding finished
-    pay-last row =
+    pay_last row =
         last_key_changed (on_cell slot.c paid) (paid_keeping slot.c) (finished slot.parent row)
         ∙ last_key_changed (on_cell slot.parent paid) (paid_keeping slot.parent) row
 
-    new-at : position_key (added s key value slot) ≡ position_with key (book_in s)
-    new-at =
+    new_at : position_key (added s key value slot) ≡ position_with key (book_in s)
+    new_at =
         let g = gap key 0 s.row v.ascends absent in
         let i = slot_is s v key l g space in
         position_goes s (added s key value slot) key
         (λ low.
-        position_last (added s key value slot) new-sound (pay g.pre) (node ∷ pay g.post) (added-row s v key value l g space slot i)
-        (added-position-lowered s v key value l g space slot i low)
-        ∙ pay-last g.pre
+        position_last (added s key value slot) new_sound (pay g.pre) (node ∷ pay g.post) (added_row s v key value l g space slot i)
+        (added_position_lowered s v key value l g space slot i low)
+        ∙ pay_last g.pre
         ∙ sym (ap (λ r. (smaller_than key r).key) g.splits
         ∙ ap (λ y. y.key) (smaller_is key g.pre g.post g.below (all_map (λ y above. omega arith) g.post g.above))))
-        (added-key-kept s v key value l g space slot i)
+        (added_key_kept s v key value l g space slot i)
 
-    insert-new : Booked insert s
+    insert_new_lem : Booked insert s
     unfolding insert_book added
-    insert-new =
+    insert_new_lem =
         ends insert s (insert_outcome_new s v key value l h absent space)
         (inserts none absent ∙ rw (lt-ltb (suc (length (standing_in s.row))) s.settings.cells (omega (arith, room s v))) refl)
         (record {
           after = added s key value slot;
-          sound = new-sound;
+          sound = new_sound;
           left = refl;
           settings = refl;
-          book = book_is s (added s key value slot) (put_key (standing_key key value true) (standing_in s.row)) (position_with key (book_in s)) refl new_row new-at;
+          book = book_is s (added s key value slot) (put_key (standing_key key value true) (standing_in s.row)) (position_with key (book_in s)) refl new_row new_at;
           answered = refl;
         })
 
@@ -226,8 +226,8 @@ unfolding operation_book
 insert_booked key value s v =
     key_cases s key
     (λ n. ends (Insert key value) s (insert_outcome_bad_key s v key value n) (off_key key (book_in s) _ n) (turned (Insert key value) s v bad_key bad_key refl))
-    (λ l h e. free_cases s (insert-full s v key value l h e) (insert-new s v key value l h e))
-    (λ l h x e. live_cases x (insert-live s v key value l h x e) (insert-dead s v key value l h x e))
+    (λ l h e. free_cases s (insert_full s v key value l h e) (insert_new_lem s v key value l h e))
+    (λ l h x e. live_cases x (insert_live s v key value l h x e) (insert_dead s v key value l h x e))
 
 -- Find
 

@@ -5,7 +5,7 @@ use mathlib.Core.List.{List, [], ◌∷◌, ◌++◌, map}
 use Prim.Native.Nat.{ℕ}
 use Rattle.lists.specs.Lists.{those}
 use Rattle.lists.proofs.All.{All}
-use Rattle.lists.proofs.Those.{those-none, those-append}
+use Rattle.lists.proofs.Those.{those_none, those_append}
 use Rattle.files.specs.Files.{Pair}
 use Rattle.book.specs.Book.{StandingKey, Book, dead_before, live_on, last_only, sweep_book, operation_book}
 use Rattle.meaning.specs.Row.{Node}
@@ -69,8 +69,8 @@ live_on_lem (x ∷ row) = at x.live refl (live_on_lem row)
 swept_pairs : (row : List StandingKey) → pairs_among (last_only (dead_before row) ++ live_on row) ≡ pairs_among row
 swept_pairs row =
     ap (map key_pair) (
-    those-append (λ x. x.live) (last_only (dead_before row)) (live_on row)
-    ∙ ap₂ (λ (xs ys : List StandingKey). xs ++ ys) (those-none (λ x. x.live) (last_only (dead_before row)) (last_dead (dead_before row) (all_dead row))) (live_on_lem row)
+    those_append (λ x. x.live) (last_only (dead_before row)) (live_on row)
+    ∙ ap₂ (λ (xs ys : List StandingKey). xs ++ ys) (those_none (λ x. x.live) (last_only (dead_before row)) (last_dead (dead_before row) (all_dead row))) (live_on_lem row)
     )
 
 pub pairs_kept_by : (effect : Effect) (k : Book) → keeps_pairs effect ≡ true → pairs_among (booked_by effect k).row ≡ pairs_among k.row

@@ -62,77 +62,77 @@ module _ (s : Settings) (pairs : List Pair) (p : Pair) (kept : keeps s (pairs ++
   abbrev next : NextPair s pairs p
   next = next_pair s pairs p kept
 
-  state-sound : Sound (read_state s pairs)
-  state-sound = read_state_sound s pairs (keeps_left s pairs (p ∷ []) kept) base
+  state_sound : Sound (read_state s pairs)
+  state_sound = read_state_sound s pairs (keeps_left s pairs (p ∷ []) kept) base
 
   -- all that stand are below the key, ..
-  last-gap : Gap p.key row
-  last-gap = record { pre = row; post = []; splits = sym (append-nil row); below = next.below; above = tt }
+  last_gap : Gap p.key row
+  last_gap = record { pre = row; post = []; splits = sym (append-nil row); below = next.below; above = tt }
 
   -- .. and a cell is free
-  chain-is : numbers_from n (s.cells - n) ≡ n ∷ numbers_from (suc n) (s.cells - suc n)
+  chain_is : numbers_from n (s.cells - n) ≡ n ∷ numbers_from (suc n) (s.cells - suc n)
   unfolding numbers_from
-  chain-is =
+  chain_is =
       let room = next.room in
       let more : s.cells - n ≡ suc (s.cells - suc n) = omega arith in
       ap (numbers_from n) more
 
-  free-is : (read_state s pairs).free ≡ n ∷ numbers_from (suc n) (s.cells - suc n)
+  free_is : (read_state s pairs).free ≡ n ∷ numbers_from (suc n) (s.cells - suc n)
   unfolding read_state
-  free-is = chain-is
+  free_is = chain_is
 
   room : 0 < length (read_state s pairs).free
-  room = rw free-is (omega arith)
+  room = rw free_is (omega arith)
 
   abbrev slot : Slot
   slot = slot_for (read_state s pairs) p.key
 
-  slot-at-end : SlotIs (read_state s pairs) p.key row [] slot
-  unfolding read_state last-gap
-  slot-at-end = slot_is (read_state s pairs) state-sound p.key next.positive last-gap room
+  slot_at_end : SlotIs (read_state s pairs) p.key row [] slot
+  unfolding read_state last_gap
+  slot_at_end = slot_is (read_state s pairs) state_sound p.key next.positive last_gap room
 
   -- no cell has the slot, so the new one does not owe, ..
-  new-unowing : slot_owes slot ≡ false
-  new-unowing = ap (λ t. not t && ltb slot.p slot.q) (eq-eqb slot.c 0 slot-at-end.c_is)
+  new_unowing : slot_owes slot ≡ false
+  new_unowing = ap (λ t. not t && ltb slot.p slot.q) (eq-eqb slot.c 0 slot_at_end.c_is)
 
   -- .. it is the first of the chain, ..
-  new-cell : slot.n ≡ n
-  new-cell = slot-at-end.n_is ∙ ap first_number free-is
+  new_cell : slot.n ≡ n
+  new_cell = slot_at_end.n_is ∙ ap first_number free_is
 
   -- .. and it comes last
-  row-added : put (new_node slot.n p.key p.value (slot_owes slot)) (finished slot.c (finished slot.parent row)) ≡ nodes_from 1 (pairs ++ (p ∷ []))
-  unfolding last-gap
-  row-added =
+  row_added : put (new_node slot.n p.key p.value (slot_owes slot)) (finished slot.c (finished slot.parent row)) ≡ nodes_from 1 (pairs ++ (p ∷ []))
+  unfolding last_gap
+  row_added =
       let unowing = nodes_unowing 1 pairs in
-      ap₂ (λ owes r. put (new_node slot.n p.key p.value owes) r) new-unowing
+      ap₂ (λ owes r. put (new_node slot.n p.key p.value owes) r) new_unowing
       (ap (finished slot.c) (finished_unowing slot.parent row unowing) ∙ finished_unowing slot.c row unowing)
-      ∙ ap (λ c. put (pair_node c p) row) new-cell
-      ∙ put_gap (pair_node n p) row last-gap
+      ∙ ap (λ c. put (pair_node c p) row) new_cell
+      ∙ put_gap (pair_node n p) row last_gap
       ∙ sym next.row_is
 
-  position-kept : position_after (read_state s pairs) p.key ≡ 0
+  position_kept : position_after (read_state s pairs) p.key ≡ 0
   unfolding position_after read_state
-  position-kept =
+  position_kept =
       let above = next.positive in
       let head = position_head (read_state s pairs) refl in
       rw (lt-leb p.key (position_key (read_state s pairs)) (omega arith)) refl
 
-  last-added : added (read_state s pairs) p.key p.value slot ≡ read_state s (pairs ++ (p ∷ []))
+  last_added : added (read_state s pairs) p.key p.value slot ≡ read_state s (pairs ++ (p ∷ []))
   unfolding added read_state
-  last-added =
+  last_added =
       let more : suc (length (pairs ++ (p ∷ []))) ≡ suc n = omega (arith, length-append pairs (p ∷ [])) in
       let free : drop 1 (numbers_from n (s.cells - n)) ≡ numbers_from (suc (length (pairs ++ (p ∷ [])))) (s.cells - suc (length (pairs ++ (p ∷ [])))) =
-      ap (drop 1) chain-is ∙ ap (λ i. numbers_from i (s.cells - i)) (sym more) in
-      λ i. record { settings = s; row = row-added i; free = free i; position = position-kept i }
+      ap (drop 1) chain_is ∙ ap (λ i. numbers_from i (s.cells - i)) (sym more) in
+      λ i. record { settings = s; row = row_added i; free = free i; position = position_kept i }
 
   -- The operations 10: an insert in ascending order leaves the state with the pair more.
-  pub insert-last :
+  pub insert_last :
       insert_out (picture (read_state s pairs)) p.key p.value
       ≡ accepted p.key 0 (looked (read_state s pairs) p.key) (picture (read_state s (pairs ++ (p ∷ []))))
   unfolding read_state
-  insert-last =
-      insert_outcome_new (read_state s pairs) state-sound p.key p.value next.positive next.most (node_absent p.key row next.below) room
-      ∙ ap (λ t. accepted p.key 0 (looked (read_state s pairs) p.key) (picture t)) last-added
+  insert_last =
+      insert_outcome_new (read_state s pairs) state_sound p.key p.value next.positive next.most (node_absent p.key row next.below) room
+      ∙ ap (λ t. accepted p.key 0 (looked (read_state s pairs) p.key) (picture t)) last_added
 
 -- Reading
 
@@ -143,7 +143,7 @@ inserted_from s base front [] kept = ap (λ pairs. picture (read_state s pairs))
 inserted_from s base front (p ∷ rest) kept =
     let all = append_snoc front p rest in
     let more : keeps s ((front ++ (p ∷ [])) ++ rest) ≡ true = ap (keeps s) all ∙ kept in
-    ap (λ o. inserted_all rest o.left) (insert-last s front p (keeps_left s (front ++ (p ∷ [])) rest more) base)
+    ap (λ o. inserted_all rest o.left) (insert_last s front p (keeps_left s (front ++ (p ∷ [])) rest more) base)
     ∙ inserted_from s base (front ++ (p ∷ [])) rest more
     ∙ ap (λ pairs. picture (read_state s pairs)) all
 

@@ -13,7 +13,7 @@ use borrow.Author.Tests.{le-ltb}
 use Rattle.settings.specs.Numbers.{base_of}
 use Rattle.settings.specs.declared.Settings.{Settings}
 use Rattle.lists.specs.Lists.{those}
-use Rattle.lists.proofs.Those.{those-none}
+use Rattle.lists.proofs.Those.{those_none}
 use Rattle.lists.proofs.All.{All, all_map}
 use Rattle.files.specs.Files.{Pair, keeps}
 use Rattle.files.proofs.Files.{keepable}
@@ -25,7 +25,7 @@ use Rattle.calls.specs.Layer.ReadState.{nodes_from, read_state, last_key}
 use Rattle.meaning.proofs.Rows.Keys.{shared_same}
 use Rattle.meaning.proofs.Pictures.State.{base_positive}
 use Rattle.meaning.proofs.Rows.Places.{last_from}
-use Rattle.meaning.proofs.Rows.Parent.{asc_last, last_greatest, first-front}
+use Rattle.meaning.proofs.Rows.Parent.{asc_last, last_greatest, first_front}
 use Rattle.meaning.proofs.Walks.Smaller.{smaller_is}
 use Rattle.meaning.proofs.Paths.Path.{path_for-length, path_for-at}
 use Rattle.meaning.proofs.Paths.Path as path
@@ -72,7 +72,7 @@ read_state_next s pairs key kept above =
     all_map (λ x h. omega arith) row (last_greatest head_node row (nodes_ascend 0 s.largest 1 pairs (keepable s pairs kept).rises)) in
     record {
       smaller = ap (λ r. (smaller_than key r).key) (sym (append-nil row)) ∙ ap (λ x. x.key) (smaller_is key row [] below tt) ∙ last;
-      none_above = those-none (λ x. ltb key x.key) row (all_map (λ x h. le-ltb key x.key (omega arith)) row below);
+      none_above = those_none (λ x. ltb key x.key) row (all_map (λ x h. le-ltb key x.key (omega arith)) row below);
       absent = node_absent key row below;
     }
 
@@ -88,7 +88,7 @@ path_kept b D row later =
     (λ i h.
     let l : i < D = omega arith in
     path_for-at b D (row ++ later) key i l
-    ∙ first-front b D key (suc i) head_node row later (omega (arith, shared_same b D key))
+    ∙ first_front b D key (suc i) head_node row later (omega (arith, shared_same b D key))
     ∙ sym (path_for-at b D row key i l))
 
 pub path_next : (s : Settings) (pairs : List Pair) (p : Pair) → keeps s (pairs ++ (p ∷ [])) ≡ true → s.base ≡ base_of s.dimensions s.largest →

@@ -13,7 +13,7 @@ use Rattle.settings.specs.declared.Settings.{Settings}
 use Rattle.settings.proofs.Numbers.{ranges}
 use Rattle.lists.specs.Lists.{those, occurrences, numbers_from}
 use Rattle.lists.proofs.Occurrences.{occurrences_here}
-use Rattle.lists.proofs.Those.{those-all}
+use Rattle.lists.proofs.Those.{those_all}
 use Rattle.lists.proofs.All.{All, all_map, all_at}
 use Rattle.lists.proofs.Tests.{both, and_both}
 use Rattle.files.specs.Files.{Pair, rising, keeps}
@@ -31,7 +31,7 @@ use Rattle.meaning.proofs.Rows.AscendingRow.{Asc, asc_above}
 use Rattle.meaning.proofs.Rows.Places.{asc_right, asc_smaller}
 use Rattle.meaning.proofs.Pictures.State.{Sound, cells_in}
 use Rattle.meaning.proofs.Pictures.ReadBack.{read_of_picture, picture_is_list}
-use Rattle.meaning.proofs.Cells.Placed.{Placed, placed-node, place-owed, occurs_placed, cell_standing}
+use Rattle.meaning.proofs.Cells.Placed.{Placed, placed_node, place_owed, occurs_placed, cell_standing}
 use Rattle.meaning.proofs.Kept.KeepsState.{position_head, unowing_debts}
 use Rattle.meaning.proofs.Kept.KeepsSetUp.{fresh_sound}
 
@@ -200,7 +200,7 @@ read_unowing s pairs = nodes_unowing 1 pairs
 -- where no node owes, no standing cell does
 placed_unowing : {t : State} → Sound t → All (λ y. y.owes ≡ false) t.row → {x : ℕ} {p : Place} → Placed t x p → owed_at (picture t) x ≡ 0
 placed_unowing v unowing {x} {p} here =
-    place-owed v here ∙ ap (λ owes. cond owes (first_of p.later).cell 0) (placed-node here (λ y. y.owes ≡ false) refl unowing)
+    place_owed v here ∙ ap (λ owes. cond owes (first_of p.later).cell 0) (placed_node here (λ y. y.owes ≡ false) refl unowing)
 
 pub stands_unowing : (t : State) → Sound t → All (λ y. y.owes ≡ false) t.row → (x : ℕ) → 0 < occurrences x (0 ∷ map (λ y. y.cell) t.row) →
     owed_at (picture t) x ≡ 0
@@ -218,7 +218,7 @@ read_list s pairs kept base =
       settings = ap (λ u. u.settings) back;
       live =
           ap (λ u. map pair (those (λ x. x.live) u.row)) back
-          ∙ ap (map pair) (those-all (λ x. x.live) (nodes_from 1 pairs) (nodes_live 1 pairs))
+          ∙ ap (map pair) (those_all (λ x. x.live) (nodes_from 1 pairs) (nodes_live 1 pairs))
           ∙ nodes_pairs 1 pairs;
       standing = ap (λ u. map (λ x. x.key) u.row) back ∙ nodes_keys 1 pairs;
       settled = λ x stands. placed_unowing v (nodes_unowing 1 pairs) (cell_standing t x stands).1;

@@ -50,8 +50,8 @@ module _ (lent : FileLent) (words : List ℕ) (fits : ValuesFit lent.words) (z :
   kept = list_kept lent.words (write_accepted lent z).0 fits
 
   -- the bytes that the answer counts are the file
-  written-file : take (write_out lent).answered.count (write_out lent).left.file ≡ file_for lent.words
-  written-file =
+  written_file : take (write_out lent).answered.count (write_out lent).left.file ≡ file_for lent.words
+  written_file =
       let a = write_accepted lent z in
       let file = file_for lent.words in
       ap (λ o. take o.answered.count o.left.file) (write_outcome lent a.0 a.1)
@@ -79,7 +79,7 @@ restarted ws us e list =
 pub write_then_read : WriteThenRead
 unfolding s pairs
 write_then_read lent words fits z long =
-    let again = read_again lent words fits z _ (written-file lent words fits z) long in
+    let again = read_again lent words fits z _ (written_file lent words fits z) long in
     (again.0, restarted lent.words _ (write_accepted lent z).0 again.1)
 
 -- a list with these settings and pairs is written so

@@ -22,7 +22,7 @@ use Rattle.meaning.specs.Row.{Node}
 use Rattle.meaning.specs.State.{State}
 use Rattle.meaning.specs.Picture.{picture}
 use Rattle.meaning.specs.Reading.{read, settings_at, is_list, reading_of}
-use Rattle.answers.specs.Refusals.{Outcome, accepted, wrong_length, not_aList, bad_file, no_room, refused}
+use Rattle.answers.specs.Refusals.{Outcome, accepted, wrong_length, not_a_list, bad_file, no_room, refused}
 use Rattle.meaning.specs.Operations.{set_up_out}
 use Rattle.calls.specs.Pairs.{live_pairs}
 use Rattle.calls.specs.Saved.{FileLent, file_lent, written, write_on, write_out, inserted_all, finished_all, read_in, read_from, read_out}
@@ -90,7 +90,7 @@ list_length_lem ws e = ap length (sym (list_is_picture ws e)) ∙ picture_length
 abbrev pub file_for : List ℕ → List ℕ
 file_for ws = file_of (settings_at ws) (live_pairs ws)
 
-pub write_outcome_not_a_list : (lent : FileLent) → is_list lent.words ≡ false → write_out lent ≡ refused not_aList lent
+pub write_outcome_not_a_list : (lent : FileLent) → is_list lent.words ≡ false → write_out lent ≡ refused not_a_list lent
 unfolding write_out reading_of
 write_outcome_not_a_list lent e = rw e refl
 

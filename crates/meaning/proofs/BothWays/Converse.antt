@@ -21,14 +21,14 @@ use Rattle.meaning.proofs.Rows.Keys.{shared_sym}
 use Rattle.meaning.proofs.Pictures.StateCells.{free_distinct}
 use Rattle.meaning.proofs.Pictures.ReadBack.{Follow, distinct_follow, picture_is_list}
 use Rattle.meaning.proofs.Cells.WalkRead.{Held}
-use Rattle.meaning.proofs.BothWays.SentencesRow.{Least, least, nowhere, SharesAtLeast, first-with}
+use Rattle.meaning.proofs.BothWays.SentencesRow.{Least, least, nowhere, SharesAtLeast, first_with_lem}
 use Rattle.meaning.proofs.Cells.Placed.{FreeHeld, held_picture}
 use Rattle.meaning.proofs.BothWays.Sentences.{list_sentences}
-use Rattle.meaning.proofs.BothWays.ConverseKeys.{shared-is}
-use Rattle.meaning.proofs.BothWays.ConverseRow.{Shown, standing_row, head-shown}
-use Rattle.meaning.proofs.BothWays.ConversePlaces.{PlaceShown, row-above, row-placed}
-use Rattle.meaning.proofs.BothWays.ConverseLinks.{owed-shown, low-shown, high-shown, link-shown}
-use Rattle.meaning.proofs.BothWays.ConverseState.{state_of, standing-occurs, position_key_lem, state-sound}
+use Rattle.meaning.proofs.BothWays.ConverseKeys.{shared_is}
+use Rattle.meaning.proofs.BothWays.ConverseRow.{Shown, standing_row, head_shown}
+use Rattle.meaning.proofs.BothWays.ConversePlaces.{PlaceShown, row_above, row_placed}
+use Rattle.meaning.proofs.BothWays.ConverseLinks.{owed_shown, low_shown, high_shown, link_shown}
+use Rattle.meaning.proofs.BothWays.ConverseState.{state_of, standing_occurs, position_key_lem, state_sound}
 
 -- The chain
 
@@ -44,10 +44,10 @@ chained_next free (chained_on h more) f = (f.0 ∙ chained_first more, chained_n
 module _ (ws : List ℕ) (a : AList ws) where
   -- The path
 
-  path-shown : (d : ℕ) → d < dimensions_at ws → path_word (state_of ws a) d ≡ get_or ws (header_words + d) 0
-  path-shown d h =
+  path_shown : (d : ℕ) → d < dimensions_at ws → path_word (state_of ws a) d ≡ get_or ws (header_words + d) 0
+  path_shown d h =
       ap (λ key. first_with b D key (suc d) (head_node ∷ standing_row ws)) (position_key_lem ws a)
-      ∙ at (first-with b D here (suc d) head_node (standing_row ws) (row-above ws a).ascends)
+      ∙ at (first_with_lem b D here (suc d) head_node (standing_row ws) (row_above ws a).ascends)
     where
       b : ℕ
       b = base_at ws
@@ -62,10 +62,10 @@ module _ (ws : List ℕ) (a : AList ws) where
       word = get_or ws (header_words + d) 0
 
       all_shown : All (Shown ws) (head_node ∷ standing_row ws)
-      all_shown = (head-shown ws a, (row-above ws a).shown)
+      all_shown = (head_shown ws a, (row_above ws a).shown)
 
       same : (y : ℕ) → Standing ws y → shared b D (key_at ws y) here ≡ shared_at ws (position_at ws) y
-      same y st = shared_sym b D (key_at ws y) here ∙ sym (shared-is ws a (position_at ws) y a.position st)
+      same y st = shared_sym b D (key_at ws y) here ∙ sym (shared_is ws a (position_at ws) y a.position st)
 
       -- the path word is the cell of a node that shares so many
       has : (P : ℕ → Type 0) → All (λ y. suc d ≤ shared b D y.key here → P y.cell) (head_node ∷ standing_row ws) → P word
@@ -73,7 +73,7 @@ module _ (ws : List ℕ) (a : AList ws) where
           let s = (a.path d h).sharing in
           let k = same word s.standing in
           let m = s.shares in
-          occurs_has (λ y. suc d ≤ shared b D (key_at ws y) here → P y) word (0 ∷ map (λ x. x.cell) (standing_row ws)) (standing-occurs ws a word s.standing)
+          occurs_has (λ y. suc d ≤ shared b D (key_at ws y) here → P y) word (0 ∷ map (λ x. x.cell) (standing_row ws)) (standing_occurs ws a word s.standing)
           (all_mapped (λ y. suc d ≤ shared b D (key_at ws y) here → P y) (λ x. x.cell) (head_node ∷ standing_row ws)
           (all_zip (λ y t f k. f (subst (λ key. suc d ≤ shared b D key here) (sym t.key) k)) (head_node ∷ standing_row ws) all_shown all))
           (omega arith)
@@ -91,35 +91,35 @@ module _ (ws : List ℕ) (a : AList ws) where
 
   -- The words of a cell
 
-  place-held : (p : Place) → PlaceShown ws p → Held ws (base_at ws) (dimensions_at ws) p
-  place-held p q =
+  place_held : (p : Place) → PlaceShown ws p → Held ws (base_at ws) (dimensions_at ws) p
+  place_held p q =
       let shown = q.here.shown in
       record {
         key = sym shown.key;
         value = sym shown.value;
         mark = sym shown.marked;
-        owed = sym (owed-shown ws a p q);
-        low = sym (low-shown ws a p q);
-        high = sym (high-shown ws a p q);
-        link = λ d h. sym (link-shown ws a p d q h);
+        owed = sym (owed_shown ws a p q);
+        low = sym (low_shown ws a p q);
+        high = sym (high_shown ws a p q);
+        link = λ d h. sym (link_shown ws a p d q h);
       }
 
   free_held : All (FreeHeld ws a.free_chain.chain) a.free_chain.chain
   free_held =
       let chain = a.free_chain.chain in
       all_zip (λ c next met. record { next = sym next; rest = λ j h l. a.free_words c j (a.free_chain.no_other c met) h l }) chain
-      (chained_next chain a.free_chain.chained (distinct_follow chain (free_distinct (state_of ws a) (state-sound ws a)))) (all_occur chain)
+      (chained_next chain a.free_chain.chained (distinct_follow chain (free_distinct (state_of ws a) (state_sound ws a)))) (all_occur chain)
 
   -- The whole
 
-  pub sentences-picture : picture (state_of ws a) ≡ ws
-  sentences-picture =
-      held_picture ws (standing_row ws) a.free_chain.chain (position_at ws) (state-sound ws a) a.long (chained_first a.free_chain.chained) path-shown
-      (all_map place-held (places (base_at ws) (dimensions_at ws) (standing_row ws)) (row-placed ws a)) free_held
+  pub sentences_picture : picture (state_of ws a) ≡ ws
+  sentences_picture =
+      held_picture ws (standing_row ws) a.free_chain.chain (position_at ws) (state_sound ws a) a.long (chained_first a.free_chain.chained) path_shown
+      (all_map place_held (places (base_at ws) (dimensions_at ws) (standing_row ws)) (row_placed ws a)) free_held
 
 -- A list 1, from the conditions on the words
 pub sentences_list : (ws : List ℕ) → AList ws → is_list ws ≡ true
-sentences_list ws a = subst (λ words. is_list words ≡ true) (sentences-picture ws a) (picture_is_list (state_of ws a) (state-sound ws a))
+sentences_list ws a = subst (λ words. is_list words ≡ true) (sentences_picture ws a) (picture_is_list (state_of ws a) (state_sound ws a))
 
 -- The conditions on the words hold of a buffer exactly if it is a list by specs/Reading.antt.
 pub list_exactly_if : (ws : List ℕ) → (is_list ws ≡ true) ↔ AList ws

@@ -14,8 +14,8 @@ use Rattle.meaning.specs.Row.{Node, head_node, Place, places_after, places}
 use Rattle.meaning.specs.Words.{key_at, dimensions_at, cells_at, base_at}
 use Rattle.meaning.specs.Sentences.{shared_at, Standing, NextSmaller, NextLarger, Dimension, of_head, of_other, AList}
 use Rattle.meaning.proofs.Rows.AscendingRow.{Asc, asc_above}
-use Rattle.meaning.proofs.BothWays.ConverseKeys.{cell-positive, shared-is}
-use Rattle.meaning.proofs.BothWays.ConverseRow.{Shown, standing_row, head-shown, row-shown, row-ascends, row-once}
+use Rattle.meaning.proofs.BothWays.ConverseKeys.{cell_positive, shared_is}
+use Rattle.meaning.proofs.BothWays.ConverseRow.{Shown, standing_row, head_shown, row_shown, row_ascends, row_once}
 
 -- What comes after a key
 
@@ -88,37 +88,37 @@ pub record PlaceShown (ws : List ℕ) (p : Place) : Type 0 where
   pub behind : Behind ws p
 
 module _ (ws : List ℕ) (a : AList ws) where
-  pub row-above : Above ws 0 (standing_row ws)
-  row-above =
+  pub row_above : Above ws 0 (standing_row ws)
+  row_above =
       let h = a.count.0 in
       let n = cells_at ws - 1 in
       record {
-        shown = all_map (λ x s. s.0) (standing_row ws) (row-shown ws a 1 n (omega arith));
-        ascends = row-ascends ws a 1 n (omega arith) (omega arith);
-        complete = λ y st pos. let c = st.cell in let k = cell-positive ws a y pos in
-            let o = row-once ws a y 1 n st (omega arith) (omega arith) (omega arith) in omega arith;
+        shown = all_map (λ x s. s.0) (standing_row ws) (row_shown ws a 1 n (omega arith));
+        ascends = row_ascends ws a 1 n (omega arith) (omega arith);
+        complete = λ y st pos. let c = st.cell in let k = cell_positive ws a y pos in
+            let o = row_once ws a y 1 n st (omega arith) (omega arith) (omega arith) in omega arith;
       }
 
-  pub shown-shared : {x y : Node} → Shown ws x → Shown ws y → shared (base_at ws) (dimensions_at ws) x.key y.key ≡ shared_at ws x.cell y.cell
-  shown-shared {x} {y} s t =
-      ap₂ (shared (base_at ws) (dimensions_at ws)) s.key t.key ∙ sym (shared-is ws a x.cell y.cell s.standing t.standing)
+  pub shown_shared : {x y : Node} → Shown ws x → Shown ws y → shared (base_at ws) (dimensions_at ws) x.key y.key ≡ shared_at ws x.cell y.cell
+  shown_shared {x} {y} s t =
+      ap₂ (shared (base_at ws) (dimensions_at ws)) s.key t.key ∙ sym (shared_is ws a x.cell y.cell s.standing t.standing)
 
-  placed-after : (before : Node) (e : ℕ) (row : List Node) → Stands ws before e row →
+  placed_after : (before : Node) (e : ℕ) (row : List Node) → Stands ws before e row →
       All (PlaceShown ws) (places_after (base_at ws) (dimensions_at ws) before e row)
   unfolding places_after
-  placed-after before e [] s = tt
-  placed-after before e (x ∷ row) s =
+  placed_after before e [] s = tt
+  placed_after before e (x ∷ row) s =
       let dimension = shared (base_at ws) (dimensions_at ws) before.key x.key in
       let shown = s.above.shown.0 in
       let here : Stands ws x dimension row = record {
         shown = shown;
-        dimension = subst (Dimension ws x.cell) (sym (shown-shared s.shown shown)) (of_other (above_next_smaller s.shown s.above));
+        dimension = subst (Dimension ws x.cell) (sym (shown_shared s.shown shown)) (of_other (above_next_smaller s.shown s.above));
         above = above_next s.above;
       } in
-      (record { here = here; behind = one s refl }, placed-after x dimension row here)
+      (record { here = here; behind = one s refl }, placed_after x dimension row here)
 
-  pub row-placed : All (PlaceShown ws) (places (base_at ws) (dimensions_at ws) (standing_row ws))
+  pub row_placed : All (PlaceShown ws) (places (base_at ws) (dimensions_at ws) (standing_row ws))
   unfolding places
-  row-placed =
-      let head : Stands ws head_node 0 (standing_row ws) = record { shown = head-shown ws a; dimension = of_head; above = row-above } in
-      (record { here = head; behind = none refl refl }, placed-after head_node 0 (standing_row ws) head)
+  row_placed =
+      let head : Stands ws head_node 0 (standing_row ws) = record { shown = head_shown ws a; dimension = of_head; above = row_above } in
+      (record { here = head; behind = none refl refl }, placed_after head_node 0 (standing_row ws) head)

@@ -20,7 +20,7 @@ use Rattle.meaning.specs.Sentences.{Free, Standing, AList}
 use Rattle.meaning.proofs.Rows.AscendingRow.{Asc}
 use Rattle.meaning.proofs.Rows.Places.{key_of_has}
 use Rattle.meaning.proofs.Cells.Placed.{standing_not_free}
-use Rattle.meaning.proofs.BothWays.ConverseKeys.{head-stands, free-or-standing}
+use Rattle.meaning.proofs.BothWays.ConverseKeys.{head_stands, free_or_standing}
 
 -- A node put in its place
 
@@ -117,10 +117,10 @@ standing_row ws = row_from ws 1 (cells_at ws - 1)
 
 module _ (ws : List ℕ) (a : AList ws) where
   -- the head owes nothing
-  pub head-shown : Shown ws head_node
-  head-shown =
+  pub head_shown : Shown ws head_node
+  head_shown =
       record {
-        standing = head-stands ws a;
+        standing = head_stands ws a;
         key = sym a.head.0;
         value = sym a.head.1.0;
         marked = sym a.head.1.1;
@@ -130,45 +130,45 @@ module _ (ws : List ℕ) (a : AList ws) where
     where
       at : Dec (owed_at ws 0 ≡ 0) → owed_at ws 0 ≡ 0
       at (yes e) = e
-      at (no ne) = absurd (let h = (a.debts 0 (head-stands ws a) (omega arith)).not_head in omega arith)
+      at (no ne) = absurd (let h = (a.debts 0 (head_stands ws a) (omega arith)).not_head in omega arith)
 
   -- the first of the cells is free, and no node, or standing, and put to the others
-  row-cases : (P : List Node → Type 0) (c n : ℕ) → c < cells_at ws → (Free ws c → P (row_from ws (suc c) n)) →
+  row_cases : (P : List Node → Type 0) (c n : ℕ) → c < cells_at ws → (Free ws c → P (row_from ws (suc c) n)) →
       (Standing ws c → P (put (node_in ws c) (row_from ws (suc c) n))) → P (row_from ws c (suc n))
   unfolding row_from
-  row-cases P c n h free standing =
+  row_cases P c n h free standing =
       ⊎_elim
       (λ f. rw (eq-eqb (mark_at ws c) 0 f.mark) (free f))
       (λ st. rw (ne_eqb (mark_at ws c) 0 (λ e. standing_not_free st (record { cell = h; mark = e }))) (standing st))
-      (free-or-standing ws a c h)
+      (free_or_standing ws a c h)
 
   -- the nodes are as the words have them, and their cells are among the n
-  pub row-shown : (c n : ℕ) → c + n ≤ cells_at ws → All (λ x. Shown ws x × (c ≤ x.cell)) (row_from ws c n)
+  pub row_shown : (c n : ℕ) → c + n ≤ cells_at ws → All (λ x. Shown ws x × (c ≤ x.cell)) (row_from ws c n)
   unfolding row_from
-  row-shown c zero h = tt
-  row-shown c (suc n) h =
+  row_shown c zero h = tt
+  row_shown c (suc n) h =
       let P : Node → Type 0 = λ x. Shown ws x × (c ≤ x.cell) in
       let rest = row_from ws (suc c) n in
-      let more : All P rest = all_map (λ x s. (s.0, let k = s.1 in omega arith)) rest (row-shown (suc c) n (omega arith)) in
-      row-cases (All P) c n (omega arith) (λ f. more) (λ st. put_all P (node_in ws c) rest (node_shown ws c st, omega arith) more)
+      let more : All P rest = all_map (λ x s. (s.0, let k = s.1 in omega arith)) rest (row_shown (suc c) n (omega arith)) in
+      row_cases (All P) c n (omega arith) (λ f. more) (λ st. put_all P (node_in ws c) rest (node_shown ws c st, omega arith) more)
 
   -- no two standing cells have the same key
-  pub row-ascends : (c n : ℕ) → 0 < c → c + n ≤ cells_at ws → Asc 0 (row_from ws c n)
+  pub row_ascends : (c n : ℕ) → 0 < c → c + n ≤ cells_at ws → Asc 0 (row_from ws c n)
   unfolding row_from
-  row-ascends c zero pos h = tt
-  row-ascends c (suc n) pos h =
+  row_ascends c zero pos h = tt
+  row_ascends c (suc n) pos h =
       let rest = row_from ws (suc c) n in
-      let more = row-ascends (suc c) n (omega arith) (omega arith) in
-      row-cases (Asc 0) c n (omega arith) (λ f. more)
+      let more = row_ascends (suc c) n (omega arith) (omega arith) in
+      row_cases (Asc 0) c n (omega arith) (λ f. more)
       (λ st. put_ascends 0 (node_in ws c) rest (a.keys c st pos).0
       (all_map (λ y s e. let q = a.distinct c y.cell st s.0.standing (e ∙ s.0.key) in let k = s.1 in omega arith) rest
-      (row-shown (suc c) n (omega arith)))
+      (row_shown (suc c) n (omega arith)))
       more)
 
   -- each standing one of the n cells is there once
-  pub row-once : (y c n : ℕ) → Standing ws y → c ≤ y → y < c + n → c + n ≤ cells_at ws → occurrences y (map (λ x. x.cell) (row_from ws c n)) ≡ 1
-  row-once y c zero st low high h = absurd (omega arith)
-  row-once y c (suc n) st low high h = at (λ ne. row-once y (suc c) n st (omega arith) (omega arith) (omega arith))
+  pub row_once : (y c n : ℕ) → Standing ws y → c ≤ y → y < c + n → c + n ≤ cells_at ws → occurrences y (map (λ x. x.cell) (row_from ws c n)) ≡ 1
+  row_once y c zero st low high h = absurd (omega arith)
+  row_once y c (suc n) st low high h = at (λ ne. row_once y (suc c) n st (omega arith) (omega arith) (omega arith))
     where
       cells : List Node → List ℕ
       cells row = map (λ x. x.cell) row
@@ -178,7 +178,7 @@ module _ (ws : List ℕ) (a : AList ws) where
 
       none : c ≡ y → occurrences y (cells rest) ≡ 0
       none q = none_occurs y (cells rest) (all_mapped (λ x. y ≡ x → ⊥) (λ x. x.cell) rest
-          (all_map (λ x s e. let k = s.1 in omega arith) rest (row-shown (suc c) n (omega arith))))
+          (all_map (λ x s e. let k = s.1 in omega arith) rest (row_shown (suc c) n (omega arith))))
 
       with_first : ((c ≡ y → ⊥) → occurrences y (cells rest) ≡ 1) → Dec (c ≡ y) → occurrences y (c ∷ cells rest) ≡ 1
       with_first more (yes q) = occurrences_here y c (cells rest) q ∙ ap suc (none q)
@@ -186,6 +186,6 @@ module _ (ws : List ℕ) (a : AList ws) where
 
       at : ((c ≡ y → ⊥) → occurrences y (cells rest) ≡ 1) → occurrences y (cells (row_from ws c (suc n))) ≡ 1
       at more =
-          row-cases (λ row. occurrences y (cells row) ≡ 1) c n (omega arith)
+          row_cases (λ row. occurrences y (cells row) ≡ 1) c n (omega arith)
           (λ f. more (λ e. standing_not_free (subst (Standing ws) (sym e) st) f))
           (λ t. put_occurrences y (node_in ws c) rest ∙ with_first more (ℕ_discrete c y))

@@ -23,9 +23,9 @@ use Rattle.meaning.specs.Sentences.{shared_at, Free, Standing, NextLarger, AList
 use Rattle.meaning.proofs.Pictures.State.{cells_in, Debt, Sound}
 use Rattle.meaning.proofs.Pictures.Picture.{first_has}
 use Rattle.meaning.proofs.Cells.Placed.{standing_not_free}
-use Rattle.meaning.proofs.BothWays.ConverseKeys.{next-larger-unique, dimension-unique, head-stands, free-or-standing}
-use Rattle.meaning.proofs.BothWays.ConverseRow.{Shown, unowing_shown, standing_row, shown_key, head-shown, row-shown, row-once}
-use Rattle.meaning.proofs.BothWays.ConversePlaces.{Above, above_next_larger, Stands, PlaceShown, row-above, shown-shared, row-placed}
+use Rattle.meaning.proofs.BothWays.ConverseKeys.{next_larger_unique, dimension_unique, head_stands, free_or_standing}
+use Rattle.meaning.proofs.BothWays.ConverseRow.{Shown, unowing_shown, standing_row, shown_key, head_shown, row_shown, row_once}
+use Rattle.meaning.proofs.BothWays.ConversePlaces.{Above, above_next_larger, Stands, PlaceShown, row_above, shown_shared, row_placed}
 
 -- The state
 
@@ -46,8 +46,8 @@ mark_dead false e = refl
 module _ (ws : List ℕ) (a : AList ws) where
   -- Cells
 
-  cells-once : (y : ℕ) → 0 < y → y < cells_at ws → occurrences y (cells_in (state_of ws a)) ≡ 1
-  cells-once y pos less = ⊎_elim free standing (free-or-standing ws a y less)
+  cells_once : (y : ℕ) → 0 < y → y < cells_at ws → occurrences y (cells_in (state_of ws a)) ≡ 1
+  cells_once y pos less = ⊎_elim free standing (free_or_standing ws a y less)
     where
       row : List ℕ
       row = map (λ x. x.cell) (standing_row ws)
@@ -58,7 +58,7 @@ module _ (ws : List ℕ) (a : AList ws) where
       free : Free ws y → occurrences y (row ++ chain) ≡ 1
       free f =
           let none = none_occurs y row (all_mapped (λ x. y ≡ x → ⊥) (λ x. x.cell) (standing_row ws)
-          (all_map (λ x s e. standing_not_free (subst (Standing ws) (sym e) s.standing) f) (standing_row ws) (row-above ws a).shown)) in
+          (all_map (λ x s e. standing_not_free (subst (Standing ws) (sym e) s.standing) f) (standing_row ws) (row_above ws a).shown)) in
           omega (arith, occurrences_append y row chain, a.free_chain.once y f)
 
       unchained : Standing ws y → Dec (occurrences y chain ≡ 0) → occurrences y chain ≡ 0
@@ -68,68 +68,68 @@ module _ (ws : List ℕ) (a : AList ws) where
       standing : Standing ws y → occurrences y (row ++ chain) ≡ 1
       standing st =
           let none = unchained st (ℕ_discrete (occurrences y chain) 0) in
-          let one = row-once ws a y 1 (cells_at ws - 1) st pos (omega arith) (omega arith) in
+          let one = row_once ws a y 1 (cells_at ws - 1) st pos (omega arith) (omega arith) in
           omega (arith, occurrences_append y row chain)
 
-  free-positive : (y : ℕ) → Free ws y → 0 < y
-  free-positive y f = at (ℕ_discrete 0 y)
+  free_positive : (y : ℕ) → Free ws y → 0 < y
+  free_positive y f = at (ℕ_discrete 0 y)
     where
       at : Dec (0 ≡ y) → 0 < y
-      at (yes e) = absurd (standing_not_free (subst (Standing ws) e (head-stands ws a)) f)
+      at (yes e) = absurd (standing_not_free (subst (Standing ws) e (head_stands ws a)) f)
       at (no ne) = omega arith
 
-  cells-range : All (λ c. (0 < c) × (c < cells_at ws)) (cells_in (state_of ws a))
-  cells-range =
+  cells_range : All (λ c. (0 < c) × (c < cells_at ws)) (cells_in (state_of ws a))
+  cells_range =
       let P : ℕ → Type 0 = λ c. (0 < c) × (c < cells_at ws) in
       let chain = a.free_chain.chain in
       let least = a.count.0 in
       all_append P (map (λ x. x.cell) (standing_row ws)) chain
       (all_mapped P (λ x. x.cell) (standing_row ws) (all_map (λ x s. (s.1, s.0.standing.cell)) (standing_row ws)
-      (row-shown ws a 1 (cells_at ws - 1) (omega arith))))
-      (all_map (λ c h. let f = a.free_chain.no_other c h in (free-positive c f, f.cell)) chain (all_occur chain))
+      (row_shown ws a 1 (cells_at ws - 1) (omega arith))))
+      (all_map (λ c h. let f = a.free_chain.no_other c h in (free_positive c f, f.cell)) chain (all_occur chain))
 
   -- a standing cell is the head or in the row
-  pub standing-occurs : (y : ℕ) → Standing ws y → 0 < occurrences y (0 ∷ map (λ x. x.cell) (standing_row ws))
-  standing-occurs y st = at (ℕ_discrete 0 y)
+  pub standing_occurs : (y : ℕ) → Standing ws y → 0 < occurrences y (0 ∷ map (λ x. x.cell) (standing_row ws))
+  standing_occurs y st = at (ℕ_discrete 0 y)
     where
       row : List ℕ
       row = map (λ x. x.cell) (standing_row ws)
 
       at : Dec (0 ≡ y) → 0 < occurrences y (0 ∷ row)
       at (yes e) = let h = occurrences_here y 0 row e in omega arith
-      at (no ne) = let less = st.cell in let h = row-once ws a y 1 (cells_at ws - 1) st (omega arith) (omega arith) (omega arith) in
+      at (no ne) = let less = st.cell in let h = row_once ws a y 1 (cells_at ws - 1) st (omega arith) (omega arith) (omega arith) in
           let m = occurrences_more y 0 row in omega arith
 
   pub position_key_lem : position_key (state_of ws a) ≡ key_at ws (position_at ws)
-  position_key_lem = shown_key ws (position_at ws) (head_node ∷ standing_row ws) (head-shown ws a, (row-above ws a).shown)
-      (standing-occurs (position_at ws) a.position)
+  position_key_lem = shown_key ws (position_at ws) (head_node ∷ standing_row ws) (head_shown ws a, (row_above ws a).shown)
+      (standing_occurs (position_at ws) a.position)
 
   -- Debts
 
-  owed-first : (n : Node) (later : List Node) (c : ℕ) → Shown ws n → Above ws n.key later → NextLarger ws n.cell c →
+  owed_first : (n : Node) (later : List Node) (c : ℕ) → Shown ws n → Above ws n.key later → NextLarger ws n.cell c →
       (0 < length later) × (c ≡ (first_of later).cell)
   unfolding occurrences
-  owed-first n [] c s r p = absurd (let h = r.complete c p.standing (let k = s.key in let l = p.larger in omega arith) in omega arith)
-  owed-first n (x ∷ later) c s r p = (omega arith, next-larger-unique ws a n.cell c x.cell p (above_next_larger s r))
+  owed_first n [] c s r p = absurd (let h = r.complete c p.standing (let k = s.key in let l = p.larger in omega arith) in omega arith)
+  owed_first n (x ∷ later) c s r p = (omega arith, next_larger_unique ws a n.cell c x.cell p (above_next_larger s r))
 
-  pub debt-shown : (n : Node) (e : ℕ) (later : List Node) → Stands ws n e later → n.owes ≡ true → DebtShown ws n e later
-  debt-shown n e later s o =
+  pub debt_shown : (n : Node) (e : ℕ) (later : List Node) → Stands ws n e later → n.owes ≡ true → DebtShown ws n e later
+  debt_shown n e later s o =
       let m = a.debts n.cell s.shown.standing (s.shown.owing o) in
-      let first = owed-first n later (owed_at ws n.cell) s.shown s.above m.owed in
+      let first = owed_first n later (owed_at ws n.cell) s.shown s.above m.owed in
       let shown = first_has (Shown ws) later s.above.shown first.0 in
       record {
         followed = first.0;
         owed = first.1;
-        low = dimension-unique ws a m.low s.dimension;
-        high = m.high ∙ ap (shared_at ws n.cell) first.1 ∙ sym (shown-shared ws a s.shown shown);
+        low = dimension_unique ws a m.low s.dimension;
+        high = m.high ∙ ap (shared_at ws n.cell) first.1 ∙ sym (shown_shared ws a s.shown shown);
       }
 
-  debt-sound : (n : Place) → PlaceShown ws n → n.node.owes ≡ true → Debt (base_at ws) (dimensions_at ws) n
-  debt-sound n p o =
+  debt_sound : (n : Place) → PlaceShown ws n → n.node.owes ≡ true → Debt (base_at ws) (dimensions_at ws) n
+  debt_sound n p o =
       let x = n.node.cell in
       let s = p.here in
       let m = a.debts x s.shown.standing (s.shown.owing o) in
-      let d = debt-shown n.node n.dimension n.later s o in
+      let d = debt_shown n.node n.dimension n.later s o in
       record {
         later = d.followed;
         unowing = unowing_shown (first_of n.later) (first_has (Shown ws) n.later s.above.shown d.followed)
@@ -137,12 +137,12 @@ module _ (ws : List ℕ) (a : AList ws) where
         lower = (let h = m.low_below_high in let l = d.low in let k = d.high in omega arith);
       }
 
-  pub state-sound : Sound (state_of ws a)
-  state-sound =
+  pub state_sound : Sound (state_of ws a)
+  state_sound =
       let s = state_of ws a in
       let C = cells_at ws in
       let row = standing_row ws in
-      let shown = (row-above ws a).shown in
+      let shown = (row_above ws a).shown in
       let least = a.count.0 in
       record {
         ranges =
@@ -155,16 +155,16 @@ module _ (ws : List ℕ) (a : AList ws) where
               cells_most = a.count.1;
             };
         base = base_unique a.base (base_is (dimensions_at ws) (largest_at ws) (let h = a.dimensions.0 in omega arith));
-        ascends = (row-above ws a).ascends;
+        ascends = (row_above ws a).ascends;
         keys = all_map (λ x t. (let k = t.0.key in let l = t.1 in let h = (a.keys x.cell t.0.standing l).1 in omega arith)) row
-            (row-shown ws a 1 (C - 1) (omega arith));
-        count = each_once 1 (C - 1) (cells_in s) (all_map (λ c h. (h.0, (let k = h.1 in omega arith))) (cells_in s) cells-range)
-            (λ y low high. cells-once y low (omega arith));
-        range = cells-range;
-        once = all_map (λ c h. cells-once c h.0 h.1) (cells_in s) cells-range;
+            (row_shown ws a 1 (C - 1) (omega arith));
+        count = each_once 1 (C - 1) (cells_in s) (all_map (λ c h. (h.0, (let k = h.1 in omega arith))) (cells_in s) cells_range)
+            (λ y low high. cells_once y low (omega arith));
+        range = cells_range;
+        once = all_map (λ c h. cells_once c h.0 h.1) (cells_in s) cells_range;
         values = all_map (λ x t e. t.value ∙ a.dead_value x.cell t.standing.cell (sym t.marked ∙ ap mark e)) row shown;
-        debts = all_map debt-sound (places (base_at ws) (dimensions_at ws) row) (row-placed ws a);
-        position = standing-occurs (position_at ws) a.position;
+        debts = all_map debt_sound (places (base_at ws) (dimensions_at ws) row) (row_placed ws a);
+        position = standing_occurs (position_at ws) a.position;
         dead = all_map (λ x t h. mark_dead x.live (t.marked ∙ a.passed_dead x.cell t.standing
             (let k = t.key in let p = position_key_lem in omega arith))) row shown;
       }

@@ -42,29 +42,29 @@ module _ (b D : ℕ) (Q : Place → Type 0) where
       Next b D (place a e before f (x ∷ row)) (place x (shared b D a.key x.key) a e row)
   next_is x a e before f row = record { before = refl; before_dimension = refl; dimension = refl; later = refl }
 
-  followed-after : (a : Node) (e : ℕ) (before : Node) (f : ℕ) (row : List Node) → All Q (places_after b D a e row) →
+  followed_after_lem : (a : Node) (e : ℕ) (before : Node) (f : ℕ) (row : List Node) → All Q (places_after b D a e row) →
       All (Followed b D Q) (place a e before f row ∷ places_after b D a e row)
   unfolding places_after
-  followed-after a e before f [] all = (last refl, tt)
-  followed-after a e before f (x ∷ row) all =
+  followed_after_lem a e before f [] all = (last refl, tt)
+  followed_after_lem a e before f (x ∷ row) all =
       let d = shared b D a.key x.key in
-      (followed (place x d a e row) all.0 (next_is x a e before f row), followed-after x d a e row all.1)
+      (followed (place x d a e row) all.0 (next_is x a e before f row), followed_after_lem x d a e row all.1)
 
-  led-after : (top : List Node) (a : Node) (e : ℕ) (before : Node) (f : ℕ) (row : List Node) →
+  led_after : (top : List Node) (a : Node) (e : ℕ) (before : Node) (f : ℕ) (row : List Node) →
       Q (place a e before f row) → All Q (places_after b D a e row) → All (Led b D Q top) (places_after b D a e row)
   unfolding places_after
-  led-after top a e before f [] here all = tt
-  led-after top a e before f (x ∷ row) here all =
+  led_after top a e before f [] here all = tt
+  led_after top a e before f (x ∷ row) here all =
       let d = shared b D a.key x.key in
-      (led (place a e before f (x ∷ row)) here (next_is x a e before f row), led-after top x d a e row all.0 all.1)
+      (led (place a e before f (x ∷ row)) here (next_is x a e before f row), led_after top x d a e row all.0 all.1)
 
-  pub places-followed : (row : List Node) → All Q (places b D row) → All (Followed b D Q) (places b D row)
+  pub places_followed : (row : List Node) → All Q (places b D row) → All (Followed b D Q) (places b D row)
   unfolding places
-  places-followed row all = followed-after head_node 0 head_node 0 row all.1
+  places_followed row all = followed_after_lem head_node 0 head_node 0 row all.1
 
-  pub places-led : (row : List Node) → All Q (places b D row) → All (Led b D Q row) (places b D row)
+  pub places_led : (row : List Node) → All Q (places b D row) → All (Led b D Q row) (places b D row)
   unfolding places
-  places-led row all = (head refl, led-after row head_node 0 head_node 0 row all.0 all.1)
+  places_led row all = (head refl, led_after row head_node 0 head_node 0 row all.0 all.1)
 
 -- Order
 
@@ -90,36 +90,36 @@ in_order_compared (p ∷ ps) o =
     ((same refl, all_map (λ q l. later l) ps o.0), all_zip (λ q l more. (earlier l, more)) ps o.0 (in_order_compared ps o.1))
 
 module _ (b D : ℕ) where
-  all-later : (key : ℕ) (top : List Node) (a : Node) (e : ℕ) (row : List Node) → key ≤ a.key → Asc a.key row → All (λ y. Memᴰ y top) row →
+  all_later : (key : ℕ) (top : List Node) (a : Node) (e : ℕ) (row : List Node) → key ≤ a.key → Asc a.key row → All (λ y. Memᴰ y top) row →
       All (Later key top) (places_after b D a e row)
   unfolding places_after
-  all-later key top a e [] h asc m = tt
-  all-later key top a e (x ∷ row) h asc m =
+  all_later key top a e [] h asc m = tt
+  all_later key top a e (x ∷ row) h asc m =
       let k = asc.0 in
       let d = shared b D a.key x.key in
-      (record { member = m.0; up_to = h; larger = omega arith }, all-later key top x d row (omega arith) asc.1 m.1)
+      (record { member = m.0; up_to = h; larger = omega arith }, all_later key top x d row (omega arith) asc.1 m.1)
 
-  in-order-after : (a : Node) (e : ℕ) (before : Node) (f : ℕ) (row : List Node) → Asc a.key row →
+  in_order_after : (a : Node) (e : ℕ) (before : Node) (f : ℕ) (row : List Node) → Asc a.key row →
       InOrder (place a e before f row ∷ places_after b D a e row)
   unfolding places_after
-  in-order-after a e before f [] asc = (tt, tt)
-  in-order-after a e before f (x ∷ row) asc =
+  in_order_after a e before f [] asc = (tt, tt)
+  in_order_after a e before f (x ∷ row) asc =
       let d = shared b D a.key x.key in
-      (all-later a.key (x ∷ row) a e (x ∷ row) (omega arith) asc (members (x ∷ row)), in-order-after x d a e row asc.1)
+      (all_later a.key (x ∷ row) a e (x ∷ row) (omega arith) asc (members (x ∷ row)), in_order_after x d a e row asc.1)
 
   -- of two places of an ascending row, one is later than the other, or they are the same
-  pub places-compared : (row : List Node) → Asc 0 row → All (λ p. All (λ q. Compared p q) (places b D row)) (places b D row)
+  pub places_compared : (row : List Node) → Asc 0 row → All (λ p. All (λ q. Compared p q) (places b D row)) (places b D row)
   unfolding places
-  places-compared row asc = in_order_compared (places b D row) (in-order-after head_node 0 head_node 0 row asc)
+  places_compared row asc = in_order_compared (places b D row) (in_order_after head_node 0 head_node 0 row asc)
 
-  ascends-after : (a : Node) (e : ℕ) (row : List Node) → Asc a.key row → All (λ p. Asc p.node.key p.later) (places_after b D a e row)
+  ascends_after : (a : Node) (e : ℕ) (row : List Node) → Asc a.key row → All (λ p. Asc p.node.key p.later) (places_after b D a e row)
   unfolding places_after
-  ascends-after a e [] asc = tt
-  ascends-after a e (x ∷ row) asc = (asc.1, ascends-after x (shared b D a.key x.key) row asc.1)
+  ascends_after a e [] asc = tt
+  ascends_after a e (x ∷ row) asc = (asc.1, ascends_after x (shared b D a.key x.key) row asc.1)
 
-  pub places-ascend : (row : List Node) → Asc 0 row → All (λ p. Asc p.node.key p.later) (places b D row)
+  pub places_ascend : (row : List Node) → Asc 0 row → All (λ p. Asc p.node.key p.later) (places b D row)
   unfolding places
-  places-ascend row asc = (asc, ascends-after head_node 0 row asc)
+  places_ascend row asc = (asc, ascends_after head_node 0 row asc)
 
 -- The least of some nodes
 
@@ -129,13 +129,13 @@ pub data Least (P : Node → Type 0) (row : List Node) : ℕ → Type 0 where
   nowhere : All (λ z. P z → ⊥) row → Least P row 0
 
 module _ (P : Node → Type 0) where
-  least-here : (y : Node) (row : List Node) → Asc y.key row → P y → Least P (y ∷ row) y.cell
-  least-here y row asc h =
+  least_here : (y : Node) (row : List Node) → Asc y.key row → P y → Least P (y ∷ row) y.cell
+  least_here y row asc h =
       least y (Memᴰ.head refl) h ((λ q. omega arith), all_map (λ z k q. omega arith) row (asc_above y.key row asc))
 
-  least-past : (y : Node) (row : List Node) {c : ℕ} → (P y → ⊥) → Least P row c → Least P (y ∷ row) c
-  least-past y row never (least z m h a) = least z (Memᴰ.tail m) h ((λ q. absurd (never q)), a)
-  least-past y row never (nowhere a) = nowhere (never, a)
+  least_past : (y : Node) (row : List Node) {c : ℕ} → (P y → ⊥) → Least P row c → Least P (y ∷ row) c
+  least_past y row never (least z m h a) = least z (Memᴰ.tail m) h ((λ q. absurd (never q)), a)
+  least_past y row never (nowhere a) = nowhere (never, a)
 
 -- the node shares exactly d coordinates with a key, or at least n
 abbrev pub SharesExactly : ℕ → ℕ → ℕ → ℕ → Node → Type 0
@@ -145,26 +145,26 @@ abbrev pub SharesAtLeast : ℕ → ℕ → ℕ → ℕ → Node → Type 0
 SharesAtLeast b D key n y = n ≤ shared b D y.key key
 
 module _ (b D key : ℕ) where
-  pub first-sharing : (d low : ℕ) (row : List Node) → Asc low row → Least (SharesExactly b D key d) row (first_sharing b D key d row)
+  pub first_sharing_lem : (d low : ℕ) (row : List Node) → Asc low row → Least (SharesExactly b D key d) row (first_sharing b D key d row)
   unfolding first_sharing
-  first-sharing d low [] asc = nowhere tt
-  first-sharing d low (y ∷ row) asc = at (ℕ_discrete (shared b D key y.key) d) (first-sharing d y.key row asc.1)
+  first_sharing_lem d low [] asc = nowhere tt
+  first_sharing_lem d low (y ∷ row) asc = at (ℕ_discrete (shared b D key y.key) d) (first_sharing_lem d y.key row asc.1)
     where
       at : Dec (shared b D key y.key ≡ d) → Least (SharesExactly b D key d) row (first_sharing b D key d row) →
           Least (SharesExactly b D key d) (y ∷ row) (first_sharing b D key d (y ∷ row))
-      at (yes e) more = rw (eq-eqb (shared b D key y.key) d e) (least-here (SharesExactly b D key d) y row asc.1 e)
-      at (no ne) more = rw (ne_eqb (shared b D key y.key) d ne) (least-past (SharesExactly b D key d) y row ne more)
+      at (yes e) more = rw (eq-eqb (shared b D key y.key) d e) (least_here (SharesExactly b D key d) y row asc.1 e)
+      at (no ne) more = rw (ne_eqb (shared b D key y.key) d ne) (least_past (SharesExactly b D key d) y row ne more)
 
-  first-with-more : (n : ℕ) (y : Node) (row : List Node) → Asc y.key row → Least (SharesAtLeast b D key n) row (first_with b D key n row) →
+  first_with_more : (n : ℕ) (y : Node) (row : List Node) → Asc y.key row → Least (SharesAtLeast b D key n) row (first_with b D key n row) →
       Least (SharesAtLeast b D key n) (y ∷ row) (first_with b D key n (y ∷ row))
   unfolding first_with
-  first-with-more n y row asc more = at (dec_lt (shared b D y.key key) n)
+  first_with_more n y row asc more = at (dec_lt (shared b D y.key key) n)
     where
       at : Dec (shared b D y.key key < n) → Least (SharesAtLeast b D key n) (y ∷ row) (first_with b D key n (y ∷ row))
-      at (yes h) = rw (lt-ltb (shared b D y.key key) n h) (least-past (SharesAtLeast b D key n) y row (λ k. omega arith) more)
-      at (no h) = rw (le-ltb (shared b D y.key key) n (omega arith)) (least-here (SharesAtLeast b D key n) y row asc (omega arith))
+      at (yes h) = rw (lt-ltb (shared b D y.key key) n h) (least_past (SharesAtLeast b D key n) y row (λ k. omega arith) more)
+      at (no h) = rw (le-ltb (shared b D y.key key) n (omega arith)) (least_here (SharesAtLeast b D key n) y row asc (omega arith))
 
-  pub first-with : (n : ℕ) (y : Node) (row : List Node) → Asc y.key row → Least (SharesAtLeast b D key n) (y ∷ row) (first_with b D key n (y ∷ row))
+  pub first_with_lem : (n : ℕ) (y : Node) (row : List Node) → Asc y.key row → Least (SharesAtLeast b D key n) (y ∷ row) (first_with b D key n (y ∷ row))
   unfolding first_with
-  first-with n y [] asc = first-with-more n y [] asc (nowhere tt)
-  first-with n y (z ∷ row) asc = first-with-more n y (z ∷ row) asc (first-with n z row asc.1)
+  first_with_lem n y [] asc = first_with_more n y [] asc (nowhere tt)
+  first_with_lem n y (z ∷ row) asc = first_with_more n y (z ∷ row) asc (first_with_lem n z row asc.1)

@@ -22,13 +22,13 @@ use Rattle.meaning.proofs.Rows.AscendingRow.{Asc, asc_above}
 use Rattle.meaning.proofs.Rows.Keys.{shared_agreed, coordinate_less, coordinate_larger}
 use Rattle.meaning.proofs.Pictures.State.{Sound, base_positive, base_above}
 use Rattle.meaning.proofs.Pictures.Picture.{place_found, places_later}
-use Rattle.meaning.proofs.BothWays.SentencesRow.{Next, Followed, Led, places-followed, places-led, Later, Compared, places-compared, places-ascend}
-use Rattle.meaning.proofs.BothWays.SentencesRow.{Least, SharesExactly, first-sharing}
+use Rattle.meaning.proofs.BothWays.SentencesRow.{Next, Followed, Led, places_followed, places_led, Later, Compared, places_compared, places_ascend}
+use Rattle.meaning.proofs.BothWays.SentencesRow.{Least, SharesExactly, first_sharing_lem}
 use Rattle.meaning.proofs.BothWays.SentencesRow.Followed.{last, followed}
 use Rattle.meaning.proofs.BothWays.SentencesRow.Led.{head, led}
 use Rattle.meaning.proofs.BothWays.SentencesRow.Compared.{same, later, earlier}
 use Rattle.meaning.proofs.BothWays.SentencesRow.Least.{least, nowhere}
-use Rattle.meaning.proofs.Cells.Placed.{Placed, Own, placed-has, placed-cell, placed-most, place-key, place-standing, cell_standing, place-coordinate}
+use Rattle.meaning.proofs.Cells.Placed.{Placed, Own, placed_has, placed_cell, placed_most, place_key, place_standing, cell_standing, place_coordinate}
 
 -- q is the place after p; p is the head's or has a place before it; p is the last or has a place after it
 abbrev pub NextIn : State → Place → Place → Type 0
@@ -54,7 +54,7 @@ pub settled_first : (ws : List ℕ) (b D x key d : ℕ) (row : List Node) {e : �
     All (λ y. key_at ws y.cell ≡ y.key) row → All (λ y. SharesExactly b D key d y → LargerAt ws x d y.cell) row →
     ((P : ℕ → Type 0) → All (λ y. SharesExactly b D key d y → P y.cell) row → (z : ℕ) → LargerAt ws x d z → P z) →
     Settled ws x d (first_sharing b D key d row)
-settled_first ws b D x key d row dimension h asc keys larger has = at (first-sharing b D key d key row asc)
+settled_first ws b D x key d row dimension h asc keys larger has = at (first_sharing_lem b D key d key row asc)
   where
     at : {c : ℕ} → Least (SharesExactly b D key d) row c → Settled ws x d c
     at (least y m q all) =
@@ -73,68 +73,68 @@ settled_link_lem ws b D x p d dimension first = at (dec_le p.dimension d)
     at (no h) = rw (lt-leb p.dimension d (omega arith)) (below_dimension dimension (omega arith))
 
 module _ {s : State} (v : Sound s) where
-  pub places-placed : All (Own s) (places_of s s.row)
-  places-placed = all_map (λ p e. record { found = e }) (places_of s s.row) (place_found s v)
+  pub places_placed : All (Own s) (places_of s s.row)
+  places_placed = all_map (λ p e. record { found = e }) (places_of s s.row) (place_found s v)
 
   -- Keys
 
   pub key_below_lem : {x : ℕ} {p : Place} → Placed s x p → p.node.key < s.settings.base ^ s.settings.dimensions
-  key_below_lem here = omega (arith, placed-most v here, base_above s v)
+  key_below_lem here = omega (arith, placed_most v here, base_above s v)
 
-  pub placed-shared : {x y : ℕ} {p q : Place} → Placed s x p → Placed s y q →
+  pub placed_shared : {x y : ℕ} {p q : Place} → Placed s x p → Placed s y q →
       shared_at (picture s) x y ≡ shared s.settings.base s.settings.dimensions p.node.key q.node.key
   unfolding picture
-  placed-shared {p = p} {q = q} here there =
+  placed_shared {p = p} {q = q} here there =
       let b = s.settings.base in
       let D = s.settings.dimensions in
-      ap₂ (λ k l. agreed (coordinates b D k) (coordinates b D l)) (place-key v here) (place-key v there)
+      ap₂ (λ k l. agreed (coordinates b D k) (coordinates b D l)) (place_key v here) (place_key v there)
       ∙ sym (shared_agreed b D p.node.key q.node.key (base_positive s v) (key_below_lem here) (key_below_lem there))
 
-  pub placed-ascends : {x : ℕ} {p : Place} → Placed s x p → Asc p.node.key p.later
-  placed-ascends here =
-      placed-has here (λ p. Asc p.node.key p.later) (places-ascend s.settings.base s.settings.dimensions s.row v.ascends)
+  pub placed_ascends : {x : ℕ} {p : Place} → Placed s x p → Asc p.node.key p.later
+  placed_ascends here =
+      placed_has here (λ p. Asc p.node.key p.later) (places_ascend s.settings.base s.settings.dimensions s.row v.ascends)
 
-  pub placed-compared : {x y : ℕ} {p q : Place} → Placed s x p → Placed s y q → Compared p q
-  placed-compared {p = p} here there =
-      placed-has there (λ q. Compared p q)
-      (placed-has here (λ p. All (λ q. Compared p q) (places_of s s.row))
-      (places-compared s.settings.base s.settings.dimensions s.row v.ascends))
+  pub placed_compared : {x y : ℕ} {p q : Place} → Placed s x p → Placed s y q → Compared p q
+  placed_compared {p = p} here there =
+      placed_has there (λ q. Compared p q)
+      (placed_has here (λ p. All (λ q. Compared p q) (places_of s s.row))
+      (places_compared s.settings.base s.settings.dimensions s.row v.ascends))
 
   -- Neighbours
 
-  pub placed-led : {x : ℕ} {p : Place} → Placed s x p → LedIn s p
-  placed-led here =
-      placed-has here (LedIn s)
-      (places-led s.settings.base s.settings.dimensions (Own s) s.row places-placed)
+  pub placed_led : {x : ℕ} {p : Place} → Placed s x p → LedIn s p
+  placed_led here =
+      placed_has here (LedIn s)
+      (places_led s.settings.base s.settings.dimensions (Own s) s.row places_placed)
 
-  pub placed-followed : {x : ℕ} {p : Place} → Placed s x p → FollowedIn s p
-  placed-followed here =
-      placed-has here (FollowedIn s)
-      (places-followed s.settings.base s.settings.dimensions (Own s) s.row places-placed)
+  pub placed_followed : {x : ℕ} {p : Place} → Placed s x p → FollowedIn s p
+  placed_followed here =
+      placed_has here (FollowedIn s)
+      (places_followed s.settings.base s.settings.dimensions (Own s) s.row places_placed)
 
-  pub next-smaller : {x y : ℕ} {p q : Place} → Placed s x p → Placed s y q → NextIn s q p → NextSmaller (picture s) x y
-  next-smaller {x} {y} {p} {q} here there next =
+  pub next_smaller : {x y : ℕ} {p q : Place} → Placed s x p → Placed s y q → NextIn s q p → NextSmaller (picture s) x y
+  next_smaller {x} {y} {p} {q} here there next =
       record {
-        standing = place-standing v there;
-        smaller = omega (arith, (subst (Asc q.node.key) next.later (placed-ascends there)).0, place-key v here, place-key v there);
-        next = λ z stands less. let (r, found) = cell_standing s z stands in at z r found less (placed-compared found here);
+        standing = place_standing v there;
+        smaller = omega (arith, (subst (Asc q.node.key) next.later (placed_ascends there)).0, place_key v here, place_key v there);
+        next = λ z stands less. let (r, found) = cell_standing s z stands in at z r found less (placed_compared found here);
       }
     where
       at : (z : ℕ) (r : Place) → Placed s z r → key_at (picture s) z < key_at (picture s) x → Compared r p → key_at (picture s) z ≤ key_at (picture s) y
-      at z r found less (same e) = omega (arith, place-key v here, place-key v found, less, ap (λ q. q.node.key) e)
-      at z r found less (later l) = omega (arith, place-key v there, place-key v found, l.up_to, ap (λ e. e.key) next.before)
-      at z r found less (earlier l) = omega (arith, place-key v here, place-key v found, less, l.larger)
+      at z r found less (same e) = omega (arith, place_key v here, place_key v found, less, ap (λ q. q.node.key) e)
+      at z r found less (later l) = omega (arith, place_key v there, place_key v found, l.up_to, ap (λ e. e.key) next.before)
+      at z r found less (earlier l) = omega (arith, place_key v here, place_key v found, less, l.larger)
 
-  pub next-larger : {x y : ℕ} {p q : Place} → Placed s x p → Placed s y q → NextIn s p q → NextLarger (picture s) x y
-  next-larger {x} {y} {p} {q} here there next =
+  pub next_larger : {x y : ℕ} {p q : Place} → Placed s x p → Placed s y q → NextIn s p q → NextLarger (picture s) x y
+  next_larger {x} {y} {p} {q} here there next =
       record {
-        standing = place-standing v there;
-        larger = let h = ascends.0 in omega (arith, place-key v here, place-key v there);
-        next = λ z stands less. let (r, found) = cell_standing s z stands in at z r found less (placed-compared here found);
+        standing = place_standing v there;
+        larger = let h = ascends.0 in omega (arith, place_key v here, place_key v there);
+        next = λ z stands less. let (r, found) = cell_standing s z stands in at z r found less (placed_compared here found);
       }
     where
       ascends : Asc p.node.key (q.node ∷ q.later)
-      ascends = subst (Asc p.node.key) next.later (placed-ascends here)
+      ascends = subst (Asc p.node.key) next.later (placed_ascends here)
 
       all_from_lem : All (λ z. q.node.key ≤ z.key) p.later
       all_from_lem =
@@ -142,64 +142,64 @@ module _ {s : State} (v : Sound s) where
           (omega arith, all_map (λ z h. omega arith) q.later (asc_above q.node.key q.later ascends.1))
 
       at : (z : ℕ) (r : Place) → Placed s z r → key_at (picture s) x < key_at (picture s) z → Compared p r → key_at (picture s) y ≤ key_at (picture s) z
-      at z r found less (same e) = omega (arith, place-key v here, place-key v found, less, ap (λ q. q.node.key) e)
-      at z r found less (later l) = omega (arith, place-key v there, place-key v found, all_in (λ z. q.node.key ≤ z.key) l.member all_from_lem)
-      at z r found less (earlier l) = omega (arith, place-key v here, place-key v found, less, l.larger)
+      at z r found less (same e) = omega (arith, place_key v here, place_key v found, less, ap (λ q. q.node.key) e)
+      at z r found less (later l) = omega (arith, place_key v there, place_key v found, all_in (λ z. q.node.key ≤ z.key) l.member all_from_lem)
+      at z r found less (earlier l) = omega (arith, place_key v here, place_key v found, less, l.larger)
 
   -- the place before that of a cell that is not the head
   pub place_before_lem : {x : ℕ} {p : Place} → Placed s x p → 0 < x → (q : Place) × Placed s q.node.cell q × NextIn s q p
-  place_before_lem {x} {p} here h = at (placed-led here)
+  place_before_lem {x} {p} here h = at (placed_led here)
     where
       at : LedIn s p → (q : Place) × Placed s q.node.cell q × NextIn s q p
-      at (head e) = absurd (omega (arith, h, placed-cell here, ap (λ q. q.node.cell) e))
+      at (head e) = absurd (omega (arith, h, placed_cell here, ap (λ q. q.node.cell) e))
       at (led q there next) = (q, there, next)
 
   -- the place after that of a cell with later ones
   pub place_after : {x : ℕ} {p : Place} → Placed s x p → 0 < length p.later → (q : Place) × Placed s q.node.cell q × NextIn s p q
-  place_after {x} {p} here h = at (placed-followed here)
+  place_after {x} {p} here h = at (placed_followed here)
     where
       at : FollowedIn s p → (q : Place) × Placed s q.node.cell q × NextIn s p q
       at (last e) = absurd (omega (arith, h, ap length e))
       at (followed q there next) = (q, there, next)
 
   -- the standing cell of next smaller key
-  pub place-next-smaller : {x : ℕ} {p : Place} → Placed s x p → 0 < x → NextSmaller (picture s) x p.before.cell
-  place-next-smaller {x} here h =
+  pub place_next_smaller : {x : ℕ} {p : Place} → Placed s x p → 0 < x → NextSmaller (picture s) x p.before.cell
+  place_next_smaller {x} here h =
       let (q, there, next) = place_before_lem here h in
-      subst (NextSmaller (picture s) x) (sym (ap (λ y. y.cell) next.before)) (next-smaller here there next)
+      subst (NextSmaller (picture s) x) (sym (ap (λ y. y.cell) next.before)) (next_smaller here there next)
 
   -- How cells hang together 2: the dimension
-  pub place-dimension : {x : ℕ} {p : Place} → Placed s x p → Dimension (picture s) x p.dimension
-  place-dimension {x} {p} here = at (placed-led here)
+  pub place_dimension : {x : ℕ} {p : Place} → Placed s x p → Dimension (picture s) x p.dimension
+  place_dimension {x} {p} here = at (placed_led here)
     where
       at : LedIn s p → Dimension (picture s) x p.dimension
       at (head e) =
-          subst₂ (Dimension (picture s)) (sym (ap (λ q. q.node.cell) e) ∙ placed-cell here) (sym (ap (λ q. q.dimension) e)) of_head
+          subst₂ (Dimension (picture s)) (sym (ap (λ q. q.node.cell) e) ∙ placed_cell here) (sym (ap (λ q. q.dimension) e)) of_head
       at (led q there next) =
-          subst (Dimension (picture s) x) (placed-shared there here ∙ sym next.dimension) (of_other (next-smaller here there next))
+          subst (Dimension (picture s) x) (placed_shared there here ∙ sym next.dimension) (of_other (next_smaller here there next))
 
   -- Settled links
 
   -- each node of the row has a place, and so has each node later than a place
-  placed-after : (b D : ℕ) (a : Node) (e : ℕ) (row : List Node) → All (Own s) (places_after b D a e row) → All (HasPlace s) row
+  placed_after : (b D : ℕ) (a : Node) (e : ℕ) (row : List Node) → All (Own s) (places_after b D a e row) → All (HasPlace s) row
   unfolding places_after
-  placed-after b D a e [] all = tt
-  placed-after b D a e (x ∷ row) all = (record { place = _; placed = all.0; node = refl }, placed-after b D x (shared b D a.key x.key) row all.1)
+  placed_after b D a e [] all = tt
+  placed_after b D a e (x ∷ row) all = (record { place = _; placed = all.0; node = refl }, placed_after b D x (shared b D a.key x.key) row all.1)
 
-  pub row-placed : All (HasPlace s) s.row
+  pub row_placed : All (HasPlace s) s.row
   unfolding places
-  row-placed = placed-after s.settings.base s.settings.dimensions head_node 0 s.row places-placed.1
+  row_placed = placed_after s.settings.base s.settings.dimensions head_node 0 s.row places_placed.1
 
-  pub later-placed : {x : ℕ} {p : Place} → Placed s x p → All (HasPlace s) p.later
-  later-placed here =
-      placed-has here (λ p. All (HasPlace s) p.later)
-      (places_later (HasPlace s) s.settings.base s.settings.dimensions s.row row-placed)
+  pub later_placed : {x : ℕ} {p : Place} → Placed s x p → All (HasPlace s) p.later
+  later_placed here =
+      placed_has here (λ p. All (HasPlace s) p.later)
+      (places_later (HasPlace s) s.settings.base s.settings.dimensions s.row row_placed)
 
   -- what shares exactly d coordinates with a standing cell and is larger at d is a later one
-  larger-later : {x : ℕ} {p : Place} → Placed s x p → (d z : ℕ) (r : Place) → Placed s z r →
+  larger_later : {x : ℕ} {p : Place} → Placed s x p → (d z : ℕ) (r : Place) → Placed s z r →
       shared_at (picture s) x z ≡ d → coordinate_at (picture s) x d < coordinate_at (picture s) z d →
       SharesExactly s.settings.base s.settings.dimensions p.node.key d r.node × Later p.node.key p.later r
-  larger-later {x} {p} here d z r found shares larger = (exactly, at (placed-compared here found))
+  larger_later {x} {p} here d z r found shares larger = (exactly, at (placed_compared here found))
     where
       b : ℕ
       b = s.settings.base
@@ -208,10 +208,10 @@ module _ {s : State} (v : Sound s) where
       D = s.settings.dimensions
 
       exactly : shared b D p.node.key r.node.key ≡ d
-      exactly = sym (placed-shared here found) ∙ shares
+      exactly = sym (placed_shared here found) ∙ shares
 
       above : coordinate b D p.node.key d < coordinate b D r.node.key d
-      above = subst₂ (λ i j. i < j) (place-coordinate v here d) (place-coordinate v found d) larger
+      above = subst₂ (λ i j. i < j) (place_coordinate v here d) (place_coordinate v found d) larger
 
       at : Compared p r → Later p.node.key p.later r
       at (same e) = absurd (omega (arith, above, ap (λ q. coordinate b D q.node.key d) e))
@@ -224,9 +224,9 @@ module _ {s : State} (v : Sound s) where
           ))
 
   -- a later one that does is larger at d
-  later-larger : {x : ℕ} {p : Place} → Placed s x p → (d : ℕ) (y : Node) → HasPlace s y → p.node.key < y.key →
+  later_larger : {x : ℕ} {p : Place} → Placed s x p → (d : ℕ) (y : Node) → HasPlace s y → p.node.key < y.key →
       SharesExactly s.settings.base s.settings.dimensions p.node.key d y → LargerAt (picture s) x d y.cell
-  later-larger {x} {p} here d y stands above exactly =
+  later_larger {x} {p} here d y stands above exactly =
       let b = s.settings.base in
       let D = s.settings.dimensions in
       let there = stands.placed in
@@ -234,26 +234,26 @@ module _ {s : State} (v : Sound s) where
       let shares : shared b D p.node.key stands.place.node.key ≡ d = ap (shared b D p.node.key) key ∙ exactly in
       let less = coordinate_less b D p.node.key stands.place.node.key (base_positive s v) (key_below_lem here) (key_below_lem there) (omega arith) in
       record {
-        standing = place-standing v there;
-        shares = placed-shared here there ∙ shares;
+        standing = place_standing v there;
+        shares = placed_shared here there ∙ shares;
         larger =
-            subst₂ (λ i j. i < j) (sym (place-coordinate v here d)) (sym (place-coordinate v there d))
+            subst₂ (λ i j. i < j) (sym (place_coordinate v here d)) (sym (place_coordinate v there d))
             (subst (λ e. coordinate b D p.node.key e < coordinate b D stands.place.node.key e) shares less);
       }
 
   -- How cells hang together 3: the settled links
-  pub place-settled : {x : ℕ} {p : Place} → Placed s x p → (d : ℕ) →
+  pub place_settled : {x : ℕ} {p : Place} → Placed s x p → (d : ℕ) →
       Settled (picture s) x d (settled_link s.settings.base s.settings.dimensions p d)
-  place-settled {x} {p} here d =
-      settled_link_lem (picture s) b D x p d (place-dimension here) (λ h.
-      settled_first (picture s) b D x p.node.key d p.later (place-dimension here) h (placed-ascends here)
-      (all_map (λ y stands. place-key v stands.placed ∙ ap (λ e. e.key) stands.node) p.later (later-placed here))
-      (all_zip (λ y stands above exactly. later-larger here d y stands above exactly) p.later (later-placed here)
-      (asc_above p.node.key p.later (placed-ascends here)))
+  place_settled {x} {p} here d =
+      settled_link_lem (picture s) b D x p d (place_dimension here) (λ h.
+      settled_first (picture s) b D x p.node.key d p.later (place_dimension here) h (placed_ascends here)
+      (all_map (λ y stands. place_key v stands.placed ∙ ap (λ e. e.key) stands.node) p.later (later_placed here))
+      (all_zip (λ y stands above exactly. later_larger here d y stands above exactly) p.later (later_placed here)
+      (asc_above p.node.key p.later (placed_ascends here)))
       (λ P all z l.
       let (r, found) = cell_standing s z l.standing in
-      let (exactly, after) = larger-later here d z r found l.shares l.larger in
-      subst P (placed-cell found) (all_in (λ y. SharesExactly b D p.node.key d y → P y.cell) after.member all exactly)))
+      let (exactly, after) = larger_later here d z r found l.shares l.larger in
+      subst P (placed_cell found) (all_in (λ y. SharesExactly b D p.node.key d y → P y.cell) after.member all exactly)))
     where
       b : ℕ
       b = s.settings.base

@@ -24,9 +24,9 @@ use Rattle.meaning.proofs.Pictures.State.{Sound}
 use Rattle.meaning.proofs.Rows.Places.{asc_left, asc_right}
 use Rattle.meaning.proofs.Kept.KeepsState.{cells_positive, row_split, dead_front-dead, from_live-live, live_split, last_split, last_cases}
 use Rattle.meaning.proofs.Kept.KeepsSweep.{kept_by, swept_split, kept_asc, swept_dead, swept_sound}
-use Rattle.meaning.proofs.Cells.Placed.{Placed, placed-node, placed-cell, head_placed, place-key, place-value, place-mark, place-standing}
-use Rattle.meaning.proofs.Cells.Placed.{mark_one, free-cell-rest, cell_standing, cell_free, free-cell, place-unowing}
-use Rattle.meaning.proofs.BothWays.SentencesShape.{HasPlace, row-placed}
+use Rattle.meaning.proofs.Cells.Placed.{Placed, placed_node, placed_cell, head_placed, place_key, place_value, place_mark, place_standing}
+use Rattle.meaning.proofs.Cells.Placed.{mark_one, free_cell_rest, cell_standing, cell_free, free_cell_lem, place_unowing}
+use Rattle.meaning.proofs.BothWays.SentencesShape.{HasPlace, row_placed}
 use Rattle.meaning.proofs.BothWays.Sentences.{position_is, picture_sentences}
 use Rattle.meaning.proofs.Written.SweepFinish.{paid_owes_nothing}
 
@@ -43,13 +43,13 @@ swept_owes_nothing s v x h = at (place_of x (places_of (swept s) (swept s).row))
   where
     at : (o : Option Place) → place_of x (places_of (swept s) (swept s).row) ≡ o → OwesNothing (picture (swept s)) x
     at none e = (
-      free-cell-rest (swept s) x h e 3 (omega arith) (omega arith),
-      free-cell-rest (swept s) x h e 4 (omega arith) (omega arith),
-      free-cell-rest (swept s) x h e 5 (omega arith) (omega arith),
+      free_cell_rest (swept s) x h e 3 (omega arith) (omega arith),
+      free_cell_rest (swept s) x h e 4 (omega arith) (omega arith),
+      free_cell_rest (swept s) x h e 5 (omega arith) (omega arith),
     )
     at (some p) e =
         let here : Placed (swept s) x p = record { found = e } in
-        place-unowing (swept_sound s v) here (placed-node here (λ y. y.owes ≡ false) refl (swept_unowing s))
+        place_unowing (swept_sound s v) here (placed_node here (λ y. y.owes ≡ false) refl (swept_unowing s))
 
 -- The operations 6: what is freed
 
@@ -57,7 +57,7 @@ pub freed_free : (s : State) → Sound s → All (λ x. Free (picture (swept s))
 unfolding swept
 freed_free s v =
     let cells = map (λ x. x.cell) (freed_by s.row) in
-    all_map (λ x met. free-cell (swept_sound s v) x.cell (omega (arith, met, occurrences_reverse_aux x.cell cells s.free))) (freed_by s.row)
+    all_map (λ x met. free_cell_lem (swept_sound s v) x.cell (omega (arith, met, occurrences_reverse_aux x.cell cells s.free))) (freed_by s.row)
     (all_of_map (λ c. 0 < occurrences c cells) (λ x. x.cell) (freed_by s.row) (all_occur cells))
 
 -- Live nodes keep their cells, keys, values and marks
@@ -104,12 +104,12 @@ module _ {s : State} (v : Sound s) where
   sound : Sound (swept s)
   sound = swept_sound s v
 
-  front-ascends : Asc 0 (dead_front s.row)
-  front-ascends = asc_left 0 (dead_front s.row) (from_live s.row) (subst (Asc 0) (sym (row_split s.row)) v.ascends)
+  front_ascends : Asc 0 (dead_front s.row)
+  front_ascends = asc_left 0 (dead_front s.row) (from_live s.row) (subst (Asc 0) (sym (row_split s.row)) v.ascends)
 
-  freed-below : All (λ y. y.key < (target s).key) (freed_by s.row)
+  freed_below : All (λ y. y.key < (target s).key) (freed_by s.row)
   unfolding freed_by
-  freed-below = drop_below 0 (dead_front s.row) front-ascends
+  freed_below = drop_below 0 (dead_front s.row) front_ascends
 
   kept_above : All (λ y. (target s).key ≤ y.key) (kept_by s.row)
   kept_above =
@@ -122,13 +122,13 @@ module _ {s : State} (v : Sound s) where
       later : List Node
       later = from_live s.row
 
-  target-dead : (target s).live ≡ false
-  target-dead = last_cases (λ z last. z.live ≡ false) (λ x. x.live ≡ false) (dead_front s.row) (dead_front-dead s.row) refl (λ x h. h)
+  target_dead : (target s).live ≡ false
+  target_dead = last_cases (λ z last. z.live ≡ false) (λ x. x.live ≡ false) (dead_front s.row) (dead_front-dead s.row) refl (λ x h. h)
 
-  target-placed : HasPlace s (target s)
-  target-placed =
+  target_placed : HasPlace s (target s)
+  target_placed =
       last_cases (λ z last. HasPlace s z) (HasPlace s) (dead_front s.row)
-      (all_left (HasPlace s) (dead_front s.row) (from_live s.row) (subst (All (HasPlace s)) (sym (row_split s.row)) (row-placed v)))
+      (all_left (HasPlace s) (dead_front s.row) (from_live s.row) (subst (All (HasPlace s)) (sym (row_split s.row)) (row_placed v)))
       (record { place = head_place s.row; placed = head_placed s; node = refl })
       (λ x h. h)
 
@@ -150,10 +150,10 @@ module _ {s : State} (v : Sound s) where
   abbrev BelowLive : Node → Type 0
   BelowLive y = (z : Node) → HasPlace s z → z.live ≡ true → y.key < z.key
 
-  dead-up-to : All (λ y. BelowLive y → y.key ≤ (target s).key) s.row
-  dead-up-to =
+  dead_up_to : All (λ y. BelowLive y → y.key ≤ (target s).key) s.row
+  dead_up_to =
       subst (All UpTo) (row_split s.row)
-      (all_append UpTo (dead_front s.row) (from_live s.row) (all_map (λ y h below. h) (dead_front s.row) (last_most 0 (dead_front s.row) front-ascends))
+      (all_append UpTo (dead_front s.row) (from_live s.row) (all_map (λ y h below. h) (dead_front s.row) (last_most 0 (dead_front s.row) front_ascends))
       (from (from_live s.row) refl))
     where
       UpTo : Node → Type 0
@@ -163,39 +163,39 @@ module _ {s : State} (v : Sound s) where
       from [] e = tt
       from (z ∷ later) e =
           let split = live_split s.row z later e in
-          let stands = all_at (HasPlace s) (dead_front s.row) z later (subst (All (HasPlace s)) split (row-placed v)) in
+          let stands = all_at (HasPlace s) (dead_front s.row) z later (subst (All (HasPlace s)) split (row_placed v)) in
           let live = from_live-live s.row z later e in
           let up = asc_right 0 (dead_front s.row) (z ∷ later) (subst (Asc 0) split v.ascends) in (
             λ below. absurd (let h = below z stands live in omega arith),
             all_map (λ y above below. absurd (let h = below z stands live in omega arith)) later (asc_above z.key later up.1),
           )
 
-  freed-all : All (λ y. 0 < y.key → y.key < (target s).key → Free (picture (swept s)) y.cell) s.row
-  freed-all =
+  freed_all : All (λ y. 0 < y.key → y.key < (target s).key → Free (picture (swept s)) y.cell) s.row
+  freed_all =
       row_has (λ y. 0 < y.key → y.key < (target s).key → Free (picture (swept s)) y.cell)
       (all_map (λ y free low high. free) (freed_by s.row) (freed_free s v))
       (all_map (λ y above low high. absurd (omega arith)) (kept_by s.row) kept_above)
 
-  kept-stays : All (Stays (picture (swept s))) (kept_by s.row)
+  kept_stays : All (Stays (picture (swept s))) (kept_by s.row)
   unfolding swept
-  kept-stays =
+  kept_stays =
       all_map (λ x h.
       record {
-        key = place-key sound h.placed ∙ ap (λ y. y.key) h.node;
-        value = place-value sound h.placed ∙ ap (λ y. y.value) h.node;
-        same = place-mark sound h.placed ∙ ap (λ y. mark y.live) h.node;
+        key = place_key sound h.placed ∙ ap (λ y. y.key) h.node;
+        value = place_value sound h.placed ∙ ap (λ y. y.value) h.node;
+        same = place_mark sound h.placed ∙ ap (λ y. mark y.live) h.node;
       })
-      (kept_by s.row) (all_of_map (HasPlace (swept s)) paid (kept_by s.row) (row-placed sound))
+      (kept_by s.row) (all_of_map (HasPlace (swept s)) paid (kept_by s.row) (row_placed sound))
 
-  head-stays : Stays (picture (swept s)) head_node
-  head-stays = let here = head_placed (swept s) in record { key = place-key sound here; value = place-value sound here; same = place-mark sound here }
+  head_stays : Stays (picture (swept s)) head_node
+  head_stays = let here = head_placed (swept s) in record { key = place_key sound here; value = place_value sound here; same = place_mark sound here }
 
-  kept-all-stay : All (λ y. (y.cell ≡ 0) ⊎ ((target s).key ≤ y.key) → Stays (picture (swept s)) y) s.row
-  kept-all-stay =
+  kept_all_stay : All (λ y. (y.cell ≡ 0) ⊎ ((target s).key ≤ y.key) → Stays (picture (swept s)) y) s.row
+  kept_all_stay =
       row_has (λ y. (y.cell ≡ 0) ⊎ ((target s).key ≤ y.key) → Stays (picture (swept s)) y)
-      (all_zip (λ y low positive. not y low positive) (freed_by s.row) freed-below
+      (all_zip (λ y low positive. not y low positive) (freed_by s.row) freed_below
       (all_left (λ y. 0 < y.cell) (freed_by s.row) (kept_by s.row) (subst (All (λ y. 0 < y.cell)) (swept_split s.row) (cells_positive s v))))
-      (all_map (λ y stays where-is. stays) (kept_by s.row) kept-stays)
+      (all_map (λ y stays where-is. stays) (kept_by s.row) kept_stays)
     where
       not : (y : Node) → y.key < (target s).key → 0 < y.cell → (y.cell ≡ 0) ⊎ ((target s).key ≤ y.key) → Stays (picture (swept s)) y
       not y low positive (inl e) = absurd (omega arith)
@@ -203,76 +203,76 @@ module _ {s : State} (v : Sound s) where
 
   -- The same of the words
 
-  position-swept : position_at (picture (swept s)) ≡ (target s).cell
+  position_swept : position_at (picture (swept s)) ≡ (target s).cell
   unfolding swept
-  position-swept = position_is sound
+  position_swept = position_is sound
 
-  target-key : key_at (picture s) (position_at (picture (swept s))) ≡ (target s).key
-  target-key = ap (key_at (picture s)) position-swept ∙ place-key v target-placed.placed ∙ ap (λ y. y.key) target-placed.node
+  target_key : key_at (picture s) (position_at (picture (swept s))) ≡ (target s).key
+  target_key = ap (key_at (picture s)) position_swept ∙ place_key v target_placed.placed ∙ ap (λ y. y.key) target_placed.node
 
-  target-mark : mark_at (picture s) (position_at (picture (swept s))) ≡ 2
-  target-mark =
-      ap (mark_at (picture s)) position-swept ∙ place-mark v target-placed.placed ∙ ap (λ y. mark y.live) target-placed.node ∙ ap mark target-dead
+  target_mark : mark_at (picture s) (position_at (picture (swept s))) ≡ 2
+  target_mark =
+      ap (mark_at (picture s)) position_swept ∙ place_mark v target_placed.placed ∙ ap (λ y. mark y.live) target_placed.node ∙ ap mark target_dead
 
-  words-below-live : (x : ℕ) → Standing (picture s) x → mark_at (picture s) x ≡ 1 → key_at (picture s) (position_at (picture (swept s))) < key_at (picture s) x
-  words-below-live x stands live =
+  words_below_live : (x : ℕ) → Standing (picture s) x → mark_at (picture s) x ≡ 1 → key_at (picture s) (position_at (picture (swept s))) < key_at (picture s) x
+  words_below_live x stands live =
       let (p, here) = cell_standing s x stands in
       let above =
-      placed-node here (λ y. y.live ≡ true → (target s).key < y.key) (λ l. absurd (true≢false (sym l))) live_above
-      (mark_one p.node.live (sym (place-mark v here) ∙ live)) in
-      omega (arith, above, target-key, place-key v here)
+      placed_node here (λ y. y.live ≡ true → (target s).key < y.key) (λ l. absurd (true≢false (sym l))) live_above
+      (mark_one p.node.live (sym (place_mark v here) ∙ live)) in
+      omega (arith, above, target_key, place_key v here)
 
-  words-greatest : (x : ℕ) → Standing (picture s) x → ((y : ℕ) → Standing (picture s) y → mark_at (picture s) y ≡ 1 →
+  words_greatest : (x : ℕ) → Standing (picture s) x → ((y : ℕ) → Standing (picture s) y → mark_at (picture s) y ≡ 1 →
       key_at (picture s) x < key_at (picture s) y) →
       key_at (picture s) x ≤ key_at (picture s) (position_at (picture (swept s)))
-  words-greatest x stands below =
+  words_greatest x stands below =
       let (p, here) = cell_standing s x stands in
       let up_to_lem =
-      placed-node here (λ y. BelowLive y → y.key ≤ (target s).key) (λ f. omega arith) dead-up-to
+      placed_node here (λ y. BelowLive y → y.key ≤ (target s).key) (λ f. omega arith) dead_up_to
       (λ z h live.
-      let less = below z.cell (place-standing v h.placed) (place-mark v h.placed ∙ ap (λ y. mark y.live) h.node ∙ ap mark live) in
-      omega (arith, less, place-key v here, place-key v h.placed, ap (λ y. y.key) h.node)) in
-      omega (arith, up_to_lem, target-key, place-key v here)
+      let less = below z.cell (place_standing v h.placed) (place_mark v h.placed ∙ ap (λ y. mark y.live) h.node ∙ ap mark live) in
+      omega (arith, less, place_key v here, place_key v h.placed, ap (λ y. y.key) h.node)) in
+      omega (arith, up_to_lem, target_key, place_key v here)
 
-  words-freed : (x : ℕ) → Standing (picture s) x → 0 < key_at (picture s) x →
+  words_freed : (x : ℕ) → Standing (picture s) x → 0 < key_at (picture s) x →
       key_at (picture s) x < key_at (picture s) (position_at (picture (swept s))) → mark_at (picture (swept s)) x ≡ 0
-  words-freed x stands low high =
+  words_freed x stands low high =
       let (p, here) = cell_standing s x stands in
       let free =
-      placed-node here (λ y. 0 < y.key → y.key < (target s).key → Free (picture (swept s)) y.cell) (λ a c. absurd (omega arith)) freed-all
-      (omega (arith, low, place-key v here)) (omega (arith, high, target-key, place-key v here)) in
-      ap (mark_at (picture (swept s))) (sym (placed-cell here)) ∙ free.mark
+      placed_node here (λ y. 0 < y.key → y.key < (target s).key → Free (picture (swept s)) y.cell) (λ a c. absurd (omega arith)) freed_all
+      (omega (arith, low, place_key v here)) (omega (arith, high, target_key, place_key v here)) in
+      ap (mark_at (picture (swept s))) (sym (placed_cell here)) ∙ free.mark
 
-  words-kept : (x : ℕ) → Standing (picture s) x → (x ≡ 0) ⊎ (key_at (picture s) (position_at (picture (swept s))) ≤ key_at (picture s) x) →
+  words_kept : (x : ℕ) → Standing (picture s) x → (x ≡ 0) ⊎ (key_at (picture s) (position_at (picture (swept s))) ≤ key_at (picture s) x) →
       (key_at (picture (swept s)) x ≡ key_at (picture s) x) × ((value_at (picture (swept s)) x ≡ value_at (picture s) x)
       × (mark_at (picture (swept s)) x ≡ mark_at (picture s) x))
-  words-kept x stands rest =
+  words_kept x stands rest =
       let (p, here) = cell_standing s x stands in
       let stays =
-      placed-node here (λ y. (y.cell ≡ 0) ⊎ ((target s).key ≤ y.key) → Stays (picture (swept s)) y) (λ r. head-stays) kept-all-stay (is p here rest) in
-      let cell = sym (placed-cell here) in (
-        ap (key_at (picture (swept s))) cell ∙ stays.key ∙ sym (place-key v here),
+      placed_node here (λ y. (y.cell ≡ 0) ⊎ ((target s).key ≤ y.key) → Stays (picture (swept s)) y) (λ r. head_stays) kept_all_stay (is p here rest) in
+      let cell = sym (placed_cell here) in (
+        ap (key_at (picture (swept s))) cell ∙ stays.key ∙ sym (place_key v here),
         (
-          ap (value_at (picture (swept s))) cell ∙ stays.value ∙ sym (place-value v here),
+          ap (value_at (picture (swept s))) cell ∙ stays.value ∙ sym (place_value v here),
           ap (mark_at (picture (swept s))) cell ∙ stays.same
-              ∙ sym (place-mark v here),
+              ∙ sym (place_mark v here),
         ),
       )
     where
       is : (p : Place) → Placed s x p → (x ≡ 0) ⊎ (key_at (picture s) (position_at (picture (swept s))) ≤ key_at (picture s) x) →
           (p.node.cell ≡ 0) ⊎ ((target s).key ≤ p.node.key)
-      is p here (inl e) = inl (placed-cell here ∙ e)
-      is p here (inr h) = inr (omega (arith, h, target-key, place-key v here))
+      is p here (inl e) = inl (placed_cell here ∙ e)
+      is p here (inr h) = inr (omega (arith, h, target_key, place_key v here))
 
-  words-free : (x : ℕ) → Free (picture s) x → Free (picture (swept s)) x
+  words_free : (x : ℕ) → Free (picture s) x → Free (picture (swept s)) x
   unfolding swept
-  words-free x free =
+  words_free x free =
       let cells = map (λ y. y.cell) (freed_by s.row) in
-      free-cell sound x (omega (arith, cell_free v x free, occurrences_reverse_aux x cells s.free))
+      free_cell_lem sound x (omega (arith, cell_free v x free, occurrences_reverse_aux x cells s.free))
 
-  words-settled : (x d : ℕ) → Standing (picture (swept s)) x → d < s.settings.dimensions → Settled (picture (swept s)) x d (link_at (picture (swept s)) x d)
+  words_settled : (x d : ℕ) → Standing (picture (swept s)) x → d < s.settings.dimensions → Settled (picture (swept s)) x d (link_at (picture (swept s)) x d)
   unfolding picture swept
-  words-settled x d stands h = (picture_sentences (swept s) sound).links x d stands h (none x) (λ n o e. none n o)
+  words_settled x d stands h = (picture_sentences (swept s) sound).links x d stands h (none x) (λ n o e. none n o)
     where
       none : (n : ℕ) → Owing (picture (swept s)) n d → ⊥
       none n o = let owed = o.owes in let nothing = (swept_owes_nothing s v n o.standing.cell).0 in omega arith
@@ -281,15 +281,15 @@ pub swept_leaves : (s : State) → Sound s → Swept (picture s) (picture (swept
 unfolding picture swept
 swept_leaves s v =
     record {
-      position = subst (Standing (picture s)) (sym (position-swept v)) (place-standing v (target-placed v).placed);
-      dead = target-mark v;
-      below_live = words-below-live v;
-      greatest = λ x stands dead below. words-greatest v x stands below;
-      freed = words-freed v;
-      kept = words-kept v;
-      free = words-free v;
+      position = subst (Standing (picture s)) (sym (position_swept v)) (place_standing v (target_placed v).placed);
+      dead = target_mark v;
+      below_live = words_below_live v;
+      greatest = λ x stands dead below. words_greatest v x stands below;
+      freed = words_freed v;
+      kept = words_kept v;
+      free = words_free v;
       owes = swept_owes_nothing s v;
-      settled = words-settled v;
+      settled = words_settled v;
       header = header;
     }
   where

@@ -50,8 +50,8 @@ key_of_same_rows c (x ∷ row) (y ∷ other) e k =
 
 module _ (s t : State) (settings : s.settings ≡ t.settings) (position : s.position ≡ t.position)
     (cells : map (λ x. x.cell) s.row ≡ map (λ x. x.cell) t.row) (keys : map (λ x. x.key) s.row ≡ map (λ x. x.key) t.row) where
-  pub pathWord-unmoved : (d : ℕ) → path_word s d ≡ path_word t d
-  pathWord-unmoved d =
+  pub path_word-unmoved : (d : ℕ) → path_word s d ≡ path_word t d
+  path_word-unmoved d =
       let key : position_key s ≡ position_key t =
       ap (λ c. key_of c (head_node ∷ s.row)) position
       ∙ key_of_same_rows t.position (head_node ∷ s.row) (head_node ∷ t.row) (ap {B = List ℕ} (λ cs. 0 ∷ cs) cells) (ap {B = List ℕ} (λ ks. 0 ∷ ks) keys) in
@@ -60,9 +60,9 @@ module _ (s t : State) (settings : s.settings ≡ t.settings) (position : s.posi
       (ap {B = List ℕ} (λ cs. 0 ∷ cs) cells) (ap {B = List ℕ} (λ ks. 0 ∷ ks) keys)
 
   -- the position, the cells and the keys give the path
-  pub path-unmoved : path s ≡ path t
+  pub path_unmoved : path s ≡ path t
   unfolding path
-  path-unmoved = ap₂ (λ (word : ℕ → ℕ) r. map word (numbers_from 0 r.dimensions)) (fun_ext pathWord-unmoved) settings
+  path_unmoved = ap₂ (λ (word : ℕ → ℕ) r. map word (numbers_from 0 r.dimensions)) (fun_ext path_word-unmoved) settings
 
 -- word d of the path
 pub picture_path_word : (s : State) (d : ℕ) → d < s.settings.dimensions → get_or (picture s) (header_words + d) 0 ≡ get_or (path s) d 0
@@ -102,10 +102,10 @@ by_link b D value live beforeOwes owes q d h = words_link (six_by b D value live
 -- Changed nodes
 
 module _ (f : Node → Node) (keeping : Keeping f) where
-  sharing-changed : (b D key d : ℕ) (row : List Node) → first_sharing b D key d (map f row) ≡ first_sharing b D key d row
+  sharing_changed : (b D key d : ℕ) (row : List Node) → first_sharing b D key d (map f row) ≡ first_sharing b D key d row
   unfolding first_sharing
-  sharing-changed b D key d [] = refl
-  sharing-changed b D key d (x ∷ row) = rw (keeping.key x, keeping.cell x, sharing-changed b D key d row) refl
+  sharing_changed b D key d [] = refl
+  sharing_changed b D key d (x ∷ row) = rw (keeping.key x, keeping.cell x, sharing_changed b D key d row) refl
 
   first_key : (row : List Node) → (first_of (map f row)).key ≡ (first_of row).key
   first_key row = ap (λ x. x.key) (first_of_changed f keeping row) ∙ keeping.key (first_of row)
@@ -113,37 +113,37 @@ module _ (f : Node → Node) (keeping : Keeping f) where
   first_cell : (row : List Node) → (first_of (map f row)).cell ≡ (first_of row).cell
   first_cell row = ap (λ x. x.cell) (first_of_changed f keeping row) ∙ keeping.cell (first_of row)
 
-  linkBy-changed : (b D : ℕ) (beforeOwes owes : Bool) (q : Place) (d : ℕ) → link_by b D beforeOwes owes (changed_place f q) d ≡ link_by b D beforeOwes owes q d
-  linkBy-changed b D beforeOwes owes q d = λ i.
+  link_by-changed : (b D : ℕ) (beforeOwes owes : Bool) (q : Place) (d : ℕ) → link_by b D beforeOwes owes (changed_place f q) d ≡ link_by b D beforeOwes owes q d
+  link_by-changed b D beforeOwes owes q d = λ i.
       cond (beforeOwes && between q.before_dimension q.dimension d)
       ((ap (λ k. first_sharing b D k d (f q.node ∷ map f q.later)) (keeping.key q.before)
-      ∙ sharing-changed b D q.before.key d (q.node ∷ q.later)) i)
+      ∙ sharing_changed b D q.before.key d (q.node ∷ q.later)) i)
       (cond (owes && between (cond owes q.dimension 0) (cond owes (shared b D (keeping.key q.node i) (first_key q.later i)) 0) d) 0
       (cond (leb q.dimension d) ((ap (λ k. first_sharing b D k d (map f q.later)) (keeping.key q.node)
-      ∙ sharing-changed b D q.node.key d q.later) i) 0))
+      ∙ sharing_changed b D q.node.key d q.later) i) 0))
 
   -- the words of a changed place are those of the place, with the debts after the change
-  wordsBy-changed : (b D value : ℕ) (live beforeOwes owes : Bool) (q : Place) →
+  words_by-changed : (b D value : ℕ) (live beforeOwes owes : Bool) (q : Place) →
       words_by b D value live beforeOwes owes (changed_place f q) ≡ words_by b D value live beforeOwes owes q
   unfolding words_by
-  wordsBy-changed b D value live beforeOwes owes q = λ i.
+  words_by-changed b D value live beforeOwes owes q = λ i.
       keeping.key q.node i ∷ value ∷ mark live
       ∷ cond owes (first_cell q.later i) 0 ∷ cond owes q.dimension 0 ∷ cond owes (shared b D (keeping.key q.node i) (first_key q.later i)) 0
-      ∷ map (fun_ext (linkBy-changed b D beforeOwes owes q) i) (numbers_from 0 D)
+      ∷ map (fun_ext (link_by-changed b D beforeOwes owes q) i) (numbers_from 0 D)
 
-  foundChanged : Option Place → Option Place
-  foundChanged none = none
-  foundChanged (some q) = some (changed_place f q)
+  found_changed : Option Place → Option Place
+  found_changed none = none
+  found_changed (some q) = some (changed_place f q)
 
-  placeOf-changed : (x : ℕ) (ps : List Place) → place_of x (map (changed_place f) ps) ≡ foundChanged (place_of x ps)
-  unfolding place_of foundChanged
-  placeOf-changed x [] = refl
-  placeOf-changed x (p ∷ ps) =
+  place_of-changed : (x : ℕ) (ps : List Place) → place_of x (map (changed_place f) ps) ≡ found_changed (place_of x ps)
+  unfolding place_of found_changed
+  place_of-changed x [] = refl
+  place_of-changed x (p ∷ ps) =
       ap (λ c. cond (eqb c x) (some (changed_place f p)) (place_of x (map (changed_place f) ps))) (keeping.cell p.node)
-      ∙ at (eqb p.node.cell x) (placeOf-changed x ps)
+      ∙ at (eqb p.node.cell x) (place_of-changed x ps)
     where
-      at : (t : Bool) → place_of x (map (changed_place f) ps) ≡ foundChanged (place_of x ps) →
-          cond t (some (changed_place f p)) (place_of x (map (changed_place f) ps)) ≡ foundChanged (cond t (some p) (place_of x ps))
+      at : (t : Bool) → place_of x (map (changed_place f) ps) ≡ found_changed (place_of x ps) →
+          cond t (some (changed_place f p)) (place_of x (map (changed_place f) ps)) ≡ found_changed (cond t (some p) (place_of x ps))
       at true e = refl
       at false e = e
 
@@ -165,44 +165,44 @@ placed_word s {x} {q} here j h k =
     ∙ ap (λ ws. get_or ws j 0) (standing_by s.settings.base s.settings.dimensions q)
 
 module _ (s : State) (f : Node → Node) (keeping : Keeping f) (position : ℕ) where
-  changed-found : (x : ℕ) → place_of x (places_of (changed_state s f position) (changed_state s f position).row)
-      ≡ foundChanged f keeping (place_of x (places_of s s.row))
-  changed-found x =
-      ap (place_of x) (places_changed f keeping s.settings.base s.settings.dimensions s.row) ∙ placeOf-changed f keeping x (places_of s s.row)
+  changed_found : (x : ℕ) → place_of x (places_of (changed_state s f position) (changed_state s f position).row)
+      ≡ found_changed f keeping (place_of x (places_of s s.row))
+  changed_found x =
+      ap (place_of x) (places_changed f keeping s.settings.base s.settings.dimensions s.row) ∙ place_of-changed f keeping x (places_of s s.row)
 
-  pub changed-placed : {x : ℕ} {q : Place} → Placed s x q → Placed (changed_state s f position) x (changed_place f q)
-  unfolding foundChanged
-  changed-placed {x} here = record { found = changed-found x ∙ ap (foundChanged f keeping) here.found }
+  pub changed_placed : {x : ℕ} {q : Place} → Placed s x q → Placed (changed_state s f position) x (changed_place f q)
+  unfolding found_changed
+  changed_placed {x} here = record { found = changed_found x ∙ ap (found_changed f keeping) here.found }
 
   -- a standing cell's words after the change
-  pub changed-word : {x : ℕ} {q : Place} → Placed s x q → (j : ℕ) → x < s.settings.cells → j < cell_words s.settings.dimensions →
+  pub changed_word : {x : ℕ} {q : Place} → Placed s x q → (j : ℕ) → x < s.settings.cells → j < cell_words s.settings.dimensions →
       word_in s.settings.dimensions (picture (changed_state s f position)) x j
       ≡ get_or (words_by s.settings.base s.settings.dimensions (f q.node).value (f q.node).live (f q.before).owes (f q.node).owes q) j 0
-  changed-word {x} {q} here j h k =
-      placed_word (changed_state s f position) (changed-placed here) j h k
+  changed_word {x} {q} here j h k =
+      placed_word (changed_state s f position) (changed_placed here) j h k
       ∙ ap (λ ws. get_or ws j 0)
-      (wordsBy-changed f keeping s.settings.base s.settings.dimensions (f q.node).value (f q.node).live (f q.before).owes
+      (words_by-changed f keeping s.settings.base s.settings.dimensions (f q.node).value (f q.node).live (f q.before).owes
       (f q.node).owes q)
 
   -- a free cell's, the header and the path are as before
-  pub changed-free : (x : ℕ) → place_of x (places_of s s.row) ≡ none → (j : ℕ) → x < s.settings.cells → j < cell_words s.settings.dimensions →
+  pub changed_free : (x : ℕ) → place_of x (places_of s s.row) ≡ none → (j : ℕ) → x < s.settings.cells → j < cell_words s.settings.dimensions →
       word_in s.settings.dimensions (picture (changed_state s f position)) x j ≡ word_in s.settings.dimensions (picture s) x j
-  unfolding foundChanged
-  changed-free x e j h k =
+  unfolding found_changed
+  changed_free x e j h k =
       let b = s.settings.base in
       let D = s.settings.dimensions in
       picture_place (changed_state s f position) x j h k
-      ∙ ap (λ o. get_or (words_of b D s.free x o) j 0) (changed-found x ∙ ap (foundChanged f keeping) e ∙ sym e)
+      ∙ ap (λ o. get_or (words_of b D s.free x o) j 0) (changed_found x ∙ ap (found_changed f keeping) e ∙ sym e)
       ∙ sym (picture_place s x j h k)
 
-  pub changed-header : (i : ℕ) → i < header_words → get_or (picture (changed_state s f position)) i 0 ≡ get_or (picture s) i 0
+  pub changed_header : (i : ℕ) → i < header_words → get_or (picture (changed_state s f position)) i 0 ≡ get_or (picture s) i 0
   unfolding picture
-  changed-header zero h = refl
-  changed-header (suc zero) h = refl
-  changed-header (suc (suc zero)) h = refl
-  changed-header (suc (suc (suc zero))) h = refl
-  changed-header (suc (suc (suc (suc zero)))) h = refl
-  changed-header (suc (suc (suc (suc (suc i))))) h = absurd (omega arith)
+  changed_header zero h = refl
+  changed_header (suc zero) h = refl
+  changed_header (suc (suc zero)) h = refl
+  changed_header (suc (suc (suc zero))) h = refl
+  changed_header (suc (suc (suc (suc zero)))) h = refl
+  changed_header (suc (suc (suc (suc (suc i))))) h = absurd (omega arith)
 
 -- while the position stays
 pub changed_path : (s : State) (f : Node → Node) (keeping : Keeping f) (d : ℕ) → d < s.settings.dimensions →
@@ -210,5 +210,5 @@ pub changed_path : (s : State) (f : Node → Node) (keeping : Keeping f) (d : �
 changed_path s f keeping d h =
     let after = changed_state s f s.position in
     picture_path after d h
-    ∙ pathWord-unmoved after s refl refl (cells_changed f keeping s.row) (keys_changed f keeping s.row) d
+    ∙ path_word-unmoved after s refl refl (cells_changed f keeping s.row) (keys_changed f keeping s.row) d
     ∙ sym (picture_path s d h)

@@ -38,9 +38,9 @@ no_cells ws x = refl
 
 module _ (ws : List ℕ) (x : ℕ) where
   -- word j of the block of cell x
-  block-word : (j : ℕ) → j < cell_words (dimensions_at ws) →
+  block_word : (j : ℕ) → j < cell_words (dimensions_at ws) →
       get_or (take (cell_words (dimensions_at ws)) (drop (word_index (dimensions_at ws) x 0) ws)) j 0 ≡ get_or ws (word_index (dimensions_at ws) x j) 0
-  block-word j h =
+  block_word j h =
       let D = dimensions_at ws in
       get_or-take (cell_words D) (drop (word_index D x 0) ws) j 0 h ∙ get_or-drop (word_index D x 0) ws j 0 ∙ ap (λ k. get_or ws k 0) (omega arith)
 
@@ -52,7 +52,7 @@ module _ (ws : List ℕ) (x : ℕ) where
       let w = cell_words D in
       let i = word_index D x 0 in
       let next : i + w ≡ word_index D (suc x) 0 = omega (arith, suc-mul x w) in
-      rw (block-word key_field (omega arith), block-word value_field (omega arith), block-word mark_field (omega arith), block-word owed_field (omega arith), drop-drop w i ws, next) refl
+      rw (block_word key_field (omega arith), block_word value_field (omega arith), block_word mark_field (omega arith), block_word owed_field (omega arith), drop-drop w i ws, next) refl
 
 blocks_rest : (w n : ℕ) (ws : List ℕ) → drop 1 (blocks w n ws) ≡ blocks w (n - 1) (drop w ws)
 unfolding blocks
@@ -71,12 +71,12 @@ row_from_lem ws =
 
 module _ {A : Type 0} (F : List Node → A) (step : Node → A → A) where
   -- What is told of a row by a step for its first node is told so of a node put in anywhere, if it does not matter which of two steps is made first.
-  pub put-folded :
+  pub put_folded :
       ((x : Node) (row : List Node) → F (x ∷ row) ≡ step x (F row)) → ((x y : Node) (a : A) → step x (step y a) ≡ step y (step x a)) →
       (x : Node) (row : List Node) → F (put x row) ≡ step x (F row)
   unfolding put
-  put-folded first swap x [] = first x []
-  put-folded first swap x (y ∷ row) = at (leb x.key y.key) (put-folded first swap x row)
+  put_folded first swap x [] = first x []
+  put_folded first swap x (y ∷ row) = at (leb x.key y.key) (put_folded first swap x row)
     where
       at : (t : Bool) → F (put x row) ≡ step x (F row) → F (cond t (x ∷ y ∷ row) (y ∷ put x row)) ≡ step x (F (y ∷ row))
       at true more = first x (y ∷ row)
@@ -84,8 +84,8 @@ module _ {A : Type 0} (F : List Node → A) (step : Node → A → A) where
 
   module _ (on-put : (x : Node) (row : List Node) → F (put x row) ≡ step x (F row)) (ws : List ℕ) (x n : ℕ) where
     -- So it is told of the cells, one more at a time, in memory order.
-    pub row-folded : F (row_from ws x (suc n)) ≡ cond (eqb (mark_at ws x) free_mark) (F (row_from ws (suc x) n)) (step (node_in ws x) (F (row_from ws (suc x) n)))
-    row-folded = ap F (one_cell ws x n) ∙ at (eqb (mark_at ws x) free_mark)
+    pub row_folded : F (row_from ws x (suc n)) ≡ cond (eqb (mark_at ws x) free_mark) (F (row_from ws (suc x) n)) (step (node_in ws x) (F (row_from ws (suc x) n)))
+    row_folded = ap F (one_cell ws x n) ∙ at (eqb (mark_at ws x) free_mark)
       where
         rest : List Node
         rest = row_from ws (suc x) n
@@ -96,11 +96,11 @@ module _ {A : Type 0} (F : List Node → A) (step : Node → A → A) where
 
 module _ {A : Type 0} (F : List Node → A) (more : Node → A → A) (on-put : (x : Node) (row : List Node) → F (put x row) ≡ cond x.live (more x (F row)) (F row)) where
   -- .. and where only live nodes count, by the mark alone
-  pub live-folded :
+  pub live_folded :
       (ws : List ℕ) (x n : ℕ) →
       F (row_from ws x (suc n)) ≡ cond (eqb (mark_at ws x) live_mark) (more (node_in ws x) (F (row_from ws (suc x) n))) (F (row_from ws (suc x) n))
-  live-folded ws x n =
-      row-folded F (λ y a. cond y.live (more y a) a) on-put ws x n ∙ at (eqb (mark_at ws x) free_mark) (eqb (mark_at ws x) live_mark) refl refl
+  live_folded ws x n =
+      row_folded F (λ y a. cond y.live (more y a) a) on-put ws x n ∙ at (eqb (mark_at ws x) free_mark) (eqb (mark_at ws x) live_mark) refl refl
     where
       rest : A
       rest = F (row_from ws (suc x) n)

@@ -28,7 +28,7 @@ use Rattle.meaning.proofs.Pictures.StateCells.{row_range, free_range, cells_cove
 use Rattle.meaning.proofs.Pictures.Picture.{picture_word, place_here, place_past, Told, told, places_cells, free_found, free_words-rest, shown_words}
 use Rattle.meaning.proofs.Pictures.Picture.{picture_path, place_found}
 use Rattle.meaning.proofs.Rows.Places.{key_of_same, key_of_other, node_found, nodes_passed}
-use Rattle.meaning.proofs.Cells.WalkRead.{Held, all_places, places-held, standing-word, standing_link}
+use Rattle.meaning.proofs.Cells.WalkRead.{Held, all_places, places_held, standing_word, standing_link}
 use Rattle.meaning.proofs.Cells.Stores.{picture_exact, field_cases, words_equal}
 
 -- Cells and places
@@ -72,22 +72,22 @@ abbrev pub Own : State → Place → Type 0
 Own s p = Placed s p.node.cell p
 
 module _ {s : State} {x : ℕ} {p : Place} (here : Placed s x p) where
-  placed-told : (P : Place → Type 0) → All P (places_of s s.row) → (p.node.cell ≡ x) × P p
-  placed-told P a = subst (Told P x) here.found (told P x (places_of s s.row) a)
+  placed_told : (P : Place → Type 0) → All P (places_of s s.row) → (p.node.cell ≡ x) × P p
+  placed_told P a = subst (Told P x) here.found (told P x (places_of s s.row) a)
 
-  pub placed-has : (P : Place → Type 0) → All P (places_of s s.row) → P p
-  placed-has P a = (placed-told P a).1
+  pub placed_has : (P : Place → Type 0) → All P (places_of s s.row) → P p
+  placed_has P a = (placed_told P a).1
 
   -- what holds of the head and of every node of the row
-  pub placed-node : (P : Node → Type 0) → P head_node → All P s.row → P p.node
-  placed-node P head row = placed-has (λ q. P q.node) (all_places P s.settings.base s.settings.dimensions s.row head row)
+  pub placed_node : (P : Node → Type 0) → P head_node → All P s.row → P p.node
+  placed_node P head row = placed_has (λ q. P q.node) (all_places P s.settings.base s.settings.dimensions s.row head row)
 
-  pub placed-cell : p.node.cell ≡ x
-  placed-cell = (placed-told (λ q. Unit {0}) (all_each (λ q. tt) (places_of s s.row))).0
+  pub placed_cell : p.node.cell ≡ x
+  placed_cell = (placed_told (λ q. Unit {0}) (all_each (λ q. tt) (places_of s s.row))).0
 
-  pub placed-keyOf : key_of x (head_node ∷ s.row) ≡ p.node.key
+  pub placed_key_of : key_of x (head_node ∷ s.row) ≡ p.node.key
   unfolding places
-  placed-keyOf = at (ℕ_discrete 0 x)
+  placed_key_of = at (ℕ_discrete 0 x)
     where
       b : ℕ
       b = s.settings.base
@@ -137,85 +137,85 @@ module _ {s : State} (v : Sound s) {x : ℕ} {p : Place} (here : Placed s x p) w
   pub placed_below : x < s.settings.cells
   placed_below =
       let least = v.ranges.cells_least in
-      let below = placed-node here (λ y. y.cell < s.settings.cells) (omega arith) (all_map (λ y r. r.1) s.row (row_range s v)) in
-      omega (arith, placed-cell here)
+      let below = placed_node here (λ y. y.cell < s.settings.cells) (omega arith) (all_map (λ y r. r.1) s.row (row_range s v)) in
+      omega (arith, placed_cell here)
 
   -- its key is one of the list's, and 0 exactly if it is the head
-  pub placed-most : p.node.key ≤ s.settings.largest
-  placed-most = placed-node here (λ y. y.key ≤ s.settings.largest) (omega arith) v.keys
+  pub placed_most : p.node.key ≤ s.settings.largest
+  placed_most = placed_node here (λ y. y.key ≤ s.settings.largest) (omega arith) v.keys
 
-  pub placed-above : 0 < x → 0 < p.node.key
-  placed-above h =
-      placed-node here (λ y. 0 < y.cell → 0 < y.key) (λ l. l) (all_map (λ y l c. l) s.row (asc_above 0 s.row v.ascends))
-      (rw (placed-cell here) h)
+  pub placed_above : 0 < x → 0 < p.node.key
+  placed_above h =
+      placed_node here (λ y. 0 < y.cell → 0 < y.key) (λ l. l) (all_map (λ y l c. l) s.row (asc_above 0 s.row v.ascends))
+      (rw (placed_cell here) h)
 
-  pub placed-other : 0 < p.node.key → 0 < x
-  placed-other h =
-      let own = placed-cell here in
-      let other = placed-node here (λ y. 0 < y.key → 0 < y.cell) (λ l. l) (all_map (λ y r l. r.0) s.row (row_range s v)) h in
+  pub placed_other : 0 < p.node.key → 0 < x
+  placed_other h =
+      let own = placed_cell here in
+      let other = placed_node here (λ y. 0 < y.key → 0 < y.cell) (λ l. l) (all_map (λ y r l. r.0) s.row (row_range s v)) h in
       omega arith
 
   -- it is the node with its key, and what stands at a larger key stands after it
   pub placed_at : 0 < p.node.key → node_at p.node.key s.row ≡ some p.node
   placed_at =
-      placed-node here (λ y. 0 < y.key → node_at y.key s.row ≡ some y) (λ h. absurd (omega arith))
+      placed_node here (λ y. 0 < y.key → node_at y.key s.row ≡ some y) (λ h. absurd (omega arith))
       (all_map (λ y e h. e) s.row (node_found 0 s.row v.ascends))
 
-  pub placed-passed : (k : ℕ) → p.node.key < k → node_at k s.row ≡ node_at k p.later
+  pub placed_passed : (k : ℕ) → p.node.key < k → node_at k s.row ≡ node_at k p.later
   unfolding places
-  placed-passed k =
-      placed-has here (λ q. q.node.key < k → node_at k s.row ≡ node_at k q.later)
+  placed_passed k =
+      placed_has here (λ q. q.node.key < k → node_at k s.row ≡ node_at k q.later)
       ((λ h. refl), nodes_passed s.settings.base s.settings.dimensions k s.row head_node 0 s.row (λ h. refl) v.ascends)
 
-  pub place-word : (j : ℕ) → j < cell_words s.settings.dimensions →
+  pub place_word : (j : ℕ) → j < cell_words s.settings.dimensions →
       word_at (picture s) x j ≡ get_or (standing_words s.settings.base s.settings.dimensions p) j 0
-  place-word = standing-word s x p placed_below here.found
+  place_word = standing_word s x p placed_below here.found
 
-  pub place-key : key_at (picture s) x ≡ p.node.key
+  pub place_key : key_at (picture s) x ≡ p.node.key
   unfolding standing_words
-  place-key = place-word 0 (omega arith)
+  place_key = place_word 0 (omega arith)
 
-  pub place-value : value_at (picture s) x ≡ p.node.value
+  pub place_value : value_at (picture s) x ≡ p.node.value
   unfolding standing_words
-  place-value = place-word 1 (omega arith)
+  place_value = place_word 1 (omega arith)
 
-  pub place-mark : mark_at (picture s) x ≡ mark p.node.live
+  pub place_mark : mark_at (picture s) x ≡ mark p.node.live
   unfolding standing_words
-  place-mark = place-word 2 (omega arith)
+  place_mark = place_word 2 (omega arith)
 
-  pub place-owed : owed_at (picture s) x ≡ owed p
+  pub place_owed : owed_at (picture s) x ≡ owed p
   unfolding standing_words
-  place-owed = place-word 3 (omega arith)
+  place_owed = place_word 3 (omega arith)
 
-  pub place-low : low_at (picture s) x ≡ low p
+  pub place_low : low_at (picture s) x ≡ low p
   unfolding standing_words
-  place-low = place-word 4 (omega arith)
+  place_low = place_word 4 (omega arith)
 
-  pub place-high : high_at (picture s) x ≡ high s.settings.base s.settings.dimensions p
+  pub place_high : high_at (picture s) x ≡ high s.settings.base s.settings.dimensions p
   unfolding standing_words
-  place-high = place-word 5 (omega arith)
+  place_high = place_word 5 (omega arith)
 
   -- Debts 4
-  pub place-unowing : p.node.owes ≡ false → OwesNothing (picture s) x
-  place-unowing e = (
-    place-owed ∙ ap (λ t. cond t (first_of p.later).cell 0) e,
-    place-low ∙ ap (λ t. cond t p.dimension 0) e,
-    place-high ∙ ap (λ t. cond t (shared s.settings.base s.settings.dimensions p.node.key (first_of p.later).key) 0) e,
+  pub place_unowing : p.node.owes ≡ false → OwesNothing (picture s) x
+  place_unowing e = (
+    place_owed ∙ ap (λ t. cond t (first_of p.later).cell 0) e,
+    place_low ∙ ap (λ t. cond t p.dimension 0) e,
+    place_high ∙ ap (λ t. cond t (shared s.settings.base s.settings.dimensions p.node.key (first_of p.later).key) 0) e,
   )
 
   held : Held (picture s) s.settings.base s.settings.dimensions p
-  held = placed-has here (Held (picture s) s.settings.base s.settings.dimensions) (places-held s v)
+  held = placed_has here (Held (picture s) s.settings.base s.settings.dimensions) (places_held s v)
 
-  pub place-coordinate : (d : ℕ) → coordinate_at (picture s) x d ≡ coordinate s.settings.base s.settings.dimensions p.node.key d
+  pub place_coordinate : (d : ℕ) → coordinate_at (picture s) x d ≡ coordinate s.settings.base s.settings.dimensions p.node.key d
   unfolding picture
-  place-coordinate d = ap (λ k. coordinate s.settings.base s.settings.dimensions k d) place-key
+  place_coordinate d = ap (λ k. coordinate s.settings.base s.settings.dimensions k d) place_key
 
-  pub place-link : (d : ℕ) → d < s.settings.dimensions → link_at (picture s) x d ≡ link s.settings.base s.settings.dimensions p d
-  place-link d h = ap (λ c. link_at (picture s) c d) (sym (placed-cell here)) ∙ held.link d h
+  pub place_link : (d : ℕ) → d < s.settings.dimensions → link_at (picture s) x d ≡ link s.settings.base s.settings.dimensions p d
+  place_link d h = ap (λ c. link_at (picture s) c d) (sym (placed_cell here)) ∙ held.link d h
 
-  pub place-standing : Standing (picture s) x
+  pub place_standing : Standing (picture s) x
   unfolding picture
-  place-standing = record { cell = placed_below; mark = at p.node.live place-mark }
+  place_standing = record { cell = placed_below; mark = at p.node.live place_mark }
     where
       at : (live : Bool) → mark_at (picture s) x ≡ mark live → (mark_at (picture s) x ≡ 1) ⊎ (mark_at (picture s) x ≡ 2)
       at true e = inl e
@@ -224,23 +224,23 @@ module _ {s : State} (v : Sound s) {x : ℕ} {p : Place} (here : Placed s x p) w
 -- The words of any other cell
 
 module _ (s : State) (x : ℕ) (below : x < s.settings.cells) (unfound : place_of x (places_of s s.row) ≡ none) where
-  pub free-cell-word : (j : ℕ) → j < cell_words s.settings.dimensions →
+  pub free_cell_word : (j : ℕ) → j < cell_words s.settings.dimensions →
       word_at (picture s) x j ≡ get_or (free_words s.settings.dimensions (next_free x s.free)) j 0
   unfolding words_of
-  free-cell-word j h =
+  free_cell_word j h =
       picture_word s x j below h
       ∙ ap (λ o. get_or (words_of s.settings.base s.settings.dimensions s.free x o) j 0) unfound
 
-  pub free-cell-first : word_at (picture s) x 0 ≡ next_free x s.free
+  pub free_cell_first : word_at (picture s) x 0 ≡ next_free x s.free
   unfolding free_words
-  free-cell-first = free-cell-word 0 (omega arith)
+  free_cell_first = free_cell_word 0 (omega arith)
 
-  pub free-cell-rest : (j : ℕ) → 0 < j → j < cell_words s.settings.dimensions → word_at (picture s) x j ≡ 0
-  free-cell-rest j h k = free-cell-word j k ∙ free_words-rest s.settings.dimensions (next_free x s.free) j h k
+  pub free_cell_rest : (j : ℕ) → 0 < j → j < cell_words s.settings.dimensions → word_at (picture s) x j ≡ 0
+  free_cell_rest j h k = free_cell_word j k ∙ free_words-rest s.settings.dimensions (next_free x s.free) j h k
 
-  pub free-cell-free : Free (picture s) x
+  pub free_cell_free : Free (picture s) x
   unfolding picture
-  free-cell-free = record { cell = below; mark = free-cell-rest 2 (omega arith) (omega arith) }
+  free_cell_free = record { cell = below; mark = free_cell_rest 2 (omega arith) (omega arith) }
 
 -- Every cell stands or is free
 
@@ -258,7 +258,7 @@ unfolding picture
 cell_standing s x stands = at (place_of x (places_of s s.row)) refl
   where
     at : (o : Option Place) → place_of x (places_of s s.row) ≡ o → (p : Place) × Placed s x p
-    at none e = absurd (standing_not_free stands (free-cell-free s x stands.cell e))
+    at none e = absurd (standing_not_free stands (free_cell_free s x stands.cell e))
     at (some p) e = (p, record { found = e })
 
 -- and a free one has none
@@ -267,7 +267,7 @@ cell_unfound {s} v x free = at (place_of x (places_of s s.row)) refl
   where
     at : (o : Option Place) → place_of x (places_of s s.row) ≡ o → o ≡ none
     at none e = refl
-    at (some p) e = absurd (standing_not_free (place-standing v (record { found = e })) free)
+    at (some p) e = absurd (standing_not_free (place_standing v (record { found = e })) free)
 
 module _ {s : State} (v : Sound s) where
   -- The words 4: every free cell once
@@ -285,13 +285,13 @@ module _ {s : State} (v : Sound s) where
       omega (arith, once, met, occurrences_append x row s.free, occurrences_more x 0 row)
 
   -- .. and no other cell
-  pub free-cell : (x : ℕ) → 0 < occurrences x s.free → Free (picture s) x
-  free-cell x h =
-      free-cell-free s x (occurs_has (λ c. (0 < c) × (c < s.settings.cells)) x s.free h (free_range s v)).1
+  pub free_cell_lem : (x : ℕ) → 0 < occurrences x s.free → Free (picture s) x
+  free_cell_lem x h =
+      free_cell_free s x (occurs_has (λ c. (0 < c) × (c < s.settings.cells)) x s.free h (free_range s v)).1
       (occurs_has (λ c. place_of c (places_of s s.row) ≡ none) x s.free h (free_found s v))
 
-  pub position-placed : (p : Place) × Placed s s.position p
-  position-placed = occurs_placed s s.position v.position
+  pub position_placed : (p : Place) × Placed s s.position p
+  position_placed = occurs_placed s s.position v.position
 
 -- Words that are a picture
 

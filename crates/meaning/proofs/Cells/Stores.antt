@@ -140,8 +140,8 @@ sets_inside ws (v ∷ vs) i (suc k) h l =
 
 -- some words of cell x from word a on
 module _ {D C : ℕ} {ws : List ℕ} (exact : Exact D C ws) (x a : ℕ) (vs : List ℕ) (here : x < C) (fit : a + length vs ≤ cell_words D) where
-  pub cell-sets-inside : (k : ℕ) → k < length vs → word_in D (sets ws (word_index D x a) vs) x (a + k) ≡ get_or vs k 0
-  cell-sets-inside k h =
+  pub cell_sets_inside : (k : ℕ) → k < length vs → word_in D (sets ws (word_index D x a) vs) x (a + k) ≡ get_or vs k 0
+  cell_sets_inside k h =
       let there : word_index D x (a + k) ≡ word_index D x a + k = omega arith in
       ap (λ n. get_or (sets ws (word_index D x a) vs) n 0) there
       ∙ sets_inside ws vs (word_index D x a) k h (omega (arith, mul-le-mul_right {m = suc x} {n = C} (cell_words D) here, suc-mul x (cell_words D)))
@@ -350,32 +350,32 @@ module _ {D C : ℕ} {ws : List ℕ} (exact : Exact D C ws) (n : ℕ) (debt : Ow
   finished_as i v e = ap (λ us. get_or us i 0) (finish_words-some D ws n debt.owes) ∙ e
 
   -- .. and the three words are 0
-  pub finishWords-debt : (k : ℕ) → k < 3 → word_in D (finish_words D ws n) n (3 + k) ≡ 0
-  finishWords-debt k h =
+  pub finish_words-debt : (k : ℕ) → k < 3 → word_in D (finish_words D ws n) n (3 + k) ≡ 0
+  finish_words-debt k h =
       finished_as (word_index D n (3 + k)) 0
-      (cell-sets-inside (exact_moved exact n (owed_at ws n) (low_at ws n) (high_at ws n - low_at ws n)) n 3 (0 ∷ 0 ∷ 0 ∷ []) debt.cell (omega arith)
+      (cell_sets_inside (exact_moved exact n (owed_at ws n) (low_at ws n) (high_at ws n - low_at ws n)) n 3 (0 ∷ 0 ∷ 0 ∷ []) debt.cell (omega arith)
       k h ∙ zeros_at k)
 
   -- links low to high-1 of n are those that stood in the owed cell
-  pub finishWords-given : (i : ℕ) → low_at ws n ≤ i → i < high_at ws n →
+  pub finish_words-given : (i : ℕ) → low_at ws n ≤ i → i < high_at ws n →
       word_in D (finish_words D ws n) n (link_field i) ≡ word_in D ws (owed_at ws n) (link_field i)
-  finishWords-given i h l =
+  finish_words-given i h l =
       finished_as (word_index D n (link_field i)) (word_in D ws (owed_at ws n) (link_field i))
       (cell_sets_after D moved n 3 (0 ∷ 0 ∷ 0 ∷ []) (link_field i) (omega arith)
       ∙ move_links-given exact n (owed_at ws n) (low_at ws n) (high_at ws n - low_at ws n) debt.cell debt.apart fits i h (omega arith))
 
   -- and those of the owed cell are 0
-  pub finishWords-cleared : (i : ℕ) → low_at ws n ≤ i → i < high_at ws n → word_in D (finish_words D ws n) (owed_at ws n) (link_field i) ≡ 0
-  finishWords-cleared i h l =
+  pub finish_words-cleared : (i : ℕ) → low_at ws n ≤ i → i < high_at ws n → word_in D (finish_words D ws n) (owed_at ws n) (link_field i) ≡ 0
+  finish_words-cleared i h l =
       finished_as (word_index D (owed_at ws n) (link_field i)) 0
       (cell_sets_other D moved n 3 (0 ∷ 0 ∷ 0 ∷ []) (omega arith) (owed_at ws n) (link_field i) (omega arith) (λ e. debt.apart (sym e))
       ∙ move_links-cleared exact n (owed_at ws n) (low_at ws n) (high_at ws n - low_at ws n) debt.owed fits i h (omega arith))
 
   -- every other word
-  pub finishWords-other : (x j : ℕ) → j < cell_words D → (x ≡ n → 3 ≤ j → j < fields_before_links → ⊥) →
+  pub finish_words-other : (x j : ℕ) → j < cell_words D → (x ≡ n → 3 ≤ j → j < fields_before_links → ⊥) →
       ((i : ℕ) → low_at ws n ≤ i → i < high_at ws n → j ≡ link_field i → (x ≡ n → ⊥) × (x ≡ owed_at ws n → ⊥)) →
       word_in D (finish_words D ws n) x j ≡ word_in D ws x j
-  finishWords-other x j h not-debt not-link = finished_as (word_index D x j) (word_in D ws x j) (uncleared (ℕ_discrete x n) (dec_lt j 3) ∙ unmoved)
+  finish_words-other x j h not-debt not-link = finished_as (word_index D x j) (word_in D ws x j) (uncleared (ℕ_discrete x n) (dec_lt j 3) ∙ unmoved)
     where
       at_least : x ≡ n → 3 ≤ j → Dec (j < fields_before_links) → fields_before_links ≤ j
       at_least e l (yes u) = absurd (not-debt e l u)
@@ -398,22 +398,22 @@ module _ {D C : ℕ} {ws : List ℕ} (exact : Exact D C ws) (n : ℕ) (debt : Ow
           ))
 
   -- every word of a cell that is neither of the two
-  pub finishWords-cell : (x j : ℕ) → j < cell_words D → (x ≡ n → ⊥) → (x ≡ owed_at ws n → ⊥) → word_in D (finish_words D ws n) x j ≡ word_in D ws x j
-  finishWords-cell x j h not-n not_c = finishWords-other x j h (λ e l u. not-n e) (λ i l u e. (not-n, not_c))
+  pub finish_words-cell : (x j : ℕ) → j < cell_words D → (x ≡ n → ⊥) → (x ≡ owed_at ws n → ⊥) → word_in D (finish_words D ws n) x j ≡ word_in D ws x j
+  finish_words-cell x j h not-n not_c = finish_words-other x j h (λ e l u. not-n e) (λ i l u e. (not-n, not_c))
 
   -- every word of the owed cell, and of any but n, that is none of those links
-  pub finishWords-field : (x j : ℕ) → j < cell_words D → (x ≡ n → ⊥) → ((i : ℕ) → low_at ws n ≤ i → i < high_at ws n → j ≡ link_field i → ⊥) →
+  pub finish_words-field : (x j : ℕ) → j < cell_words D → (x ≡ n → ⊥) → ((i : ℕ) → low_at ws n ≤ i → i < high_at ws n → j ≡ link_field i → ⊥) →
       word_in D (finish_words D ws n) x j ≡ word_in D ws x j
-  finishWords-field x j h not-n other = finishWords-other x j h (λ e l u. not-n e) (λ i l u e. absurd (other i l u e))
+  finish_words-field x j h not-n other = finish_words-other x j h (λ e l u. not-n e) (λ i l u e. absurd (other i l u e))
 
   -- key, value and mark of n
-  pub finishWords-before : (j : ℕ) → j < 3 → word_in D (finish_words D ws n) n j ≡ word_in D ws n j
-  finishWords-before j h = finishWords-other n j (omega arith) (λ e l u. omega arith) (λ i l u e. absurd (omega arith))
+  pub finish_words-before : (j : ℕ) → j < 3 → word_in D (finish_words D ws n) n j ≡ word_in D ws n j
+  finish_words-before j h = finish_words-other n j (omega arith) (λ e l u. omega arith) (λ i l u e. absurd (omega arith))
 
   -- coordinates of n, and its other links
-  pub finishWords-after : (j : ℕ) → fields_before_links ≤ j → j < cell_words D → ((i : ℕ) → low_at ws n ≤ i → i < high_at ws n → j ≡ link_field i → ⊥) →
+  pub finish_words-after : (j : ℕ) → fields_before_links ≤ j → j < cell_words D → ((i : ℕ) → low_at ws n ≤ i → i < high_at ws n → j ≡ link_field i → ⊥) →
       word_in D (finish_words D ws n) n j ≡ word_in D ws n j
-  finishWords-after j l h other = finishWords-other n j h (λ e m u. omega arith) (λ i m u e. absurd (other i m u e))
+  finish_words-after j l h other = finish_words-other n j h (λ e m u. omega arith) (λ i m u e. absurd (other i m u e))
 
 -- a word read by the dimensions that the words say
 pub word_at_in : (D : ℕ) (ws : List ℕ) → dimensions_at ws ≡ D → (x j : ℕ) → word_at ws x j ≡ word_in D ws x j
@@ -427,14 +427,14 @@ finish_words-finished {D} {C} {ws} exact dimensions n debt =
     let us = finish_words D ws n in
     let same : dimensions_at us ≡ D = finish_words-below D ws n 0 (omega arith) ∙ dimensions in
     record {
-      given = λ d l h. link_at_in D us same n d ∙ finishWords-given exact n debt d l h ∙ sym (link_at_in D ws dimensions (owed_at ws n) d);
-      cleared = λ d l h. link_at_in D us same (owed_at ws n) d ∙ finishWords-cleared exact n debt d l h;
-      owed = word_at_in D us same n 3 ∙ finishWords-debt exact n debt 0 (omega arith);
-      low = word_at_in D us same n 4 ∙ finishWords-debt exact n debt 1 (omega arith);
-      high = word_at_in D us same n 5 ∙ finishWords-debt exact n debt 2 (omega arith);
+      given = λ d l h. link_at_in D us same n d ∙ finish_words-given exact n debt d l h ∙ sym (link_at_in D ws dimensions (owed_at ws n) d);
+      cleared = λ d l h. link_at_in D us same (owed_at ws n) d ∙ finish_words-cleared exact n debt d l h;
+      owed = word_at_in D us same n 3 ∙ finish_words-debt exact n debt 0 (omega arith);
+      low = word_at_in D us same n 4 ∙ finish_words-debt exact n debt 1 (omega arith);
+      high = word_at_in D us same n 5 ∙ finish_words-debt exact n debt 2 (omega arith);
       below = λ i h. finish_words-below D ws n i (omega arith);
       other = λ x j h not-debt not-link.
           word_at_in D us same x j
-          ∙ finishWords-other exact n debt x j (omega arith) not-debt (λ d l u e. not-link d l u (omega arith))
+          ∙ finish_words-other exact n debt x j (omega arith) not-debt (λ d l u e. not-link d l u (omega arith))
           ∙ sym (word_at_in D ws dimensions x j);
     }

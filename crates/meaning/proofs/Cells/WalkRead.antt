@@ -65,10 +65,10 @@ all_places P b D row h r = (h, places_nodes P b D head_node 0 row r)
 
 module _ (s : State) where
   -- word j of the cell of a place
-  pub standing-word : (x : ℕ) (p : Place) → x < s.settings.cells → place_of x (places s.settings.base s.settings.dimensions s.row) ≡ some p →
+  pub standing_word : (x : ℕ) (p : Place) → x < s.settings.cells → place_of x (places s.settings.base s.settings.dimensions s.row) ≡ some p →
       (j : ℕ) → j < cell_words s.settings.dimensions → word_at (picture s) x j ≡ get_or (standing_words s.settings.base s.settings.dimensions p) j 0
   unfolding words_of
-  standing-word x p h found j l =
+  standing_word x p h found j l =
       picture_word s x j h l ∙ ap (λ o. get_or (words_of s.settings.base s.settings.dimensions s.free x o) j 0) found
 
   held : (p : Place) → p.node.cell < s.settings.cells →
@@ -78,7 +78,7 @@ module _ (s : State) where
   held p h found =
       let b = s.settings.base in
       let D = s.settings.dimensions in
-      let word = standing-word p.node.cell p h found in
+      let word = standing_word p.node.cell p h found in
       record {
         key = word 0 (omega arith);
         value = word 1 (omega arith);
@@ -89,9 +89,9 @@ module _ (s : State) where
         link = λ d l. word (link_field d) (omega arith) ∙ standing_link b D p d l;
       }
 
-  pub places-held : Sound s → All (Held (picture s) s.settings.base s.settings.dimensions)
+  pub places_held : Sound s → All (Held (picture s) s.settings.base s.settings.dimensions)
       (places s.settings.base s.settings.dimensions s.row)
-  places-held v =
+  places_held v =
       let C = s.settings.cells in
       let standing = places s.settings.base s.settings.dimensions s.row in
       all_zip held standing
@@ -159,27 +159,27 @@ settled_above b D p d h = rw (le-leb p.dimension d h) refl
 
 module _ (ws : List ℕ) (x d : ℕ) where
   -- link d of x is one that x owes, by its words
-  abbrev owedThere : Bool
-  owedThere = not (eqb (owed_at ws x) 0) && between (low_at ws x) (high_at ws x) d
+  abbrev owed_there : Bool
+  owed_there = not (eqb (owed_at ws x) 0) && between (low_at ws x) (high_at ws x) d
 
-  pub read-own : owedThere ≡ false → link_read ws x d ≡ link_at ws x d
+  pub read_own : owed_there ≡ false → link_read ws x d ≡ link_at ws x d
   unfolding link_read
-  read-own e = ap (λ t. link_at ws (cond t (owed_at ws x) x) d) e
+  read_own e = ap (λ t. link_at ws (cond t (owed_at ws x) x) d) e
 
-  pub read-owed : owedThere ≡ true → link_read ws x d ≡ link_at ws (owed_at ws x) d
+  pub read_owed : owed_there ≡ true → link_read ws x d ≡ link_at ws (owed_at ws x) d
   unfolding link_read
-  read-owed e = ap (λ t. link_at ws (cond t (owed_at ws x) x) d) e
+  read_owed e = ap (λ t. link_at ws (cond t (owed_at ws x) x) d) e
 
   pub read_unowing : owed_at ws x ≡ 0 → link_read ws x d ≡ link_at ws x d
-  read_unowing e = read-own (ap (λ t. not t && between (low_at ws x) (high_at ws x) d) (eq-eqb (owed_at ws x) 0 e))
+  read_unowing e = read_own (ap (λ t. not t && between (low_at ws x) (high_at ws x) d) (eq-eqb (owed_at ws x) 0 e))
 
   pub read_below : d < low_at ws x → link_read ws x d ≡ link_at ws x d
   read_below h =
-      read-own
+      read_own
       (ap (λ t. not (eqb (owed_at ws x) 0) && t) (between_out (low_at ws x) (high_at ws x) d (λ k l. omega arith)) ∙ and-false (not (eqb (owed_at ws x) 0)))
 
   pub read_above : high_at ws x ≤ d → link_read ws x d ≡ link_at ws x d
-  read_above h = read-own (ap (λ t. not (eqb (owed_at ws x) 0) && t) (between_not (low_at ws x) (high_at ws x) d h) ∙ and-false (not (eqb (owed_at ws x) 0)))
+  read_above h = read_own (ap (λ t. not (eqb (owed_at ws x) 0) && t) (between_not (low_at ws x) (high_at ws x) d h) ∙ and-false (not (eqb (owed_at ws x) 0)))
 
   pub read_through : 0 < owed_at ws x → low_at ws x ≤ d → d < high_at ws x → link_read ws x d ≡ link_at ws (owed_at ws x) d
   read_through o h l = owed_link_is_read_there ws x d (λ e. omega arith) h l
@@ -238,13 +238,13 @@ pub record Read (ws : List ℕ) (b D : ℕ) (p : Place) : Type 0 where
   pub link : (d : ℕ) → p.dimension ≤ d → d < D → link_read ws p.node.cell d ≡ settled_link b D p d
 
 module _ (ws : List ℕ) (b D : ℕ) where
-  reads-after : (a : Node) (e : ℕ) (row : List Node) → All (Held ws b D) (places_after b D a e row) →
+  reads_after : (a : Node) (e : ℕ) (row : List Node) → All (Held ws b D) (places_after b D a e row) →
       All (λ n. n.node.owes ≡ true → Debt b D n) (places_after b D a e row) → All (λ x. 0 < x.cell) row → All (Read ws b D) (places_after b D a e row)
   unfolding places_after
-  reads-after a e [] held debts pos = tt
-  reads-after a e (x ∷ row) held debts pos = (
+  reads_after a e [] held debts pos = tt
+  reads_after a e (x ∷ row) held debts pos = (
     record { key = held.0.key; link = link_read_at ws b D _ held.0 held.1 debts.0 pos.1 },
-    reads-after x (shared b D a.key x.key) row held.1 debts.1 pos.1,
+    reads_after x (shared b D a.key x.key) row held.1 debts.1 pos.1,
   )
 
   reads : (row : List Node) → All (Held ws b D) (places b D row) → All (λ n. n.node.owes ≡ true → Debt b D n) (places b D row) →
@@ -252,29 +252,29 @@ module _ (ws : List ℕ) (b D : ℕ) where
   unfolding places
   reads row held debts pos = (
     record { key = held.0.key; link = link_read_at ws b D (head_place row) held.0 held.1 debts.0 pos },
-    reads-after head_node 0 row held.1 debts.1 pos,
+    reads_after head_node 0 row held.1 debts.1 pos,
   )
 
 module _ (s : State) (v : Sound s) where
-  pub places-read : All (Read (picture s) s.settings.base s.settings.dimensions) (places s.settings.base s.settings.dimensions s.row)
-  places-read = reads (picture s) s.settings.base s.settings.dimensions s.row (places-held s v) v.debts
+  pub places_read : All (Read (picture s) s.settings.base s.settings.dimensions) (places s.settings.base s.settings.dimensions s.row)
+  places_read = reads (picture s) s.settings.base s.settings.dimensions s.row (places_held s v) v.debts
       (all_map (λ x h. h.0) s.row (row_range s v))
 
-  pub key-read : All (λ p. key_at (picture s) p.node.cell ≡ p.node.key) (places s.settings.base s.settings.dimensions s.row)
-  key-read = all_map (λ p h. h.key) (places s.settings.base s.settings.dimensions s.row) (places-held s v)
+  pub key_read : All (λ p. key_at (picture s) p.node.cell ≡ p.node.key) (places s.settings.base s.settings.dimensions s.row)
+  key_read = all_map (λ p h. h.key) (places s.settings.base s.settings.dimensions s.row) (places_held s v)
 
   -- from a cell's dimension up (below it, a cell to which the one before owes still holds that one's links)
-  pub link-read : (d : ℕ) → d < s.settings.dimensions →
+  pub link_read_lem : (d : ℕ) → d < s.settings.dimensions →
       All (λ p. p.dimension ≤ d → link_read (picture s) p.node.cell d ≡ settled_link s.settings.base s.settings.dimensions p d)
       (places s.settings.base s.settings.dimensions s.row)
-  link-read d l = all_map (λ p r h. r.link d h l) (places s.settings.base s.settings.dimensions s.row) places-read
+  link_read_lem d l = all_map (λ p r h. r.link d h l) (places s.settings.base s.settings.dimensions s.row) places_read
 
-  pub row-key-read : All (λ x. key_at (picture s) x.cell ≡ x.key) s.row
+  pub row_key_read : All (λ x. key_at (picture s) x.cell ≡ x.key) s.row
   unfolding places
-  row-key-read = row_of_places (λ x. key_at (picture s) x.cell ≡ x.key) s.settings.base s.settings.dimensions head_node 0 s.row key-read.1
+  row_key_read = row_of_places (λ x. key_at (picture s) x.cell ≡ x.key) s.settings.base s.settings.dimensions head_node 0 s.row key_read.1
 
-  pub row-mark-read : All (λ x. mark_at (picture s) x.cell ≡ mark x.live) s.row
+  pub row_mark_read : All (λ x. mark_at (picture s) x.cell ≡ mark x.live) s.row
   unfolding places
-  row-mark-read =
+  row_mark_read =
       row_of_places (λ x. mark_at (picture s) x.cell ≡ mark x.live) s.settings.base s.settings.dimensions head_node 0 s.row
-      (all_map (λ p h. h.mark) (places_after s.settings.base s.settings.dimensions head_node 0 s.row) (places-held s v).1)
+      (all_map (λ p h. h.mark) (places_after s.settings.base s.settings.dimensions head_node 0 s.row) (places_held s v).1)

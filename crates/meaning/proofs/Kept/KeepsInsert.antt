@@ -30,7 +30,7 @@ use Rattle.meaning.proofs.Rows.Places.{asc_left, last_from, dimension_from, Keep
 use Rattle.meaning.proofs.Rows.Places.{asc_smaller, asc_larger, on_cell, on_cell-cases, on_cell-keeping, key_of_same, key_of_other, key_of_put}
 use Rattle.meaning.proofs.Kept.KeepsState.{changed_sound}
 use Rattle.meaning.proofs.Kept.KeepsFinish.{paid_keeping, finished_sound}
-use Rattle.meaning.proofs.Rows.Parent.{dimension_after, parent_after, places_from, Without, Apart, all_last, asc_last, apart_at, last-first, parent_is}
+use Rattle.meaning.proofs.Rows.Parent.{dimension_after, parent_after, places_from, Without, Apart, all_last, asc_last, apart_at, last_first, parent_is}
 use Rattle.meaning.proofs.Walks.Smaller.{smaller_is}
 use Rattle.meaning.proofs.Kept.Slot.{Gap, gap, put_gap, asc_put, apart_put, sound_apart, first_free, dimensions_positive, cell_after, SlotIs}
 use Rattle.meaning.proofs.Kept.Slot.{slot_is, without_changed, apart_changed, gap_changed, last_changed, gap_last, first_free_apart}
@@ -59,8 +59,8 @@ last_key_of y (z ∷ pre) rest o =
     key_of_other (last_from z pre).cell y (z ∷ (pre ++ rest)) (λ e. other (sym e)) ∙ last_key_of z pre rest o.1
 
 module _ (s : State) (pre : List Node) (x : Node) (post : List Node) (a : Asc 0 (pre ++ x ∷ post)) (o : Apart (head_node ∷ (pre ++ x ∷ post))) where
-  smaller-lowers : x.key ≤ position_key s → Lowered s x.key (last_from head_node pre).cell (pre ++ x ∷ post)
-  smaller-lowers h =
+  smaller_lowers : x.key ≤ position_key s → Lowered s x.key (last_from head_node pre).cell (pre ++ x ∷ post)
+  smaller_lowers h =
       let row = pre ++ x ∷ post in
       let key = last_key_of head_node pre (x ∷ post) o in
       let less = (asc_last head_node pre (x ∷ post) a).0 in
@@ -81,7 +81,7 @@ module _ (s : State) (pre : List Node) (x : Node) (post : List Node) (a : Asc 0 
     where
       at : Dec (x.key ≤ position_key s) → Lowered s x.key (cond (leb x.key (position_key s)) (smaller_than x.key s.row).cell
           s.position) (pre ++ x ∷ post)
-      at (yes h) = rw (le-leb x.key (position_key s) h, is) (smaller-lowers h)
+      at (yes h) = rw (le-leb x.key (position_key s) h, is) (smaller_lowers h)
       at (no h) =
           let l : position_key s < x.key = omega arith in
           rw (lt-leb x.key (position_key s) l) (record { stands = stands; below = omega arith; least = omega arith })
@@ -96,71 +96,71 @@ module _ (s : State) (x : Node) (value : ℕ) (v : Sound s) (pre post : List Nod
   alone = apart_at head_node pre x post (subst (λ r. Apart (head_node ∷ r)) split (sound_apart s v))
 
   -- only x has its cell
-  same-cell : All (λ y. y.cell ≡ x.cell → y.key ≡ x.key) s.row
-  same-cell =
+  same_cell : All (λ y. y.cell ≡ x.cell → y.key ≡ x.key) s.row
+  same_cell =
       subst (All (λ y. y.cell ≡ x.cell → y.key ≡ x.key)) (sym split)
       (all_append (λ y. y.cell ≡ x.cell → y.key ≡ x.key) pre (x ∷ post)
       (all_map (λ y n h. absurd (n h)) pre (all_left (λ y. y.cell ≡ x.cell → ⊥) pre post alone.1))
       (λ h. refl, all_map (λ y n h. absurd (n h)) post (all_right (λ y. y.cell ≡ x.cell → ⊥) pre post alone.1)))
 
-  pub revived-keeping : Keeping (on_cell x.cell (revived_node value))
-  revived-keeping = on_cell-keeping x.cell (revived_node value) (λ y. refl) (λ y. refl) (λ z. absurd (alone.0 z))
+  pub revived_keeping : Keeping (on_cell x.cell (revived_node value))
+  revived_keeping = on_cell-keeping x.cell (revived_node value) (λ y. refl) (λ y. refl) (λ z. absurd (alone.0 z))
 
-  revived-row : map revive s.row ≡ map revive pre ++ revive x ∷ map revive post
-  revived-row = ap (map revive) split ∙ map-append revive pre (x ∷ post)
+  revived_row : map revive s.row ≡ map revive pre ++ revive x ∷ map revive post
+  revived_row = ap (map revive) split ∙ map-append revive pre (x ∷ post)
 
-  revived-ascends : Asc 0 (map revive pre ++ revive x ∷ map revive post)
-  revived-ascends = subst (Asc 0) revived-row (asc_changed revive revived-keeping 0 s.row v.ascends)
+  revived_ascends : Asc 0 (map revive pre ++ revive x ∷ map revive post)
+  revived_ascends = subst (Asc 0) revived_row (asc_changed revive revived_keeping 0 s.row v.ascends)
 
-  revived-apart : Apart (head_node ∷ (map revive pre ++ revive x ∷ map revive post))
-  revived-apart =
+  revived_apart : Apart (head_node ∷ (map revive pre ++ revive x ∷ map revive post))
+  revived_apart =
       let o = sound_apart s v in
-      subst (λ r. Apart (head_node ∷ r)) revived-row (
-        without_changed revive revived-keeping 0 s.row o.0,
-        apart_changed revive revived-keeping
+      subst (λ r. Apart (head_node ∷ r)) revived_row (
+        without_changed revive revived_keeping 0 s.row o.0,
+        apart_changed revive revived_keeping
             s.row o.1,
       )
 
   -- the node of next smaller key, before the call and after it
-  revived-smaller : (smaller_than x.key s.row).cell ≡ (last_from head_node (map (on_cell x.cell (revived_node value)) pre)).cell
-  revived-smaller =
+  revived_smaller : (smaller_than x.key s.row).cell ≡ (last_from head_node (map (on_cell x.cell (revived_node value)) pre)).cell
+  revived_smaller =
       let asc = subst (Asc 0) split v.ascends in
       ap (λ r. (smaller_than x.key r).cell) split
       ∙ ap (λ y. y.cell) (smaller_is x.key pre (x ∷ post) (asc_smaller 0 pre x post asc)
       (omega arith, all_map (λ y h. omega arith) post (asc_larger 0 pre x post asc)))
-      ∙ sym (ap (λ y. y.cell) (last_changed revive revived-keeping pre) ∙ revived-keeping.cell (last_from head_node pre))
+      ∙ sym (ap (λ y. y.cell) (last_changed revive revived_keeping pre) ∙ revived_keeping.cell (last_from head_node pre))
 
-  pub revived-position : x.key ≤ position_key s → (revived s x value).position ≡ (last_from head_node (map (on_cell x.cell (revived_node value)) pre)).cell
+  pub revived_position : x.key ≤ position_key s → (revived s x value).position ≡ (last_from head_node (map (on_cell x.cell (revived_node value)) pre)).cell
   unfolding revived position_after
-  revived-position h = rw (le-leb x.key (position_key s) h) revived-smaller
+  revived_position h = rw (le-leb x.key (position_key s) h) revived_smaller
 
-  revived-lowered : Lowered s x.key (position_after s x.key) (map revive s.row)
-  revived-lowered =
-      subst (Lowered s x.key (position_after s x.key)) (sym revived-row)
-      (subst (λ i. Lowered s i (position_after s i) (map revive pre ++ revive x ∷ map revive post)) (revived-keeping.key x)
-      (position_lowers s (map revive pre) (revive x) (map revive post) revived-ascends revived-apart
-      (ap (λ i. (smaller_than i s.row).cell) (revived-keeping.key x) ∙ revived-smaller)
-      (subst (λ r. 0 < occurrences s.position (0 ∷ map (λ y. y.cell) r)) revived-row
-      (subst (λ cs. 0 < occurrences s.position (0 ∷ cs)) (sym (cells_changed revive revived-keeping s.row)) v.position))
-      (ap (λ r. key_of s.position (head_node ∷ r)) (sym revived-row) ∙ key_of_head_changed revive revived-keeping s.position s.row)))
+  revived_lowered : Lowered s x.key (position_after s x.key) (map revive s.row)
+  revived_lowered =
+      subst (Lowered s x.key (position_after s x.key)) (sym revived_row)
+      (subst (λ i. Lowered s i (position_after s i) (map revive pre ++ revive x ∷ map revive post)) (revived_keeping.key x)
+      (position_lowers s (map revive pre) (revive x) (map revive post) revived_ascends revived_apart
+      (ap (λ i. (smaller_than i s.row).cell) (revived_keeping.key x) ∙ revived_smaller)
+      (subst (λ r. 0 < occurrences s.position (0 ∷ map (λ y. y.cell) r)) revived_row
+      (subst (λ cs. 0 < occurrences s.position (0 ∷ cs)) (sym (cells_changed revive revived_keeping s.row)) v.position))
+      (ap (λ r. key_of s.position (head_node ∷ r)) (sym revived_row) ∙ key_of_head_changed revive revived_keeping s.position s.row)))
 
-  revived-sound-at : Sound (revived s x value)
+  revived_sound_at : Sound (revived s x value)
   unfolding revived
-  revived-sound-at =
+  revived_sound_at =
       let p = position_after s x.key in
-      let same = key_of_head_changed revive revived-keeping p s.row in
-      let below = revived-lowered.below in
-      let least = revived-lowered.least in
-      changed_sound s revive p v revived-keeping
+      let same = key_of_head_changed revive revived_keeping p s.row in
+      let below = revived_lowered.below in
+      let least = revived_lowered.least in
+      changed_sound s revive p v revived_keeping
       (λ y h. on_cell-cases (λ z. z.owes ≡ false) x.cell (revived_node value) y (λ here. h) (λ other. h))
       (all_map (λ y h. on_cell-cases (λ z. z.live ≡ false → z.value ≡ 0) x.cell (revived_node value) y
       (λ here l. absurd (let z : ◌≡◌ {A = ℕ} 0 1 = cc in omega arith)) (λ other. h)) s.row v.values)
-      (subst (λ cs. 0 < occurrences p (0 ∷ cs)) (cells_changed revive revived-keeping s.row) revived-lowered.stands)
+      (subst (λ cs. 0 < occurrences p (0 ∷ cs)) (cells_changed revive revived_keeping s.row) revived_lowered.stands)
       (all_zip (λ y only dead l. on_cell-cases (λ z. z.live ≡ false) x.cell (revived_node value) y
-      (λ here. absurd (let q = only here in omega arith)) (λ other. dead (omega arith))) s.row same-cell v.dead)
+      (λ here. absurd (let q = only here in omega arith)) (λ other. dead (omega arith))) s.row same_cell v.dead)
 
 pub revived_sound : (s : State) (x : Node) (value : ℕ) → Sound s → node_at x.key s.row ≡ some x → x.live ≡ false → Sound (revived s x value)
-revived_sound s x value v e dead = let t = node_split x.key x s.row e in revived-sound-at s x value v t.0 t.1 t.2
+revived_sound s x value v e dead = let t = node_split x.key x s.row e in revived_sound_at s x value v t.0 t.1 t.2
 
 -- A new node
 
@@ -194,28 +194,28 @@ module _ (b D : ℕ) where
   Allowed row y e = All (λ n. n.node.owes ≡ true → Debt b D n) (places_after b D y e row)
 
   -- a debt does not depend on the dimension of the node before
-  debts-any : (y : Node) (e f : ℕ) (row : List Node) → Allowed row y e → Allowed row y f
+  debts_any : (y : Node) (e f : ℕ) (row : List Node) → Allowed row y e → Allowed row y f
   unfolding places_after
-  debts-any y e f [] a = tt
-  debts-any y e f (x ∷ row) a = (λ h. let d = a.0 h in record { later = d.later; unowing = d.unowing; lower = d.lower }, a.1)
+  debts_any y e f [] a = tt
+  debts_any y e f (x ∷ row) a = (λ h. let d = a.0 h in record { later = d.later; unowing = d.unowing; lower = d.lower }, a.1)
 
   -- nor, but for the next larger node's, on what comes before
-  debts-behind : (y x : Node) (e f : ℕ) (post : List Node) → ((first_of post).owes ≡ true →
+  debts_behind : (y x : Node) (e f : ℕ) (post : List Node) → ((first_of post).owes ≡ true →
       shared b D y.key (first_of post).key ≡ shared b D x.key (first_of post).key) → Allowed post y e → Allowed post x f
   unfolding places_after
-  debts-behind y x e f [] same a = tt
-  debts-behind y x e f (z ∷ post) same a = (
+  debts_behind y x e f [] same a = tt
+  debts_behind y x e f (z ∷ post) same a = (
     λ h. let d = a.0 h in record {
       later = d.later;
       unowing = d.unowing;
       lower = subst (λ i. i < shared b D z.key (first_of post).key) (same h) d.lower;
     },
-    debts-any z (shared b D y.key z.key) (shared b D x.key z.key) post a.1,
+    debts_any z (shared b D y.key z.key) (shared b D x.key z.key) post a.1,
   )
 
   -- Debts stay allowed where a new node x comes after one that does not owe, if the debt of x is allowed and the next larger node,
   -- if it owes, shares as much with x as with the one before.
-  debts-put :
+  debts_put :
       (w : Node) (f : ℕ) (y : Node) (e : ℕ) (pre : List Node) (x : Node) (post : List Node) → (last_from y pre).owes ≡ false →
       (x.owes ≡ true → Debt b D (record {
         node = x;
@@ -228,14 +228,14 @@ module _ (b D : ℕ) where
       All (λ n. n.node.owes ≡ true → Debt b D n) (places_from b D w f y e (pre ++ post)) →
       All (λ n. n.node.owes ≡ true → Debt b D n) (places_from b D w f y e (pre ++ x ∷ post))
   unfolding places_after last_from dimension_from
-  debts-put w f y e [] x post un own same a = (
+  debts_put w f y e [] x post un own same a = (
     λ h. absurd (let z : ◌≡◌ {A = ℕ} 0 1 = cc in omega arith),
-    (own, debts-behind y x e (shared b D y.key x.key) post same a.1),
+    (own, debts_behind y x e (shared b D y.key x.key) post same a.1),
   )
-  debts-put w f y e (z ∷ pre) x post un own same a = (
+  debts_put w f y e (z ∷ pre) x post un own same a = (
     λ h. let d = a.0 h in
         record { later = omega arith; unowing = d.unowing; lower = d.lower },
-    debts-put y e z (shared b D y.key z.key) pre x post un own same
+    debts_put y e z (shared b D y.key z.key) pre x post un own same
         a.1,
   )
 
@@ -270,7 +270,7 @@ put_sound s x free p v h most g first value un own same lowered =
           (moved_all (λ c. occurrences c ((front ++ back) ++ (x.cell ∷ free)) ≡ 1) front back x.cell free
           (subst (λ cs. All (λ c. occurrences c cs ≡ 1) cs) old v.once)));
       values = nodes (λ y. y.live ≡ false → y.value ≡ 0) value v.values;
-      debts = debts-put b D head_node 0 head_node 0 pre x post un own same
+      debts = debts_put b D head_node 0 head_node 0 pre x post un own same
           (subst (λ r. All (λ n. n.node.owes ≡ true → Debt b D n) (places b D r)) g.splits v.debts);
       position = lowered.stands;
       dead =
@@ -361,7 +361,7 @@ owing_parent s v key h g owes =
     let u = ultra b D A.key key (first_of g.post).key (base_positive s v) (omega arith) (omega arith) in
     let l = t.1 in
     let m = shared_less b D A.key key (dimensions_positive s v) (omega arith) in
-    last-first b D (base_positive s v) (dimensions_positive s v) (shared b D A.key key) head_node 0 g.pre
+    last_first b D (base_positive s v) (dimensions_positive s v) (shared b D A.key key) head_node 0 g.pre
     (asc_left 0 g.pre g.post (subst (Asc 0) g.splits v.ascends)) m (omega arith)
 
 -- The row with one node more
@@ -421,8 +421,8 @@ module _ (s : State) (v : Sound s) (key value : ℕ) (positive : 0 < key) (g : G
   abbrev settled : State
   settled = both_paid s t
 
-  settled-sound : Sound settled
-  settled-sound = both_sound s t v
+  settled_sound : Sound settled
+  settled_sound = both_sound s t v
 
   abbrev pay : Node → Node
   pay y = on_cell t.c paid (on_cell t.parent paid y)
@@ -433,31 +433,31 @@ module _ (s : State) (v : Sound s) (key value : ℕ) (positive : 0 < key) (g : G
   abbrev back : List Node
   back = finished t.c (finished t.parent g.post)
 
-  pay-key : (y : Node) → (pay y).key ≡ y.key
-  pay-key y = (paid_keeping t.c).key (on_cell t.parent paid y) ∙ (paid_keeping t.parent).key y
+  pay_key : (y : Node) → (pay y).key ≡ y.key
+  pay_key y = (paid_keeping t.c).key (on_cell t.parent paid y) ∙ (paid_keeping t.parent).key y
 
-  pay-cell : (y : Node) → (pay y).cell ≡ y.cell
-  pay-cell y = (paid_keeping t.c).cell (on_cell t.parent paid y) ∙ (paid_keeping t.parent).cell y
+  pay_cell : (y : Node) → (pay y).cell ≡ y.cell
+  pay_cell y = (paid_keeping t.c).cell (on_cell t.parent paid y) ∙ (paid_keeping t.parent).cell y
 
-  last-paid : last_from head_node front ≡ pay (last_from head_node g.pre)
+  last_paid : last_from head_node front ≡ pay (last_from head_node g.pre)
   unfolding finished
-  last-paid = last_changed (on_cell t.c paid) (paid_keeping t.c) (finished t.parent g.pre)
+  last_paid = last_changed (on_cell t.c paid) (paid_keeping t.c) (finished t.parent g.pre)
       ∙ ap (on_cell t.c paid) (last_changed (on_cell t.parent paid) (paid_keeping t.parent) g.pre)
 
-  next-paid : first_of back ≡ pay (first_of g.post)
+  next_paid : first_of back ≡ pay (first_of g.post)
   unfolding finished
-  next-paid = first_of_changed (on_cell t.c paid) (paid_keeping t.c) (finished t.parent g.post)
+  next_paid = first_of_changed (on_cell t.c paid) (paid_keeping t.c) (finished t.parent g.post)
       ∙ ap (on_cell t.c paid) (first_of_changed (on_cell t.parent paid) (paid_keeping t.parent) g.post)
 
   last_key_lem : (last_from head_node front).key ≡ (last_from head_node g.pre).key
-  last_key_lem = ap (λ y. y.key) last-paid ∙ pay-key (last_from head_node g.pre)
+  last_key_lem = ap (λ y. y.key) last_paid ∙ pay_key (last_from head_node g.pre)
 
-  next-key : (first_of back).key ≡ (first_of g.post).key
-  next-key = ap (λ y. y.key) next-paid ∙ pay-key (first_of g.post)
+  next_key : (first_of back).key ≡ (first_of g.post).key
+  next_key = ap (λ y. y.key) next_paid ∙ pay_key (first_of g.post)
 
   -- if the node before x owed, it is the parent, whose debt is finished
-  last-unowing : (last_from head_node front).owes ≡ false
-  last-unowing = ap (λ y. y.owes) last-paid ∙ at (pay (last_from head_node g.pre)).owes refl
+  last_unowing : (last_from head_node front).owes ≡ false
+  last_unowing = ap (λ y. y.owes) last_paid ∙ at (pay (last_from head_node g.pre)).owes refl
     where
       at : (o : Bool) → (pay (last_from head_node g.pre)).owes ≡ o → o ≡ false
       at false e = refl
@@ -466,7 +466,7 @@ module _ (s : State) (v : Sound s) (key value : ℕ) (positive : 0 < key) (g : G
           absurd (p.1 (sym (i.parent_is ∙ owing_parent s v key positive g p.0)))
 
   -- x owes to c, whose debt is finished
-  new-debt : x.owes ≡ true → Debt b D (record {
+  new_debt : x.owes ≡ true → Debt b D (record {
     node = x;
     dimension = dimension_after b D head_node front key;
     before = last_from head_node front;
@@ -474,7 +474,7 @@ module _ (s : State) (v : Sound s) (key value : ℕ) (positive : 0 < key) (g : G
     later = back;
   })
   unfolding finished
-  new-debt owes =
+  new_debt owes =
       let two = both (not (eqb t.c 0)) (ltb t.p t.q) owes in
       let held : t.c ≡ 0 → ⊥ = eqb-false t.c 0 (not-true (eqb t.c 0) two.0) in
       let less = ltb-true t.p t.q two.1 in
@@ -482,15 +482,15 @@ module _ (s : State) (v : Sound s) (key value : ℕ) (positive : 0 < key) (g : G
       let here : (on_cell t.parent paid (first_of g.post)).cell ≡ t.c = (paid_keeping t.parent).cell (first_of g.post) ∙ sym (i.c_is ∙ next.1) in
       record {
         later = rw (length-map (map (on_cell t.parent paid) g.post) (on_cell t.c paid), length-map g.post (on_cell t.parent paid)) next.0;
-        unowing = ap (λ y. y.owes) next-paid ∙ on_cell-cases (λ y. y.owes ≡ false) t.c paid (on_cell t.parent paid (first_of g.post))
+        unowing = ap (λ y. y.owes) next_paid ∙ on_cell-cases (λ y. y.owes ≡ false) t.c paid (on_cell t.parent paid (first_of g.post))
             (λ e. refl) (λ other. absurd (other here));
-        lower = subst₂ (λ m n. shared b D m key < shared b D key n) (sym last_key_lem) (sym next-key) (subst₂ (λ m n. m < n) i.p_is (i.q_is held) less);
+        lower = subst₂ (λ m n. shared b D m key < shared b D key n) (sym last_key_lem) (sym next_key) (subst₂ (λ m n. m < n) i.p_is (i.q_is held) less);
       }
 
   -- if the next larger node still owes, it does not have the slot, and its dimension stays
-  next-same : (first_of back).owes ≡ true → dimension_after b D head_node front (first_of back).key ≡ shared b D key (first_of back).key
-  next-same owes =
-      let c = paid_owes t.c (on_cell t.parent paid (first_of g.post)) (sym (ap (λ y. y.owes) next-paid) ∙ owes) in
+  next_same : (first_of back).owes ≡ true → dimension_after b D head_node front (first_of back).key ≡ shared b D key (first_of back).key
+  next_same owes =
+      let c = paid_owes t.c (on_cell t.parent paid (first_of g.post)) (sym (ap (λ y. y.owes) next_paid) ∙ owes) in
       let stands = first_owes g.post (paid_owes t.parent (first_of g.post) c.0).0 in
       let less = slot_not_first b D key (dimension_after b D head_node g.pre key) g.post stands
       (λ e. c.1 ((paid_keeping t.parent).cell (first_of g.post) ∙ e ∙ sym i.c_is)) in
@@ -498,85 +498,85 @@ module _ (s : State) (v : Sound s) (key value : ℕ) (positive : 0 < key) (g : G
       let high = first_has (λ y. key < y.key) g.post g.above stands in
       let u = ultra b D (last_from head_node g.pre).key key (first_of g.post).key (base_positive s v) (omega arith) (omega arith) in
       let same : shared b D (last_from head_node g.pre).key (first_of g.post).key ≡ shared b D key (first_of g.post).key = omega arith in
-      subst₂ (λ m n. shared b D m n ≡ shared b D key n) (sym last_key_lem) (sym next-key) same
+      subst₂ (λ m n. shared b D m n ≡ shared b D key n) (sym last_key_lem) (sym next_key) same
 
   -- The cell of x is new, and the position's is not
 
-  new-cell : Without x.cell (head_node ∷ settled.row)
-  new-cell = subst (λ c. Without c (head_node ∷ settled.row)) (sym i.n_is) (first_free_apart settled settled-sound f)
+  new_cell : Without x.cell (head_node ∷ settled.row)
+  new_cell = subst (λ c. Without c (head_node ∷ settled.row)) (sym i.n_is) (first_free_apart settled settled_sound f)
 
-  position-old : x.cell ≡ s.position → ⊥
-  position-old e =
+  position_old : x.cell ≡ s.position → ⊥
+  position_old e =
       let absent = none_occurs x.cell (map (λ y. y.cell) (head_node ∷ settled.row))
       (all_mapped (λ c. x.cell ≡ c → ⊥) (λ y. y.cell) (head_node ∷ settled.row)
-      (all_map (λ y n m. n (sym m)) (head_node ∷ settled.row) new-cell)) in
-      let stands = subst (λ c. 0 < occurrences c (map (λ y. y.cell) (head_node ∷ settled.row))) (sym e) settled-sound.position in
+      (all_map (λ y n m. n (sym m)) (head_node ∷ settled.row) new_cell)) in
+      let stands = subst (λ c. 0 < occurrences c (map (λ y. y.cell) (head_node ∷ settled.row))) (sym e) settled_sound.position in
       omega arith
 
-  settled-row : settled.row ≡ front ++ back
+  settled_row : settled.row ≡ front ++ back
   unfolding both_gap finished gap_changed
-  settled-row = (both_gap s t key g).splits
+  settled_row = (both_gap s t key g).splits
 
-  new-ascends : Asc 0 (front ++ x ∷ back)
+  new_ascends : Asc 0 (front ++ x ∷ back)
   unfolding both_gap finished gap_changed
-  new-ascends = asc_put 0 x front back positive (subst (Asc 0) settled-row settled-sound.ascends) (both_gap s t key g).below (both_gap s t key g).above
+  new_ascends = asc_put 0 x front back positive (subst (Asc 0) settled_row settled_sound.ascends) (both_gap s t key g).below (both_gap s t key g).above
 
   new_apart : Apart (head_node ∷ (front ++ x ∷ back))
-  new_apart = apart_put head_node x front back (subst (λ r. Apart (head_node ∷ r)) settled-row (sound_apart settled settled-sound))
-      (subst (λ r. Without x.cell (head_node ∷ r)) settled-row new-cell)
+  new_apart = apart_put head_node x front back (subst (λ r. Apart (head_node ∷ r)) settled_row (sound_apart settled settled_sound))
+      (subst (λ r. Without x.cell (head_node ∷ r)) settled_row new_cell)
 
   -- the node of next smaller key, before the call and after it
-  new-smaller : (smaller_than key s.row).cell ≡ (last_from head_node front).cell
-  new-smaller =
+  new_smaller : (smaller_than key s.row).cell ≡ (last_from head_node front).cell
+  new_smaller =
       ap (λ r. (smaller_than key r).cell) g.splits
       ∙ ap (λ y. y.cell) (smaller_is key g.pre g.post g.below (all_map (λ y h. omega arith) g.post g.above))
-      ∙ sym (ap (λ y. y.cell) last-paid ∙ pay-cell (last_from head_node g.pre))
+      ∙ sym (ap (λ y. y.cell) last_paid ∙ pay_cell (last_from head_node g.pre))
 
   -- the old position's cell has the key that it had
-  old-key : key_of s.position (head_node ∷ (front ++ x ∷ back)) ≡ position_key s
-  old-key =
-      key_of_put s.position x (head_node ∷ front) back position-old ∙ ap (λ r. key_of s.position (head_node ∷ r)) (sym settled-row) ∙ both_position s t
+  old_key : key_of s.position (head_node ∷ (front ++ x ∷ back)) ≡ position_key s
+  old_key =
+      key_of_put s.position x (head_node ∷ front) back position_old ∙ ap (λ r. key_of s.position (head_node ∷ r)) (sym settled_row) ∙ both_position s t
 
-  new-lowered : Lowered settled key (position_after s key) (front ++ x ∷ back)
-  new-lowered =
+  new_lowered : Lowered settled key (position_after s key) (front ++ x ∷ back)
+  new_lowered =
       let more = occurrences_put s.position x (head_node ∷ front) back in
-      let stands = subst (λ r. 0 < occurrences s.position (0 ∷ map (λ y. y.cell) r)) settled-row settled-sound.position in
-      let l = position_lowers s front x back new-ascends new_apart new-smaller (omega arith) old-key in
+      let stands = subst (λ r. 0 < occurrences s.position (0 ∷ map (λ y. y.cell) r)) settled_row settled_sound.position in
+      let l = position_lowers s front x back new_ascends new_apart new_smaller (omega arith) old_key in
       record {
         stands = l.stands;
         below = l.below;
         least = subst (λ k. key_of (position_after s key) (head_node ∷ (front ++ x ∷ back)) ≤ k) (sym (both_position s t)) l.least;
       }
 
-  pub added-row :
+  pub added_row :
       (added s key value t).row
       ≡ finished t.c (finished t.parent g.pre) ++ new_node t.n key value (slot_owes t) ∷ finished t.c (finished t.parent g.post)
   unfolding added both_gap finished gap_changed
-  added-row = put_gap x settled.row (both_gap s t key g)
+  added_row = put_gap x settled.row (both_gap s t key g)
 
   -- The operations 2: where the position goes
-  pub added-position-lowered : key ≤ position_key s →
+  pub added_position_lowered : key ≤ position_key s →
       (added s key value t).position ≡ (last_from head_node (finished t.c (finished t.parent g.pre))).cell
   unfolding added position_after
-  added-position-lowered h = rw (le-leb key (position_key s) h) new-smaller
+  added_position_lowered h = rw (le-leb key (position_key s) h) new_smaller
 
-  pub added-position-kept : position_key s < key → (added s key value t).position ≡ s.position
+  pub added_position_kept : position_key s < key → (added s key value t).position ≡ s.position
   unfolding added position_after
-  added-position-kept h = rw (lt-leb key (position_key s) h) refl
+  added_position_kept h = rw (lt-leb key (position_key s) h) refl
 
-  pub added-key-kept : position_key s < key → position_key (added s key value t) ≡ position_key s
-  added-key-kept h = ap₂ (λ c r. key_of c (head_node ∷ r)) (added-position-kept h) added-row ∙ old-key
+  pub added_key_kept : position_key s < key → position_key (added s key value t) ≡ position_key s
+  added_key_kept h = ap₂ (λ c r. key_of c (head_node ∷ r)) (added_position_kept h) added_row ∙ old_key
 
-  pub added-sound-at : key ≤ s.settings.largest → Sound (added s key value t)
+  pub added_sound_at : key ≤ s.settings.largest → Sound (added s key value t)
   unfolding added both_gap finished gap_changed
-  added-sound-at most =
-      subst (λ r. Sound (record { settings = s.settings; row = r; free = drop 1 s.free; position = position_after s key })) (sym added-row)
-      (put_sound settled x (drop 1 s.free) (position_after s key) settled-sound positive most (both_gap s t key g)
+  added_sound_at most =
+      subst (λ r. Sound (record { settings = s.settings; row = r; free = drop 1 s.free; position = position_after s key })) (sym added_row)
+      (put_sound settled x (drop 1 s.free) (position_after s key) settled_sound positive most (both_gap s t key g)
       (first_free s.free f ∙ ap {B = List ℕ} (λ c. c ∷ drop 1 s.free) (sym i.n_is))
-      (λ l. absurd (let z : ◌≡◌ {A = ℕ} 0 1 = cc in omega arith)) last-unowing new-debt next-same new-lowered)
+      (λ l. absurd (let z : ◌≡◌ {A = ℕ} 0 1 = cc in omega arith)) last_unowing new_debt next_same new_lowered)
 
 pub added_sound : (s : State) (key value : ℕ) → Sound s → 1 ≤ key → key ≤ s.settings.largest → node_at key s.row ≡ none → 0 < length s.free →
     Sound (added s key value (slot_for s key))
 added_sound s key value v positive most e f =
     let g = gap key 0 s.row v.ascends e in
-    added-sound-at s v key value positive g f (slot_for s key) (slot_is s v key positive g f) most
+    added_sound_at s v key value positive g f (slot_for s key) (slot_is s v key positive g f) most

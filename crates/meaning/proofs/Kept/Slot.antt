@@ -27,7 +27,7 @@ use Rattle.meaning.proofs.Pictures.StateCells.{cells_distinct}
 use Rattle.meaning.proofs.Rows.Places.{key_of_first, asc_left, last_from, Keeping}
 use Rattle.meaning.proofs.Rows.Put.{put_front, put_past}
 use Rattle.meaning.proofs.Rows.Parent.{dimension_after, parent_after, Without, Apart, ParentPlace, all_last, asc_last, last_least, apart_left}
-use Rattle.meaning.proofs.Rows.Parent.{apart_before, place_at, sharing-skips, sharing-hits, sharing-none, near, first-place, parent_is, sharing-above}
+use Rattle.meaning.proofs.Rows.Parent.{apart_before, place_at, sharing_skips, sharing_hits, sharing_none, near, first_place, parent_is, sharing_above}
 
 -- The nodes below a key and those above it, of a row in which the key does not stand
 
@@ -131,7 +131,7 @@ module _ (b D : ℕ) (pos : 0 < b) (deep : 0 < D) where
   -- of what is above the key, the first that shares just p with y, if y shares more than p with the node before the key, whose key is a
   slot_next : (y a key : ℕ) (post : List Node) → y ≤ a → a < key → Asc key post → shared b D a key < shared b D y a →
       first_sharing b D y (shared b D a key) post ≡ cell_after b D key (shared b D a key) post
-  slot_next y a key [] k l c h = sharing-none b D y (shared b D a key) [] tt
+  slot_next y a key [] k l c h = sharing_none b D y (shared b D a key) [] tt
   slot_next y a key (x ∷ later) k l c h = at (dec_le p (shared b D key x.key))
     where
       p : ℕ
@@ -142,20 +142,20 @@ module _ (b D : ℕ) (pos : 0 < b) (deep : 0 < D) where
           let g = c.0 in
           let u = ultra b D a key x.key pos (omega arith) (omega arith) in
           let w = ultra b D y a x.key pos k (omega arith) in
-          rw (le-leb p (shared b D key x.key) q) (sharing-hits b D y p x later (omega arith))
+          rw (le-leb p (shared b D key x.key) q) (sharing_hits b D y p x later (omega arith))
       at (no q) =
           let g = c.0 in
           let u = ultra b D a key x.key pos (omega arith) (omega arith) in
           let w = ultra b D y a x.key pos k (omega arith) in
           let r : shared b D key x.key < p = omega arith in
-          rw (lt-leb p (shared b D key x.key) r) (sharing-above b D pos y p x later (omega arith) c.1 (omega arith))
+          rw (lt-leb p (shared b D key x.key) r) (sharing_above b D pos y p x later (omega arith) c.1 (omega arith))
 
   slot_held :
       (y : Node) (between post : List Node) (key : ℕ) → Asc y.key between → (last_from y between).key < key → Asc key post →
       dimension_after b D y between key < shared b D y.key (last_from y between).key →
       first_sharing b D y.key (dimension_after b D y between key) (between ++ post) ≡ cell_after b D key (dimension_after b D y between key) post
   slot_held y between post key a l g h =
-      sharing-skips b D y.key (dimension_after b D y between key) between post (all_map (λ z n. omega arith) between (near b D pos deep y between a))
+      sharing_skips b D y.key (dimension_after b D y between key) between post (all_map (λ z n. omega arith) between (near b D pos deep y between a))
       ∙ slot_next y.key (last_from y between).key key post (last_least y between a) l g h
 
   -- link p of the parent's place, before the key stands
@@ -170,16 +170,16 @@ module _ (b D : ℕ) (pos : 0 < b) (deep : 0 < D) where
       h.last_is
       (λ m n. slot_held p.node h.between post key h.ascends m g n) l h.shares)
 
-  pub slot-c :
+  pub slot_c :
       (key : ℕ) (pre post : List Node) → 0 < key → Asc 0 pre → Apart (head_node ∷ pre) → All (λ y. y.key < key) pre → Asc key post →
       settled_link_at b D (dimension_after b D head_node pre key) (place_of (parent_after b D head_node pre key) (places b D (pre ++ post)))
       ≡ cell_after b D key (dimension_after b D head_node pre key) post
   unfolding settled_link_at places
-  slot-c key pre post h a o l g =
+  slot_c key pre post h a o l g =
       let A = last_from head_node pre in
       let low : A.key < key = all_last (λ z. z.key < key) head_node pre h l in
       let m : shared b D A.key key < D = shared_less b D A.key key deep (omega arith) in
-      let t = first-place b D pos deep (shared b D A.key key) head_node 0 head_node 0 pre post a o m (λ q. omega arith) in
+      let t = first_place b D pos deep (shared b D A.key key) head_node 0 head_node 0 pre post a o m (λ q. omega arith) in
       ap (settled_link_at b D (shared b D A.key key)) t.1 ∙ slot_of A key post t.0 t.2 low g
 
 -- its key is the next larger node's
@@ -258,7 +258,7 @@ slot_is s v key h g f =
     c_is =
         ap₂ (λ d c. settled_link_at b D d (place_of c (places b D s.row))) p_is parent
         ∙ ap (λ r. settled_link_at b D p (place_of (parent_after b D head_node g.pre key) (places b D r))) g.splits
-        ∙ slot-c b D pos deep key g.pre g.post h (asc_left 0 g.pre g.post a) (apart_left (head_node ∷ g.pre) g.post o) g.below
+        ∙ slot_c b D pos deep key g.pre g.post h (asc_left 0 g.pre g.post a) (apart_left (head_node ∷ g.pre) g.post o) g.below
         (gap_above key (last_from head_node g.pre).key g.post (asc_last head_node g.pre g.post a) g.above)
 
 -- Changed nodes: a change that keeps cells and keys keeps what is said above

@@ -22,8 +22,8 @@ use Rattle.meaning.specs.Layer.Paths.{path_for, onward}
 use Rattle.meaning.proofs.Rows.AscendingRow.{Asc}
 use Rattle.meaning.proofs.Rows.Keys.{shared_same, shared_sym, shared_le, shared_less, ultra, triangle}
 use Rattle.meaning.proofs.Rows.Places.{asc_left, last_from}
-use Rattle.meaning.proofs.Rows.Parent.{dimension_after, Apart, ParentPlace, asc_last, last_least, last_greatest, sharing-skips, sharing-hits}
-use Rattle.meaning.proofs.Rows.Parent.{sharing-none, first-hits, first-skips, first-front, near, first-place, sharing-above}
+use Rattle.meaning.proofs.Rows.Parent.{dimension_after, Apart, ParentPlace, asc_last, last_least, last_greatest, sharing_skips, sharing_hits}
+use Rattle.meaning.proofs.Rows.Parent.{sharing_none, first_hits, first_skips, first_front, near, first_place, sharing_above}
 use Rattle.meaning.proofs.Cells.WalkRead.{settled_above}
 
 -- The words of a path
@@ -76,7 +76,7 @@ module _ (b D : ℕ) where
   pub first_past : (key n : ℕ) (pre later : List Node) → All (λ z. shared b D z.key key < n) pre →
       first_with b D key n (pre ++ later) ≡ first_with b D key n later
   first_past key n [] later a = refl
-  first_past key n (z ∷ pre) later a = first-skips b D key n z (pre ++ later) a.0 ∙ first_past key n pre later a.1
+  first_past key n (z ∷ pre) later a = first_skips b D key n z (pre ++ later) a.0 ∙ first_past key n pre later a.1
 
   -- it is the same for keys that share n coordinates
   pub first_alike : 0 < b → (k l n : ℕ) → n ≤ shared b D k l → (row : List Node) → first_with b D k n row ≡ first_with b D l n row
@@ -86,8 +86,8 @@ module _ (b D : ℕ) where
     where
       at : Dec (shared b D z.key k < n) → first_with b D k n row ≡ first_with b D l n row → first_with b D k n (z ∷ row) ≡ first_with b D l n (z ∷ row)
       at (yes g) more =
-          first-skips b D k n z row g ∙ more ∙ sym (first-skips b D l n z row (omega (arith, triangle b D z.key l k pos, shared_sym b D k l)))
-      at (no g) more = first-hits b D k n z row (omega arith) ∙ sym (first-hits b D l n z row (omega (arith, triangle b D z.key k l pos)))
+          first_skips b D k n z row g ∙ more ∙ sym (first_skips b D l n z row (omega (arith, triangle b D z.key l k pos, shared_sym b D k l)))
+      at (no g) more = first_hits b D k n z row (omega arith) ∙ sym (first_hits b D l n z row (omega (arith, triangle b D z.key k l pos)))
 
 -- what holds of 0 and of the cell of each node holds of the first that shares enough
 pub first_holds : (P : ℕ → Type 0) (b D key n : ℕ) (row : List Node) → P 0 → All (λ z. P z.cell) row → P (first_with b D key n row)
@@ -106,21 +106,21 @@ path_holds P b D row key d h head a = rw (path_for-at b D row key d h) (first_ho
 -- The head and the nodes up to the last of them, and a key not below that one's
 
 module _ (b D : ℕ) (pos : 0 < b) (pre : List Node) (asc : Asc 0 pre) where
-  up-to-last : All (λ z. z.key ≤ (last_from head_node pre).key) (head_node ∷ pre)
-  up-to-last = (last_least head_node pre asc, last_greatest head_node pre asc)
+  up_to_last : All (λ z. z.key ≤ (last_from head_node pre).key) (head_node ∷ pre)
+  up_to_last = (last_least head_node pre asc, last_greatest head_node pre asc)
 
-  up-to-shares :
+  up_to_shares :
       (key : ℕ) → (last_from head_node pre).key ≤ key →
       All (λ z. shared b D z.key key ≡ min (shared b D z.key (last_from head_node pre).key) (shared b D (last_from head_node pre).key key)) (head_node ∷ pre)
-  up-to-shares key h = all_map (λ z l. ultra b D z.key (last_from head_node pre).key key pos l h) (head_node ∷ pre) up-to-last
+  up_to_shares key h = all_map (λ z l. ultra b D z.key (last_from head_node pre).key key pos l h) (head_node ∷ pre) up_to_last
 
   -- from its dimension on, the path of the node after it has that one's cell
-  path-next-own :
+  path_next_own :
       (y : Node) (post : List Node) (i : ℕ) → (last_from head_node pre).key ≤ y.key → dimension_after b D head_node pre y.key ≤ i → i < D →
       first_with b D y.key (suc i) (head_node ∷ (pre ++ y ∷ post)) ≡ y.cell
-  path-next-own y post i g h l =
-      first_past b D y.key (suc i) (head_node ∷ pre) (y ∷ post) (all_map (λ z e. omega arith) (head_node ∷ pre) (up-to-shares y.key g))
-      ∙ first-hits b D y.key (suc i) y post (omega (arith, shared_same b D y.key))
+  path_next_own y post i g h l =
+      first_past b D y.key (suc i) (head_node ∷ pre) (y ∷ post) (all_map (λ z e. omega arith) (head_node ∷ pre) (up_to_shares y.key g))
+      ∙ first_hits b D y.key (suc i) y post (omega (arith, shared_same b D y.key))
 
 -- Paths
 
@@ -129,7 +129,7 @@ pub path_head : (b D : ℕ) (row : List Node) → path_for b D row 0 ≡ replica
 path_head b D row =
     ext_get_or 0 (path_for b D row 0) (replicate D 0) (path_for-length b D row 0 ∙ sym (length-replicate {A = ℕ} D 0))
     (λ i h. let l : i < D = omega (arith, path_for-length b D row 0) in
-    path_for-at b D row 0 i l ∙ first-hits b D 0 (suc i) head_node row (omega (arith, shared_same b D 0)) ∙ sym (get_or-replicate {A = ℕ} D i 0 0 l))
+    path_for-at b D row 0 i l ∙ first_hits b D 0 (suc i) head_node row (omega (arith, shared_same b D 0)) ∙ sym (get_or-replicate {A = ℕ} D i 0 0 l))
 
 -- the path of a key, from the path of another that has the same words below d
 pub path_from :
@@ -153,7 +153,7 @@ module _ (b D : ℕ) (pos : 0 < b) (pre : List Node) where
       let less = (asc_last head_node pre (y ∷ post) asc).0 in
       path_from b D (pre ++ y ∷ post) A.key y.key (shared b D A.key y.key) y.cell (shared_le b D A.key y.key)
       (λ i l. sym (first_alike b D pos A.key y.key (suc i) l (head_node ∷ (pre ++ y ∷ post))))
-      (λ i h l. path-next-own b D pos pre front y post i (omega arith) h l)
+      (λ i h l. path_next_own b D pos pre front y post i (omega arith) h l)
 
 -- Links of path words
 
@@ -166,68 +166,68 @@ pub record PathLink (b D : ℕ) (row : List Node) (key d c : ℕ) : Type 0 where
 
 module _ (b D : ℕ) (pos : 0 < b) (deep : 0 < D) where
   -- link d of a place that shares more than d with a leads to the first of what comes after a that shares just d
-  parent-passes : (d : ℕ) (a : Node) (later : List Node) (p : Place) → ParentPlace b D d a later p →
+  parent_passes : (d : ℕ) (a : Node) (later : List Node) (p : Place) → ParentPlace b D d a later p →
       settled_link b D p d ≡ first_sharing b D p.node.key d later
-  parent-passes d a later p at =
+  parent_passes d a later p at =
       let shares = at.shares in
       let to_last = ap (λ z. shared b D p.node.key z.key) at.last_is in
       settled_above b D p d at.low
       ∙ ap (first_sharing b D p.node.key d) at.later_is
-      ∙ sharing-skips b D p.node.key d at.between later (all_map (λ z h e. omega arith) at.between
+      ∙ sharing_skips b D p.node.key d at.between later (all_map (λ z h e. omega arith) at.between
       (near b D pos deep p.node at.between at.ascends))
 
-  pub parent-shares :
+  pub parent_shares :
       (d : ℕ) (a : Node) (later : List Node) (p : Place) → ParentPlace b D d a later p → (key : ℕ) → a.key ≤ key →
       shared b D p.node.key key ≡ min (shared b D p.node.key a.key) (shared b D a.key key)
-  parent-shares d a later p at key h =
+  parent_shares d a later p at key h =
       let up = last_least p.node at.between at.ascends in
       ultra b D p.node.key a.key key pos (omega (arith, up, ap (λ z. z.key) at.last_is)) h
 
   module _ (pre : List Node) where
     -- link d of word d of the last node's path leads to c, if c is the first of what comes after that shares just d with that word's cell
-    pub path-link :
+    pub path_link :
         (later : List Node) (d c : ℕ) → Asc 0 pre → Apart (head_node ∷ pre) → d < D →
         ((p : Place) → ParentPlace b D d (last_from head_node pre) later p → first_sharing b D p.node.key d later ≡ c) →
         PathLink b D (pre ++ later) (last_from head_node pre).key d c
     unfolding places
-    path-link later d c asc apart l to =
+    path_link later d c asc apart l to =
         let A = last_from head_node pre in
-        let (p, found, at) = first-place b D pos deep d head_node 0 head_node 0 pre later asc apart l (λ h. omega arith) in
-        let word = path_for-at b D (pre ++ later) A.key d l ∙ first-front b D A.key (suc d) head_node pre later (omega (arith, shared_same b D A.key)) in
+        let (p, found, at) = first_place b D pos deep d head_node 0 head_node 0 pre later asc apart l (λ h. omega arith) in
+        let word = path_for-at b D (pre ++ later) A.key d l ∙ first_front b D A.key (suc d) head_node pre later (omega (arith, shared_same b D A.key)) in
         record {
           place = p;
           found = ap (λ c. place_of c (places b D (pre ++ later))) word ∙ found;
           dimension = at.low;
-          leads = parent-passes d A later p at ∙ to p at;
+          leads = parent_passes d A later p at ∙ to p at;
         }
 
     -- the link that leads to the next node: its number is that one's dimension
-    pub next-link :
+    pub next_link :
         (y : Node) (post : List Node) → Asc 0 (pre ++ y ∷ post) → Apart (head_node ∷ pre) →
         PathLink b D (pre ++ y ∷ post) (last_from head_node pre).key (shared b D (last_from head_node pre).key y.key) y.cell
-    next-link y post asc apart =
+    next_link y post asc apart =
         let A = last_from head_node pre in
         let e = shared b D A.key y.key in
         let less = (asc_last head_node pre (y ∷ post) asc).0 in
-        path-link (y ∷ post) e y.cell (asc_left 0 pre (y ∷ post) asc) apart (shared_less b D A.key y.key deep (omega arith))
-        (λ p at. let shares = at.shares in sharing-hits b D p.node.key e y post (omega (arith, parent-shares e A (y ∷ post) p at y.key (omega arith))))
+        path_link (y ∷ post) e y.cell (asc_left 0 pre (y ∷ post) asc) apart (shared_less b D A.key y.key deep (omega arith))
+        (λ p at. let shares = at.shares in sharing_hits b D p.node.key e y post (omega (arith, parent_shares e A (y ∷ post) p at y.key (omega arith))))
 
     -- a higher one leads nowhere, ..
-    pub next-link-above :
+    pub next_link_above :
         (y : Node) (post : List Node) (d : ℕ) → Asc 0 (pre ++ y ∷ post) → Apart (head_node ∷ pre) →
         shared b D (last_from head_node pre).key y.key < d → d < D → PathLink b D (pre ++ y ∷ post) (last_from head_node pre).key d 0
-    next-link-above y post d asc apart h l =
+    next_link_above y post d asc apart h l =
         let A = last_from head_node pre in
         let up = asc_last head_node pre (y ∷ post) asc in
         let less = up.0 in
-        path-link (y ∷ post) d 0 (asc_left 0 pre (y ∷ post) asc) apart l
+        path_link (y ∷ post) d 0 (asc_left 0 pre (y ∷ post) asc) apart l
         (λ p at.
         let least = last_least p.node at.between at.ascends in
         let last = ap (λ z. z.key) at.last_is in
-        sharing-above b D pos p.node.key d y post (omega arith) up.1 (omega (arith, parent-shares d A (y ∷ post) p at y.key (omega arith))))
+        sharing_above b D pos p.node.key d y post (omega arith) up.1 (omega (arith, parent_shares d A (y ∷ post) p at y.key (omega arith))))
 
     -- .. and from the path of the last node none leads anywhere
-    pub last-link : (d : ℕ) → Asc 0 pre → Apart (head_node ∷ pre) → d < D → PathLink b D pre (last_from head_node pre).key d 0
-    last-link d asc apart l =
+    pub last_link : (d : ℕ) → Asc 0 pre → Apart (head_node ∷ pre) → d < D → PathLink b D pre (last_from head_node pre).key d 0
+    last_link d asc apart l =
         subst (λ row. PathLink b D row (last_from head_node pre).key d 0) (append-nil pre)
-        (path-link [] d 0 asc apart l (λ p at. sharing-none b D p.node.key d [] tt))
+        (path_link [] d 0 asc apart l (λ p at. sharing_none b D p.node.key d [] tt))

@@ -11,7 +11,7 @@ use lib.ListN.{length, length-append}
 use lib.Seq.{append_snoc}
 use borrow.Author.Tests.{lt-ltb, le-ltb, le-leb, lt-leb}
 use Rattle.lists.specs.Lists.{those, numbers_from}
-use Rattle.lists.proofs.Those.{those-all, those-none, those-same, those-append}
+use Rattle.lists.proofs.Those.{those_all, those_none, those_same, those_append}
 use Rattle.lists.proofs.All.{All, all_map, all_left, all_zip}
 use Rattle.lists.proofs.Tests.{and_both}
 use Rattle.meaning.specs.Row.{Node, head_node, last_of}
@@ -80,7 +80,7 @@ position_on_way s v = at (position_cases s v)
           on_way = record { split = split; is = path_is s ∙ ap (path_for s.settings.base s.settings.dimensions s.row) (sym key) };
           key = key;
           dead = all_zip (λ y d l. d l) front (all_left Dead front later (subst (All Dead) split v.dead)) low;
-          none_above = ap length (those-none (λ y. ltb (position_key s) y.key) front (all_map (λ y. le-ltb (position_key s) y.key) front low));
+          none_above = ap length (those_none (λ y. ltb (position_key s) y.key) front (all_map (λ y. le-ltb (position_key s) y.key) front low));
         }
 
     at : (s.position ≡ 0) ⊎ Located s.position s.row → PositionPath s
@@ -97,7 +97,7 @@ pub above_more :
 unfolding keys_above
 above_more position front y h =
     let test : Node → Bool = λ z. ltb position z.key in
-    ap length (those-append test front (y ∷ []) ∙ ap (λ r. those test front ++ r) (those-all test (y ∷ []) (lt-ltb position y.key h, tt)))
+    ap length (those_append test front (y ∷ []) ∙ ap (λ r. those test front ++ r) (those_all test (y ∷ []) (lt-ltb position y.key h, tt)))
     ∙ length-append (those test front) (y ∷ [])
 
 -- up to a key: those in front, and itself
@@ -114,9 +114,9 @@ passed_upto position front x later asc h =
     let high : All (λ y. upto y ≡ false) later =
     all_map (λ y l. ap (λ t. above y && t) (lt-leb y.key x.key l) ∙ and-false (above y)) later (asc_larger 0 front x later asc) in
     ap length
-    (those-append upto front (x ∷ later)
-    ∙ ap₂ ◌++◌ (those-same upto above front low)
-    (those-append upto (x ∷ []) later ∙ ap₂ ◌++◌ (those-all upto (x ∷ []) (own, tt)) (those-none upto later high)))
+    (those_append upto front (x ∷ later)
+    ∙ ap₂ ◌++◌ (those_same upto above front low)
+    (those_append upto (x ∷ []) later ∙ ap₂ ◌++◌ (those_all upto (x ∷ []) (own, tt)) (those_none upto later high)))
     ∙ length-append (those above front) (x ∷ [])
 
 -- the keys above that of the last in front are those still to come
@@ -130,7 +130,7 @@ above_later {s} v {path} {front} {later} w =
     let asc = subst (Asc 0) w.split v.ascends in
     let low = all_map (λ y. le-ltb key y.key) front (rw (last_from_lem front) (last_greatest head_node front (asc_left 0 front later asc))) in
     let high = all_map (λ y. lt-ltb key y.key) later (asc_above key later (rw (last_from_lem front) (asc_last head_node front later asc))) in
-    ap length (ap (those above) w.split ∙ those-append above front later ∙ ap₂ ◌++◌ (those-none above front low) (those-all above later high))
+    ap length (ap (those above) w.split ∙ those_append above front later ∙ ap₂ ◌++◌ (those_none above front low) (those_all above later high))
 
 -- The path after a take
 

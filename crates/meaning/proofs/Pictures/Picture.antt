@@ -13,7 +13,7 @@ use lib.Seq.{get_or-append-add}
 use borrow.Author.Tests.{eq-eqb, ne_eqb}
 use Rattle.settings.specs.Numbers.{header_words, cell_words, length_of}
 use Rattle.lists.specs.Lists.{numbers_from, first_number}
-use Rattle.lists.proofs.Blocks.{blocks-length, block-word}
+use Rattle.lists.proofs.Blocks.{blocks_length, block_word}
 use Rattle.lists.proofs.Numbers.{numbers_length, numbers_at, made_at, made_length}
 use Rattle.lists.proofs.Occurrences.{Distinct, distinct_left, distinct_apart}
 use Rattle.lists.proofs.All.{All, all_map, all_zip, all_of_map}
@@ -55,7 +55,7 @@ path_length s = made_length (path_word s) 0 s.settings.dimensions
 pub cells_length : (s : State) → length (cell_pictures s) ≡ s.settings.cells * cell_words s.settings.dimensions
 unfolding cell_pictures
 cells_length s =
-    blocks-length (shown_words s) (cell_words s.settings.dimensions) (shown_length s) (numbers_from 0 s.settings.cells)
+    blocks_length (shown_words s) (cell_words s.settings.dimensions) (shown_length s) (numbers_from 0 s.settings.cells)
     ∙ ap (λ n. n * cell_words s.settings.dimensions) (numbers_length 0 s.settings.cells)
 
 pub picture_length : (s : State) → length (picture s) ≡ length_of s.settings.dimensions s.settings.cells
@@ -110,7 +110,7 @@ picture_word s c j hc hj =
     let inside : c < length numbers = omega (arith, numbers_length 0 s.settings.cells) in
     ap (λ n. get_or (picture s) n 0) there
     ∙ get_or-append-add (path s) (cell_pictures s) (c * w + j) 0
-    ∙ block-word (shown_words s) w (shown_length s) numbers c j 0 inside hj
+    ∙ block_word (shown_words s) w (shown_length s) numbers c j 0 inside hj
     ∙ ap (λ n. get_or (shown_words s n) j 0) (numbers_at 0 s.settings.cells c 0 hc ∙ zero-add c)
 
 -- The words 4: a free cell's words after the first

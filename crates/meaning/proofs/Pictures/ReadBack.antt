@@ -18,8 +18,8 @@ use Rattle.settings.specs.Numbers.{in_range, header_words, cell_words, length_of
 use Rattle.settings.proofs.Numbers.{in_range_lem}
 use Rattle.lists.specs.Lists.{those, occurrences, numbers_from, first_number, blocks, same}
 use Rattle.lists.proofs.Same.{same_refl, same_eq}
-use Rattle.lists.proofs.Those.{those-all, those-none, those-same, those-keep}
-use Rattle.lists.proofs.Blocks.{blocks-cut}
+use Rattle.lists.proofs.Those.{those_all, those_none, those_same, those_keep}
+use Rattle.lists.proofs.Blocks.{blocks_cut}
 use Rattle.lists.proofs.Numbers.{numbers_length, made_at, made_rest}
 use Rattle.lists.proofs.Occurrences.{Distinct}
 use Rattle.lists.proofs.All.{All, all_map, all_zip, all_of_map}
@@ -31,7 +31,7 @@ use Rattle.meaning.specs.Picture.{mark, standing_words, next_free, free_words, w
 use Rattle.meaning.specs.Reading.{node_of, standing, chain, cell_blocks, read, sized, is_list}
 use Rattle.meaning.proofs.Rows.AscendingRow.{Asc, asc_above}
 use Rattle.meaning.proofs.Rows.Keys.{shared_same, shared_less}
-use Rattle.meaning.proofs.Pictures.State.{Sound, valid-sound, sound-valid}
+use Rattle.meaning.proofs.Pictures.State.{Sound, valid_sound, sound_valid}
 use Rattle.meaning.proofs.Pictures.StateCells.{row_distinct, free_distinct, row_range, free_range, free_length}
 use Rattle.meaning.proofs.Rows.Put.{put_front, put_past}
 use Rattle.meaning.proofs.Pictures.Picture.{shown_words, shown_length, path_length, picture_length, picture_path, place_past, Told, told, first_has}
@@ -49,7 +49,7 @@ blocks_read s =
     ap (λ n. blocks (cell_words D) s.settings.cells (drop n (picture s))) there
     ∙ ap (blocks (cell_words D) s.settings.cells) (drop_at (path s) (cell_pictures s) D (path_length s))
     ∙ ap (λ n. blocks (cell_words D) n (cell_pictures s)) (sym (numbers_length 0 s.settings.cells))
-    ∙ blocks-cut (shown_words s) (cell_words D) (shown_length s) numbers
+    ∙ blocks_cut (shown_words s) (cell_words D) (shown_length s) numbers
 
 -- The standing cells
 
@@ -92,8 +92,8 @@ unfolding those
 cut_here i x row e above others =
     let more = those (from (suc i)) row in
     rw (le-leb i x.cell (omega arith), lt-leb (suc i) x.cell (omega arith))
-    (ap (λ r. x ∷ r) (those-same (from i) (from (suc i)) row (all_map (λ y ne. from_other i y.cell (λ q. ne (e ∙ sym q))) row others))
-    ∙ sym (put_front x more (those-keep (λ y. x.key < y.key) (from (suc i)) row above)))
+    (ap (λ r. x ∷ r) (those_same (from i) (from (suc i)) row (all_map (λ y ne. from_other i y.cell (λ q. ne (e ∙ sym q))) row others))
+    ∙ sym (put_front x more (those_keep (λ y. x.key < y.key) (from (suc i)) row above)))
 
 cut_past : (low i : ℕ) (x : Node) (row : List Node) → low < x.key → (x.cell ≡ i → ⊥) →
     (o : Option Place) → Cut x.key i row o → Cut low i (x ∷ row) o
@@ -153,7 +153,7 @@ cells_read : (s : State) → Sound s → (n i : ℕ) → 0 < i → i + n ≡ s.s
     standing i (map (shown_words s) (numbers_from i n)) ≡ those (from i) s.row
 unfolding standing numbers_from places
 cells_read s v zero i h e =
-    sym (those-none (from i) s.row (all_map (λ x r. lt-leb i x.cell (let k = r.1 in omega arith)) s.row (row_range s v)))
+    sym (those_none (from i) s.row (all_map (λ x r. lt-leb i x.cell (let k = r.1 in omega arith)) s.row (row_range s v)))
 cells_read s v (suc n) i h e =
     let b = s.settings.base in
     let D = s.settings.dimensions in
@@ -172,7 +172,7 @@ row_read s v =
     ap (λ cells. standing 1 (drop 1 cells)) (blocks_read s)
     ∙ ap (standing 1) (made_rest (shown_words s) 0 C)
     ∙ cells_read s v (C - 1) 1 (omega arith) (let h = v.ranges.cells_least in omega arith)
-    ∙ those-all (from 1) s.row (all_map (λ x h. le-leb 1 x.cell h.0) s.row (row_range s v))
+    ∙ those_all (from 1) s.row (all_map (λ x h. le-leb 1 x.cell h.0) s.row (row_range s v))
 
 -- The free cells
 
@@ -284,7 +284,7 @@ unfolding is_list
 picture_is_list s v =
     rw (picture_sized s v, is_list)
     (ap (λ t. valid t && same (picture t) (picture s)) (read_of_picture s v)
-    ∙ and_both (valid s) (same (picture s) (picture s)) (sound-valid s v) (same_refl (picture s)))
+    ∙ and_both (valid s) (same (picture s) (picture s)) (sound_valid s v) (same_refl (picture s)))
 
 -- the two tests of a list of the right size
 list_tests : (ws : List ℕ) → is_list ws ≡ true → (valid (read ws) ≡ true) × (same (picture (read ws)) ws ≡ true)
@@ -301,4 +301,4 @@ pub list_is_picture : (ws : List ℕ) → is_list ws ≡ true → picture (read 
 list_is_picture ws e = same_eq (picture (read ws)) ws (list_tests ws e).1
 
 pub list_sound : (ws : List ℕ) → is_list ws ≡ true → Sound (read ws)
-list_sound ws e = valid-sound (read ws) (list_tests ws e).0
+list_sound ws e = valid_sound (read ws) (list_tests ws e).0

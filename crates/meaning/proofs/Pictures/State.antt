@@ -141,9 +141,9 @@ module _ (s : State) where
   abbrev stands : ℕ
   stands = occurrences s.position (0 ∷ map (λ x. x.cell) row)
 
-  pub valid-sound : valid s ≡ true → Sound s
+  pub valid_sound : valid s ≡ true → Sound s
   unfolding tests valid
-  valid-sound e =
+  valid_sound e =
       let holds = every_all (λ t. t) (tests s) e in
       let settings = both (in_range D K C) (eqb b (base_of D K)) holds.0 in
       let r = ranges D K C settings.0 in
@@ -169,9 +169,9 @@ module _ (s : State) where
             (λ x. dead_fact (position_key s) x.key x.live) row position.1;
       }
 
-  pub sound-valid : Sound s → valid s ≡ true
+  pub sound_valid : Sound s → valid s ≡ true
   unfolding tests valid
-  sound-valid v =
+  sound_valid v =
       let settings : settings_hold s ≡ true =
       and_both (in_range D K C) (eqb b (base_of D K)) (in_range_lem D K C v.ranges) (eq-eqb b (base_of D K) v.base) in
       let keys : keys_hold s ≡ true =

@@ -10,7 +10,7 @@ use lib.Dec.{leb, ltb}
 use lib.ListN.{length}
 use borrow.Author.Tests.{lt-ltb, le-ltb, le-leb, lt-leb, ltb-true, eq-eqb}
 use Rattle.lists.specs.Lists.{those}
-use Rattle.lists.proofs.Those.{those-none, those-append}
+use Rattle.lists.proofs.Those.{those_none, those_append}
 use Rattle.lists.proofs.All.{All, all_map, all_append, all_left, all_zip, all_at}
 use Rattle.meaning.specs.Row.{Node, head_node, node_at}
 use Rattle.meaning.specs.State.{State, key_of, position_key}
@@ -24,11 +24,11 @@ use Rattle.meaning.proofs.Pictures.State.{Sound, base_positive}
 use Rattle.meaning.proofs.Pictures.ReadBack.{read_of_picture}
 use Rattle.meaning.proofs.Rows.Places.{asc_left, asc_larger, last_from, node_found, on_cell}
 use Rattle.meaning.proofs.Rows.Parent.{dimension_after, Apart, asc_last, last_greatest, apart_left, first_key, last_shares, parent_is}
-use Rattle.meaning.proofs.Cells.Placed.{cell_standing, placed-node, place-key}
-use Rattle.meaning.proofs.BothWays.Sentences.{position-key-is}
+use Rattle.meaning.proofs.Cells.Placed.{cell_standing, placed_node, place_key}
+use Rattle.meaning.proofs.BothWays.Sentences.{position_key_is}
 use Rattle.meaning.proofs.Kept.Slot.{gap, sound_apart, dimensions_positive, slot_is}
 use Rattle.meaning.proofs.Paths.PathTake.{stops}
-use Rattle.meaning.proofs.Kept.KeepsInsert.{last_key_of, revived-position, revived_sound, added-row, added-position-lowered, added_sound}
+use Rattle.meaning.proofs.Kept.KeepsInsert.{last_key_of, revived_position, revived_sound, added_row, added_position_lowered, added_sound}
 use Rattle.meaning.proofs.Rows.Nodes.{node_split, node_key}
 use Rattle.meaning.proofs.Outcomes.{on_lists, take_outcome_first, insert_outcome_bad_key, insert_outcome_live, insert_outcome_dead, insert_outcome_new}
 use Rattle.meaning.proofs.Outcomes.{key_cases, live_cases}
@@ -89,22 +89,22 @@ module _ (t : State) (v : Sound t) (pre : List Node) (x : Node) (post : List Nod
       (all_left (λ y. y.key ≤ position_key t → y.live ≡ false) pre (x ∷ post) (subst (All (λ y. y.key ≤ position_key t → y.live ≡ false)) split v.dead)))
       live).live
 
-  passes-one : keys_passed (position_key t) x.key t.row ≡ 1
+  passes_one : keys_passed (position_key t) x.key t.row ≡ 1
   unfolding keys_passed those
-  passes-one =
+  passes_one =
       ap (λ r. length (those test r)) split
-      ∙ ap length (those-append test pre (x ∷ post))
+      ∙ ap length (those_append test pre (x ∷ post))
       ∙ ap₂ (λ (l r : List Node). length (l ++ r)) {v = x ∷ []} none_before alone
     where
       test : Node → Bool
       test y = ltb (position_key t) y.key && leb y.key x.key
 
       none_before : those test pre ≡ []
-      none_before = those-none test pre (all_map (λ y h. ap (λ s. s && leb y.key x.key) (le-ltb (position_key t) y.key h)) pre up_to)
+      none_before = those_none test pre (all_map (λ y h. ap (λ s. s && leb y.key x.key) (le-ltb (position_key t) y.key h)) pre up_to)
 
       none_after : those test post ≡ []
       none_after =
-          those-none test post
+          those_none test post
           (all_map (λ y h. ap (λ s. ltb (position_key t) y.key && s) (lt-leb y.key x.key h) ∙ and-false (ltb (position_key t) y.key)) post
           (asc_larger 0 pre x post asc))
 
@@ -123,19 +123,19 @@ module _ (t : State) (v : Sound t) (pre : List Node) (x : Node) (post : List Nod
       let same = ap₂ (λ c r. key_of c (head_node ∷ r)) is split in
       omega (arith, same, below, position)
 
-  fell-back : FellBack (picture t) x.key x.value
-  fell-back =
+  fell_back : FellBack (picture t) x.key x.value
+  fell_back =
       record {
-        below = omega (arith, last_below_lem, position-key-is v);
+        below = omega (arith, last_below_lem, position_key_is v);
         nothing_between = λ y stands l.
             let (p, here) = cell_standing t y stands in
-            let above = placed-node here (λ z. position_key t < z.key → x.key ≤ z.key) (λ m. absurd (omega arith)) nothing_between in
-            let key = place-key v here in
-            let most = above (omega (arith, position-key-is v)) in
+            let above = placed_node here (λ z. position_key t < z.key → x.key ≤ z.key) (λ m. absurd (omega arith)) nothing_between in
+            let key = place_key v here in
+            let most = above (omega (arith, position_key_is v)) in
             omega arith;
         taken =
             ap (λ (o : Outcome (List ℕ)). o.answered) (take_outcome_first t v x post first_live)
-            ∙ ap (answer 0 x.key x.value) passes-one;
+            ∙ ap (answer 0 x.key x.value) passes_one;
         parent = λ y e k.
             subst
             (λ u. node_at x.key u.row ≡ some y →
@@ -167,8 +167,8 @@ revived_back s x value v a dead low =
     let revive = on_cell x.cell (revived_node value) in
     let own : revive x ≡ revived_node value x = ap (λ t. cond t (revived_node value x) x) (eq-eqb x.cell x.cell refl) in
     subst₂ (FellBack (picture (revived s x value))) (ap (λ y. y.key) own) (ap (λ y. y.value) own)
-    (fell-back (revived s x value) (revived_sound s x value v a dead) (map revive pre) (revive x) (map revive post)
-    (ap (map revive) split ∙ map-append revive pre (x ∷ post)) (ap (λ y. y.live) own) (revived-position s x value v pre post split low))
+    (fell_back (revived s x value) (revived_sound s x value v a dead) (map revive pre) (revive x) (map revive post)
+    (ap (map revive) split ∙ map-append revive pre (x ∷ post)) (ap (λ y. y.live) own) (revived_position s x value v pre post split low))
 
 added_back : (s : State) → Sound s → (key value : ℕ) → 1 ≤ key → key ≤ s.settings.largest → node_at key s.row ≡ none → 0 < length s.free →
     key ≤ position_key s → FellBack (picture (added s key value (slot_for s key))) key value
@@ -176,9 +176,9 @@ added_back s v key value least most absent room low =
     let g = gap key 0 s.row v.ascends absent in
     let t = slot_for s key in
     let i = slot_is s v key least g room in
-    fell-back (added s key value t) (added_sound s key value v least most absent room) (finished t.c (finished t.parent g.pre))
-    (new_node t.n key value (slot_owes t)) (finished t.c (finished t.parent g.post)) (added-row s v key value least g room t i) refl
-    (added-position-lowered s v key value least g room t i low)
+    fell_back (added s key value t) (added_sound s key value v least most absent room) (finished t.c (finished t.parent g.pre))
+    (new_node t.n key value (slot_owes t)) (finished t.c (finished t.parent g.post)) (added_row s v key value least g room t i) refl
+    (added_position_lowered s v key value least g room t i low)
 
 pub late_inserts : LateInserts
 late_inserts =
@@ -189,7 +189,7 @@ late_inserts =
     back : (s : State) → Sound s → (key value : ℕ) → (insert_out (picture s) key value).answered.refusal ≡ 0 →
         key ≤ key_at (picture s) (position_at (picture s)) → FellBack (insert_out (picture s) key value).left key value
     back s v key value z low =
-        let down : key ≤ position_key s = omega (arith, position-key-is v) in
+        let down : key ≤ position_key s = omega (arith, position_key_is v) in
         key_cases s key
         (λ n. absurd (refused_not (insert_out (picture s) key value) (refused bad_key (picture s)) 3 (insert_outcome_bad_key s v key value n) refl z))
         (λ h l a.

@@ -19,7 +19,7 @@ use Rattle.meaning.proofs.Pictures.State.{Sound}
 use Rattle.meaning.proofs.Pictures.StateCells.{row_range}
 use Rattle.meaning.proofs.Cells.Placed.{mark_one}
 use Rattle.meaning.proofs.Pictures.Picture.{picture_largest, picture_cells, picture_word, Told, told, free_words-rest}
-use Rattle.meaning.proofs.Cells.WalkRead.{all_places, row-key-read, row-mark-read}
+use Rattle.meaning.proofs.Cells.WalkRead.{all_places, row_key_read, row_mark_read}
 use Rattle.meaning.proofs.Rows.Places.{node_found}
 use Rattle.meaning.proofs.Outcomes.{on_lists, insert_outcome_live, insert_outcome_dead, insert_outcome_full, insert_outcome_new}
 use Rattle.meaning.proofs.Outcomes.{find_outcome_absent, find_outcome_dead, find_outcome_live}
@@ -37,19 +37,19 @@ places_named s v =
     (all_map (λ x found e. found) s.row (node_found 0 s.row v.ascends))
 
 module _ (s : State) (v : Sound s) (key : ℕ) where
-  live-shown : (x : Node) → node_at key s.row ≡ some x → x.live ≡ true → Live (picture s) key
-  live-shown x e live =
+  live_shown : (x : Node) → node_at key s.row ≡ some x → x.live ≡ true → Live (picture s) key
+  live_shown x e live =
       record {
         cell = x.cell;
         within = subst (λ n. x.cell < n) (sym (picture_cells s)) (node_has (λ y. (0 < y.cell) × (y.cell < s.settings.cells)) key x s.row e
             (row_range s v)).1;
-        mark = node_has (λ y. mark_at (picture s) y.cell ≡ mark y.live) key x s.row e (row-mark-read s v) ∙ ap mark live;
-        same = node_has (λ y. key_at (picture s) y.cell ≡ y.key) key x s.row e (row-key-read s v) ∙ node_key key x s.row e;
+        mark = node_has (λ y. mark_at (picture s) y.cell ≡ mark y.live) key x s.row e (row_mark_read s v) ∙ ap mark live;
+        same = node_has (λ y. key_at (picture s) y.cell ≡ y.key) key x s.row e (row_key_read s v) ∙ node_key key x s.row e;
       }
 
-  shown-live : Live (picture s) key → is_live (node_at key s.row) ≡ true
+  shown_live : Live (picture s) key → is_live (node_at key s.row) ≡ true
   unfolding words_of standing_words
-  shown-live l =
+  shown_live l =
       at (place_of l.cell (places b D s.row))
       (picture_word s l.cell 0 inside (omega arith)) (picture_word s l.cell 2 inside (omega arith))
       (told (λ p. Named s p.node) l.cell (places b D s.row) (places_named s v))
@@ -72,16 +72,16 @@ module _ (s : State) (v : Sound s) (key : ℕ) where
           let live = mark_one p.node.live (sym m ∙ l.mark) in
           ap is_live (subst (λ n. node_at n s.row ≡ some p.node) (sym k ∙ l.same) (t.1 live)) ∙ live
 
-  pub live-on-words : (is_live (node_at key s.row) ≡ true) ↔ Live (picture s) key
-  live-on-words = (at (node_at key s.row) refl, shown-live)
+  pub live_on_words : (is_live (node_at key s.row) ≡ true) ↔ Live (picture s) key
+  live_on_words = (at (node_at key s.row) refl, shown_live)
     where
       at : (o : Option Node) → node_at key s.row ≡ o → is_live o ≡ true → Live (picture s) key
       at none e q = absurd (false≢true q)
-      at (some x) e q = live-shown x e q
+      at (some x) e q = live_shown x e q
 
   module _ (l : 1 ≤ key) (h : key ≤ s.settings.largest) where
-    insert-tells : (value : ℕ) → ((insert_out (picture s) key value).answered.refusal ≡ 5) ↔ (is_live (node_at key s.row) ≡ true)
-    insert-tells value = at (node_at key s.row) refl
+    insert_tells : (value : ℕ) → ((insert_out (picture s) key value).answered.refusal ≡ 5) ↔ (is_live (node_at key s.row) ≡ true)
+    insert_tells value = at (node_at key s.row) refl
       where
         refusal : ℕ
         refusal = (insert_out (picture s) key value).answered.refusal
@@ -101,8 +101,8 @@ module _ (s : State) (v : Sound s) (key : ℕ) where
         at none e = ((λ q. absurd (absent e (ℕ_discrete (length s.free) 0) q)), (λ q. absurd (false≢true q)))
         at (some x) e = standing x e x.live refl
 
-    find-tells : ((find_out (picture s) key).answered.refusal ≡ 0) ↔ (is_live (node_at key s.row) ≡ true)
-    find-tells = at (node_at key s.row) refl
+    find_tells : ((find_out (picture s) key).answered.refusal ≡ 0) ↔ (is_live (node_at key s.row) ≡ true)
+    find_tells = at (node_at key s.row) refl
       where
         refusal : ℕ
         refusal = (find_out (picture s) key).answered.refusal
@@ -129,7 +129,7 @@ present_means_that_key =
     (((insert_out ws key value).answered.refusal ≡ 5) ↔ Live ws key) × (((find_out ws key).answered.refusal ≡ 0) ↔ Live ws key))
     (λ s v key value l h.
     let h' : key ≤ s.settings.largest = subst (λ n. key ≤ n) (picture_largest s) h in
-    let words = live-on-words s v key in
-    let insert = insert-tells s v key l h' value in
-    let find = find-tells s v key l h' in
+    let words = live_on_words s v key in
+    let insert = insert_tells s v key l h' value in
+    let find = find_tells s v key l h' in
     (((λ q. words.0 (insert.0 q)), (λ q. insert.1 (words.1 q))), ((λ q. words.0 (find.0 q)), (λ q. find.1 (words.1 q)))))

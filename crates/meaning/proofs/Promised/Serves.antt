@@ -23,7 +23,7 @@ use Rattle.meaning.proofs.Rows.Places.{node_found}
 use Rattle.meaning.proofs.Rows.AscendingKeys.{member_past}
 use Rattle.meaning.proofs.Kept.Slot.{gap, slot_is}
 use Rattle.meaning.proofs.Kept.KeepsSweep.{swept_sound}
-use Rattle.meaning.proofs.Kept.KeepsInsert.{added_sound, added-row}
+use Rattle.meaning.proofs.Kept.KeepsInsert.{added_sound, added_row}
 use Rattle.meaning.proofs.Outcomes.{on_read_lists, sweep_outcome, insert_outcome_bad_key, insert_outcome_full, insert_outcome_new, key_cases, free_cases}
 
 cell_once : (s : State) → Sound s → (x : ℕ) → 0 < x → x < s.settings.cells → occurrences x (map (λ e. e.cell) s.row) + occurrences x s.free ≡ 1
@@ -55,7 +55,7 @@ new_uses_first s v key value h l a f =
     let found =
     all_at (λ x. node_at x.key (added s key value t).row ≡ some x) (finished t.c (finished t.parent g.pre)) e
     (finished t.c (finished t.parent g.post))
-    (subst (All (λ x. node_at x.key (added s key value t).row ≡ some x)) (added-row s v key value h g f t i)
+    (subst (All (λ x. node_at x.key (added s key value t).row ≡ some x)) (added_row s v key value h g f t i)
     (node_found 0 (added s key value t).row sound.ascends)) in
     (e, found, i.n_is)
 

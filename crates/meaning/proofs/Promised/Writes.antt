@@ -21,7 +21,7 @@ use Rattle.meaning.specs.Writes.{Inserted, Taken, Revived, Swept, Marked}
 use Rattle.meaning.specs.Sentences.{Standing, NextSmaller}
 use Rattle.meaning.specs.Promises.{FindWritesNothing, TakeWrites, ReviveWrites, InsertWrites, Finishes, FinishWrites, SweepWrites}
 use Rattle.meaning.specs.Layer.Stores.{write_path, write_node}
-use Rattle.meaning.proofs.Cells.Stores.{Exact, picture_exact, word_in, word_at_in, cell-sets-inside, cell_sets_before, cell_sets_after}
+use Rattle.meaning.proofs.Cells.Stores.{Exact, picture_exact, word_in, word_at_in, cell_sets_inside, cell_sets_before, cell_sets_after}
 use Rattle.meaning.proofs.Cells.Stores.{cell_sets_other, cell_sets_below, path_sets_header, path_sets_word}
 use Rattle.meaning.proofs.Rows.AscendingRow.{Asc, asc_above}
 use Rattle.meaning.proofs.Pictures.State.{Sound}
@@ -30,16 +30,16 @@ use Rattle.meaning.proofs.Cells.Changed.{picture_path_word}
 use Rattle.meaning.proofs.Rows.Places.{asc_right, on_cell}
 use Rattle.meaning.proofs.Kept.KeepsState.{live_split, dead_front-dead, from_live-live, cell_stands}
 use Rattle.meaning.proofs.Kept.KeepsTake.{taken_sound}
-use Rattle.meaning.proofs.Cells.Placed.{placed-node, cell_standing, place-key, place-mark, place-standing, mark_one}
-use Rattle.meaning.proofs.BothWays.SentencesShape.{HasPlace, row-placed}
-use Rattle.meaning.proofs.BothWays.Sentences.{position_is, position-key-is}
-use Rattle.meaning.proofs.Cells.WalkRead.{row-key-read}
+use Rattle.meaning.proofs.Cells.Placed.{placed_node, cell_standing, place_key, place_mark, place_standing, mark_one}
+use Rattle.meaning.proofs.BothWays.SentencesShape.{HasPlace, row_placed}
+use Rattle.meaning.proofs.BothWays.Sentences.{position_is, position_key_is}
+use Rattle.meaning.proofs.Cells.WalkRead.{row_key_read}
 use Rattle.meaning.proofs.Rows.Nodes.{node_has, node_key, node_split}
-use Rattle.meaning.proofs.Kept.KeepsInsert.{revived-keeping, revived-position, revived_sound}
+use Rattle.meaning.proofs.Kept.KeepsInsert.{revived_keeping, revived_position, revived_sound}
 use Rattle.meaning.proofs.Walks.Smaller.{split_next_smaller}
-use Rattle.meaning.proofs.Written.FinishWords.{finish-moved, finish-own, finish-others, finish-nothing, finish-finished}
-use Rattle.meaning.proofs.Written.TakeWords.{taken_words, revived_words, revived_path}
-use Rattle.meaning.proofs.Written.InsertWords.{added-inserted}
+use Rattle.meaning.proofs.Written.FinishWords.{finish_moved, finish_own, finish_others, finish_nothing, finish_finished}
+use Rattle.meaning.proofs.Written.TakeWords.{taken_words_lem, revived_words, revived_path}
+use Rattle.meaning.proofs.Written.InsertWords.{added_inserted}
 use Rattle.meaning.proofs.Outcomes.{on_read_lists, find_writes_nothing, take_outcome_none, take_outcome_first, insert_outcome_bad_key}
 use Rattle.meaning.proofs.Outcomes.{insert_outcome_live, insert_outcome_dead, insert_outcome_new, finish_outcome_bad_key}
 use Rattle.meaning.proofs.Outcomes.{finish_outcome_absent, finish_outcome_standing, sweep_outcome, key_cases, live_cases}
@@ -69,9 +69,9 @@ words_least : (s : State) → Sound s → (x : Node) (later : List Node) → fro
 words_least s v x later e y stands live =
     let (p, here) = cell_standing s y stands in
     let least =
-    placed-node here (λ z. z.live ≡ true → x.key ≤ z.key) (λ l. absurd (true≢false (sym l))) (live_least s v x later e)
-    (mark_one p.node.live (sym (place-mark v here) ∙ live)) in
-    omega (arith, least, place-key v here)
+    placed_node here (λ z. z.live ≡ true → x.key ≤ z.key) (λ l. absurd (true≢false (sym l))) (live_least s v x later e)
+    (mark_one p.node.live (sym (place_mark v here) ∙ live)) in
+    omega (arith, least, place_key v here)
 
 -- a cell's value and mark, and the path, are all that is written
 marked_words :
@@ -82,8 +82,8 @@ marked_words s path {us} {cell} {k} {value} {mark} stands same long words =
     record {
       standing = stands;
       same = same;
-      valued = in_cell 1 ∙ cell-sets-inside exact cell 1 (value ∷ mark ∷ []) inside (omega arith) 0 (omega arith);
-      marked = in_cell 2 ∙ cell-sets-inside exact cell 1 (value ∷ mark ∷ []) inside (omega arith) 1 (omega arith);
+      valued = in_cell 1 ∙ cell_sets_inside exact cell 1 (value ∷ mark ∷ []) inside (omega arith) 0 (omega arith);
+      marked = in_cell 2 ∙ cell_sets_inside exact cell 1 (value ∷ mark ∷ []) inside (omega arith) 1 (omega arith);
       header = header;
       other = λ x j h apart. in_words x j ∙ other x j h apart (ℕ_discrete x cell) ∙ sym (word_at_in D ws (picture_dimensions s) x j);
     }
@@ -137,15 +137,15 @@ take_taken s v z = go (from_live s.row) refl
     go [] e = absurd (refused_not (take_out (picture s)) (refused (nothing_live (keys_above _ s.row)) (picture s)) 6 (take_outcome_none s v e) refl z)
     go (x ∷ later) e =
         let o = take_outcome_first s v x later e in
-        let here = at_live (HasPlace s) s.row x later e (row-placed v) in
+        let here = at_live (HasPlace s) s.row x later e (row_placed v) in
         record {
           cell = x.cell;
           marked =
-              marked_words s (path (taken s x)) (place-standing v here.placed)
-              (at_live (λ y. key_at (picture s) y.cell ≡ y.key) s.row x later e (row-key-read s v)
+              marked_words s (path (taken s x)) (place_standing v here.placed)
+              (at_live (λ y. key_at (picture s) y.cell ≡ y.key) s.row x later e (row_key_read s v)
               ∙ ap (λ (p : Outcome (List ℕ)). p.answered.key) (sym o))
-              (path_length (taken s x)) (ap (λ (p : Outcome (List ℕ)). p.left) o ∙ taken_words s x later v e);
-          live = place-mark v here.placed ∙ ap (λ (y : Node). mark y.live) here.node ∙ ap mark (from_live-live s.row x later e);
+              (path_length (taken s x)) (ap (λ (p : Outcome (List ℕ)). p.left) o ∙ taken_words_lem s x later v e);
+          live = place_mark v here.placed ∙ ap (λ (y : Node). mark y.live) here.node ∙ ap mark (from_live-live s.row x later e);
           least = λ y stands live. subst (λ (k : ℕ). k ≤ key_at (picture s) y) (ap (λ (p : Outcome (List ℕ)). p.answered.key) (sym o))
               (words_least s v x later e y stands live);
           position = ap (λ (p : Outcome (List ℕ)). position_at p.left) o ∙ position_is (taken_sound s x later v e);
@@ -162,21 +162,21 @@ unfolding picture revived
 revived_leaves s x value v a dead =
     let after = revived s x value in
     let sound = revived_sound s x value v a dead in
-    let here = node_has (HasPlace s) x.key x s.row a (row-placed v) in
+    let here = node_has (HasPlace s) x.key x s.row a (row_placed v) in
     let (pre, post, split) = node_split x.key x s.row a in
     let revive = on_cell x.cell (revived_node value) in
     record {
       cell = x.cell;
       marked =
-          marked_words s (path after) (place-standing v here.placed) (place-key v here.placed ∙ ap (λ (y : Node). y.key) here.node)
+          marked_words s (path after) (place_standing v here.placed) (place_key v here.placed ∙ ap (λ (y : Node). y.key) here.node)
           (path_length after) (revived_words s x value v a);
-      dead = place-mark v here.placed ∙ ap (λ (y : Node). mark y.live) here.node ∙ ap mark dead;
+      dead = place_mark v here.placed ∙ ap (λ (y : Node). mark y.live) here.node ∙ ap mark dead;
       path_kept = λ above d h.
-          let kept = revived_path s x value v a (subst (λ (n : ℕ). n < x.key) (position-key-is v) above) in
+          let kept = revived_path s x value v a (subst (λ (n : ℕ). n < x.key) (position_key_is v) above) in
           picture_path_word after d h ∙ ap (λ (words : List ℕ). get_or words d 0) kept ∙ sym (picture_path_word s d h);
       position_lowered = λ low.
-          subst₂ (NextSmaller (picture after)) ((revived-keeping s x value v pre post split).cell x)
-          (sym (position_is sound ∙ revived-position s x value v pre post split (subst (λ (n : ℕ). x.key ≤ n) (position-key-is v) low)))
+          subst₂ (NextSmaller (picture after)) ((revived_keeping s x value v pre post split).cell x)
+          (sym (position_is sound ∙ revived_position s x value v pre post split (subst (λ (n : ℕ). x.key ≤ n) (position_key_is v) low)))
           (split_next_smaller after sound (map revive pre) (revive x) (map revive post) (ap (map revive) split ∙ map-append revive pre (x ∷ post)));
     }
 
@@ -207,7 +207,7 @@ insert_inserted : (s : State) → Sound s → (key value : ℕ) → node_at key 
 insert_inserted s v key value a z =
     let (h, l, f) = new_accepted s v key value a z in
     subst (λ (us : List ℕ). Inserted (picture s) us key value (slot_for s key))
-    (ap (λ (p : Outcome (List ℕ)). p.left) (sym (insert_outcome_new s v key value h l a f))) (added-inserted s v key value h l a f)
+    (ap (λ (p : Outcome (List ℕ)). p.left) (sym (insert_outcome_new s v key value h l a f))) (added_inserted s v key value h l a f)
 
 pub insert_writes : InsertWrites
 insert_writes =
@@ -235,13 +235,13 @@ finish_finishes s v key z =
         let n = node_stands s key x a in
         record {
           cell = x.cell;
-          standing = place-standing v (node_has (HasPlace s) key x s.row a (row-placed v)).placed;
-          same = node_has (λ y. key_at (picture s) y.cell ≡ y.key) key x s.row a (row-key-read s v) ∙ node_key key x s.row a;
-          moved = finish-moved s v x.cell n;
-          paid = finish-own s v x.cell n;
-          others = finish-others s v x.cell n;
-          nothing = finish-nothing s v x.cell n;
-          finished = finish-finished s v x.cell n;
+          standing = place_standing v (node_has (HasPlace s) key x s.row a (row_placed v)).placed;
+          same = node_has (λ y. key_at (picture s) y.cell ≡ y.key) key x s.row a (row_key_read s v) ∙ node_key key x s.row a;
+          moved = finish_moved s v x.cell n;
+          paid = finish_own s v x.cell n;
+          others = finish_others s v x.cell n;
+          nothing = finish_nothing s v x.cell n;
+          finished = finish_finished s v x.cell n;
         }
 
 pub finish_writes : FinishWrites

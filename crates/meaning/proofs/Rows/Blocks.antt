@@ -110,8 +110,8 @@ module _ (b D c k d : ℕ) (pos : 0 < b) where
           omega (arith, m, i, mul-le-mul_right P most)
 
   -- .. from its end on, it starts there or later
-  block-after : block_start b D k d + b ^ (D - d) ≤ c → block_start b D k d + b ^ (D - d) ≤ block_start b D c d
-  block-after more =
+  block_after : block_start b D k d + b ^ (D - d) ≤ c → block_start b D k d + b ^ (D - d) ≤ block_start b D c d
+  block_after more =
       let P = b ^ (D - d) in
       let some : 0 < P = one-le-pow (D - d) b pos in
       let its = block_multiple b D k d in
@@ -120,16 +120,16 @@ module _ (b D c k d : ℕ) (pos : 0 < b) where
       omega (arith, block_multiple b D c d, its, size, mul-le-mul_right P next)
 
   -- a key is inside its own block
-  block-own-end : k < block_start b D k d + b ^ (D - d)
+  block_own_end : k < block_start b D k d + b ^ (D - d)
   unfolding block_start
-  block-own-end = omega (arith, mod-lt k (one-le-pow (D - d) b pos), mod-le k (b ^ (D - d)))
+  block_own_end = omega (arith, mod-lt k (one-le-pow (D - d) b pos), mod-le k (b ^ (D - d)))
 
 -- A key c that shares d coordinates with k
 
 module _ (b D c k d : ℕ) (pos : 0 < b) (cfits : c < b ^ D) (kfits : k < b ^ D) (inside : d < D) (upto : d ≤ shared b D c k) where
   -- before k's block of level d + 1 it is below k at coordinate d, ..
-  pub block-before : c < block_start b D k (suc d) → coordinate b D c d < coordinate b D k d
-  block-before less = go (dec_lt d (shared b D c k))
+  pub block_before : c < block_start b D k (suc d) → coordinate b D c d < coordinate b D k d
+  block_before less = go (dec_lt d (shared b D c k))
     where
       before : c < k
       before = omega (arith, less, block_below b D k (suc d))
@@ -152,15 +152,15 @@ module _ (b D c k d : ℕ) (pos : 0 < b) (cfits : c < b ^ D) (kfits : k < b ^ D)
       go (no h) = coordinate_same b D c k d ((shared_block b D c k (suc d) pos kfits (omega (arith, h)) inside).1 from)
 
   -- .. and past it above
-  pub block-past : block_start b D k (suc d) + b ^ (D - suc d) ≤ c → coordinate b D k d < coordinate b D c d
-  block-past past = go (dec_lt d (shared b D k c))
+  pub block_past : block_start b D k (suc d) + b ^ (D - suc d) ≤ c → coordinate b D k d < coordinate b D c d
+  block_past past = go (dec_lt d (shared b D k c))
     where
       end : k < block_start b D k (suc d) + b ^ (D - suc d)
-      end = block-own-end b D c k (suc d) pos
+      end = block_own_end b D c k (suc d) pos
 
       go : Dec (d < shared b D k c) → coordinate b D k d < coordinate b D c d
       go (yes h) =
-          let start = block-after b D c k (suc d) pos past in
+          let start = block_after b D c k (suc d) pos past in
           absurd (omega (arith, end, start, (shared_block b D k c (suc d) pos cfits (omega (arith, end, past)) inside).0 h))
       go (no h) =
           let here : shared b D k c ≡ d = omega (arith, upto, h, shared_sym b D c k) in

@@ -118,54 +118,54 @@ place_at b D w f y e (z ∷ pre) x post o = rw (ne_eqb y.cell x.cell o.0) (place
 -- Where a link leads
 
 module _ (b D : ℕ) where
-  pub sharing-skips :
+  pub sharing_skips :
       (key d : ℕ) (pre later : List Node) → All (λ z. shared b D key z.key ≡ d → ⊥) pre →
       first_sharing b D key d (pre ++ later) ≡ first_sharing b D key d later
   unfolding first_sharing
-  sharing-skips key d [] later a = refl
-  sharing-skips key d (z ∷ pre) later a = rw (ne_eqb (shared b D key z.key) d a.0) (sharing-skips key d pre later a.1)
+  sharing_skips key d [] later a = refl
+  sharing_skips key d (z ∷ pre) later a = rw (ne_eqb (shared b D key z.key) d a.0) (sharing_skips key d pre later a.1)
 
-  pub sharing-hits : (key d : ℕ) (x : Node) (later : List Node) → shared b D key x.key ≡ d → first_sharing b D key d (x ∷ later) ≡ x.cell
+  pub sharing_hits : (key d : ℕ) (x : Node) (later : List Node) → shared b D key x.key ≡ d → first_sharing b D key d (x ∷ later) ≡ x.cell
   unfolding first_sharing
-  sharing-hits key d x later e = rw (eq-eqb (shared b D key x.key) d e) refl
+  sharing_hits key d x later e = rw (eq-eqb (shared b D key x.key) d e) refl
 
-  pub sharing-none : (key d : ℕ) (later : List Node) → All (λ z. shared b D key z.key ≡ d → ⊥) later → first_sharing b D key d later ≡ 0
+  pub sharing_none : (key d : ℕ) (later : List Node) → All (λ z. shared b D key z.key ≡ d → ⊥) later → first_sharing b D key d later ≡ 0
   unfolding first_sharing
-  sharing-none key d [] a = refl
-  sharing-none key d (z ∷ later) a = rw (ne_eqb (shared b D key z.key) d a.0) (sharing-none key d later a.1)
+  sharing_none key d [] a = refl
+  sharing_none key d (z ∷ later) a = rw (ne_eqb (shared b D key z.key) d a.0) (sharing_none key d later a.1)
 
   -- keys that the same of some nodes share just d with
-  pub sharing-alike :
+  pub sharing_alike :
       (k l d : ℕ) (later : List Node) →
       All (λ y. (shared b D k y.key ≡ d → shared b D l y.key ≡ d) × (shared b D l y.key ≡ d → shared b D k y.key ≡ d)) later →
       first_sharing b D k d later ≡ first_sharing b D l d later
   unfolding first_sharing
-  sharing-alike k l d [] a = refl
-  sharing-alike k l d (y ∷ later) a = at (ℕ_discrete (shared b D k y.key) d) (sharing-alike k l d later a.1)
+  sharing_alike k l d [] a = refl
+  sharing_alike k l d (y ∷ later) a = at (ℕ_discrete (shared b D k y.key) d) (sharing_alike k l d later a.1)
     where
       at : Dec (shared b D k y.key ≡ d) → first_sharing b D k d later ≡ first_sharing b D l d later →
           first_sharing b D k d (y ∷ later) ≡ first_sharing b D l d (y ∷ later)
-      at (yes e) more = sharing-hits k d y later e ∙ sym (sharing-hits l d y later (a.0.0 e))
+      at (yes e) more = sharing_hits k d y later e ∙ sym (sharing_hits l d y later (a.0.0 e))
       at (no ne) more = rw (ne_eqb (shared b D k y.key) d ne, ne_eqb (shared b D l y.key) d (λ e. ne (a.0.1 e))) more
 
   -- what comes after a key y shares no more with a smaller key than y does
-  sharing-falls : 0 < b → (key y : ℕ) (later : List Node) → key ≤ y → Asc y later → All (λ z. shared b D key z.key ≤ shared b D key y) later
-  sharing-falls pos key y later h asc = all_map (λ z l. omega (arith, ultra b D key y z.key pos h (omega arith))) later (asc_above y later asc)
+  sharing_falls : 0 < b → (key y : ℕ) (later : List Node) → key ≤ y → Asc y later → All (λ z. shared b D key z.key ≤ shared b D key y) later
+  sharing_falls pos key y later h asc = all_map (λ z l. omega (arith, ultra b D key y z.key pos h (omega arith))) later (asc_above y later asc)
 
   -- so after a y that shares less than d none shares just d
-  pub sharing-behind : 0 < b → (key d y : ℕ) (later : List Node) → key ≤ y → shared b D key y < d → Asc y later → first_sharing b D key d later ≡ 0
-  sharing-behind pos key d y later h l asc = sharing-none key d later (all_map (λ z m e. omega arith) later (sharing-falls pos key y later h asc))
+  pub sharing_behind : 0 < b → (key d y : ℕ) (later : List Node) → key ≤ y → shared b D key y < d → Asc y later → first_sharing b D key d later ≡ 0
+  sharing_behind pos key d y later h l asc = sharing_none key d later (all_map (λ z m e. omega arith) later (sharing_falls pos key y later h asc))
 
   -- nor does that y itself
-  pub sharing-above : 0 < b → (key d : ℕ) (y : Node) (later : List Node) → key ≤ y.key → Asc y.key later → shared b D key y.key < d →
+  pub sharing_above : 0 < b → (key d : ℕ) (y : Node) (later : List Node) → key ≤ y.key → Asc y.key later → shared b D key y.key < d →
       first_sharing b D key d (y ∷ later) ≡ 0
-  sharing-above pos key d y later h asc l = sharing-skips key d (y ∷ []) later ((λ e. omega arith), tt) ∙ sharing-behind pos key d y.key later h l asc
+  sharing_above pos key d y later h asc l = sharing_skips key d (y ∷ []) later ((λ e. omega arith), tt) ∙ sharing_behind pos key d y.key later h l asc
 
   -- no link leads to a cell that does not come later
-  pub sharing-without : (key d c : ℕ) (later : List Node) → (c ≡ 0 → ⊥) → Without c later → first_sharing b D key d later ≡ c → ⊥
+  pub sharing_without : (key d c : ℕ) (later : List Node) → (c ≡ 0 → ⊥) → Without c later → first_sharing b D key d later ≡ c → ⊥
   unfolding first_sharing
-  sharing-without key d c [] nz w e = nz (sym e)
-  sharing-without key d c (z ∷ later) nz w e = at (ℕ_discrete (shared b D key z.key) d) e (sharing-without key d c later nz w.1)
+  sharing_without key d c [] nz w e = nz (sym e)
+  sharing_without key d c (z ∷ later) nz w e = at (ℕ_discrete (shared b D key z.key) d) e (sharing_without key d c later nz w.1)
     where
       at : Dec (shared b D key z.key ≡ d) → cond (eqb (shared b D key z.key) d) z.cell (first_sharing b D key d later) ≡ c →
           (first_sharing b D key d later ≡ c → ⊥) → ⊥
@@ -173,17 +173,17 @@ module _ (b D : ℕ) where
       at (no q) r ih = ih (rw (ne_eqb (shared b D key z.key) d q) at r)
 
   -- a link that leads to x passes over all before x, and x shares just its number
-  pub sharing-to :
+  pub sharing_to :
       (key d : ℕ) (pre : List Node) (x : Node) (post : List Node) → (x.cell ≡ 0 → ⊥) → Without x.cell (pre ++ post) →
       first_sharing b D key d (pre ++ x ∷ post) ≡ x.cell → All (λ z. shared b D key z.key ≡ d → ⊥) pre × (shared b D key x.key ≡ d)
   unfolding first_sharing
-  sharing-to key d [] x post nz w e = at (ℕ_discrete (shared b D key x.key) d) e
+  sharing_to key d [] x post nz w e = at (ℕ_discrete (shared b D key x.key) d) e
     where
       at : Dec (shared b D key x.key ≡ d) → cond (eqb (shared b D key x.key) d) x.cell (first_sharing b D key d post) ≡ x.cell →
           Unit {0} × (shared b D key x.key ≡ d)
       at (yes q) r = (tt, q)
-      at (no q) r = absurd (sharing-without key d x.cell post nz w (rw (ne_eqb (shared b D key x.key) d q) at r))
-  sharing-to key d (z ∷ pre) x post nz w e = at (ℕ_discrete (shared b D key z.key) d) e (sharing-to key d pre x post nz w.1)
+      at (no q) r = absurd (sharing_without key d x.cell post nz w (rw (ne_eqb (shared b D key x.key) d q) at r))
+  sharing_to key d (z ∷ pre) x post nz w e = at (ℕ_discrete (shared b D key z.key) d) e (sharing_to key d pre x post nz w.1)
     where
       Passed : List Node → Type 0
       Passed row = All (λ y. shared b D key y.key ≡ d → ⊥) row × (shared b D key x.key ≡ d)
@@ -196,58 +196,58 @@ module _ (b D : ℕ) where
 -- The first that shares enough
 
 module _ (b D : ℕ) where
-  pub first-skips : (key n : ℕ) (y : Node) (later : List Node) → shared b D y.key key < n → first_with b D key n (y ∷ later) ≡ first_with b D key n later
+  pub first_skips : (key n : ℕ) (y : Node) (later : List Node) → shared b D y.key key < n → first_with b D key n (y ∷ later) ≡ first_with b D key n later
   unfolding first_with
-  first-skips key n y later h = rw (lt-ltb (shared b D y.key key) n h) refl
+  first_skips key n y later h = rw (lt-ltb (shared b D y.key key) n h) refl
 
-  pub first-hits : (key n : ℕ) (y : Node) (later : List Node) → n ≤ shared b D y.key key → first_with b D key n (y ∷ later) ≡ y.cell
+  pub first_hits : (key n : ℕ) (y : Node) (later : List Node) → n ≤ shared b D y.key key → first_with b D key n (y ∷ later) ≡ y.cell
   unfolding first_with
-  first-hits key n y later h = rw (le-ltb (shared b D y.key key) n h) refl
+  first_hits key n y later h = rw (le-ltb (shared b D y.key key) n h) refl
 
   -- where the last node shares enough, what comes after it does not matter
-  pub first-front :
+  pub first_front :
       (key n : ℕ) (y : Node) (pre later : List Node) → n ≤ shared b D (last_from y pre).key key →
       first_with b D key n (y ∷ (pre ++ later)) ≡ first_with b D key n (y ∷ pre)
   unfolding last_from
-  first-front key n y [] later h = first-hits key n y later h ∙ sym (first-hits key n y [] h)
-  first-front key n y (z ∷ pre) later h = at (dec_lt (shared b D y.key key) n) (first-front key n z pre later h)
+  first_front key n y [] later h = first_hits key n y later h ∙ sym (first_hits key n y [] h)
+  first_front key n y (z ∷ pre) later h = at (dec_lt (shared b D y.key key) n) (first_front key n z pre later h)
     where
       at : Dec (shared b D y.key key < n) → first_with b D key n (z ∷ (pre ++ later)) ≡ first_with b D key n (z ∷ pre) →
           first_with b D key n (y ∷ z ∷ (pre ++ later)) ≡ first_with b D key n (y ∷ z ∷ pre)
-      at (yes g) ih = first-skips key n y (z ∷ (pre ++ later)) g ∙ ih ∙ sym (first-skips key n y (z ∷ pre) g)
-      at (no g) ih = first-hits key n y (z ∷ (pre ++ later)) (omega arith) ∙ sym (first-hits key n y (z ∷ pre) (omega arith))
+      at (yes g) ih = first_skips key n y (z ∷ (pre ++ later)) g ∙ ih ∙ sym (first_skips key n y (z ∷ pre) g)
+      at (no g) ih = first_hits key n y (z ∷ (pre ++ later)) (omega arith) ∙ sym (first_hits key n y (z ∷ pre) (omega arith))
 
   -- and the first is one of them
-  pub first-among :
+  pub first_among :
       (P : ℕ → Type 0) (key n : ℕ) (y : Node) (pre : List Node) → n ≤ shared b D (last_from y pre).key key → P y.cell → All (λ z. P z.cell) pre →
       P (first_with b D key n (y ∷ pre))
   unfolding last_from
-  first-among P key n y [] h p a = rw (first-hits key n y [] h) p
-  first-among P key n y (z ∷ pre) h p a = at (dec_lt (shared b D y.key key) n) (first-among P key n z pre h a.0 a.1)
+  first_among P key n y [] h p a = rw (first_hits key n y [] h) p
+  first_among P key n y (z ∷ pre) h p a = at (dec_lt (shared b D y.key key) n) (first_among P key n z pre h a.0 a.1)
     where
       at : Dec (shared b D y.key key < n) → P (first_with b D key n (z ∷ pre)) → P (first_with b D key n (y ∷ z ∷ pre))
-      at (yes g) ih = rw (first-skips key n y (z ∷ pre) g) ih
-      at (no g) ih = let l : n ≤ shared b D y.key key = omega arith in rw (first-hits key n y (z ∷ pre) l) p
+      at (yes g) ih = rw (first_skips key n y (z ∷ pre) g) ih
+      at (no g) ih = let l : n ≤ shared b D y.key key = omega arith in rw (first_hits key n y (z ∷ pre) l) p
 
   -- it is found by its cell, and its key is not above the last one's
   pub first_key :
       (key n : ℕ) (y : Node) (pre later : List Node) → Asc y.key pre → Apart (y ∷ pre) → n ≤ shared b D (last_from y pre).key key →
       key_of (first_with b D key n (y ∷ pre)) (y ∷ (pre ++ later)) ≤ (last_from y pre).key
   unfolding key_of last_from
-  first_key key n y [] later a o h = rw (first-hits key n y [] h, eq-eqb y.cell y.cell refl) (omega arith)
+  first_key key n y [] later a o h = rw (first_hits key n y [] h, eq-eqb y.cell y.cell refl) (omega arith)
   first_key key n y (z ∷ pre) later a o h = at (dec_lt (shared b D y.key key) n) (first_key key n z pre later a.1 o.1 h)
     where
       at : Dec (shared b D y.key key < n) → key_of (first_with b D key n (z ∷ pre)) (z ∷ (pre ++ later)) ≤ (last_from z pre).key →
           cond (eqb y.cell (first_with b D key n (y ∷ z ∷ pre))) y.key (key_of (first_with b D key n (y ∷ z ∷ pre)) (z ∷ (pre ++ later)))
           ≤ (last_from z pre).key
       at (yes g) ih =
-          let other : y.cell ≡ first_with b D key n (z ∷ pre) → ⊥ = first-among (λ c. y.cell ≡ c → ⊥) key n z pre h (λ e. o.0.0 (sym e))
+          let other : y.cell ≡ first_with b D key n (z ∷ pre) → ⊥ = first_among (λ c. y.cell ≡ c → ⊥) key n z pre h (λ e. o.0.0 (sym e))
           (all_map (λ x k e. k (sym e)) pre o.0.1) in
-          rw (first-skips key n y (z ∷ pre) g, ne_eqb y.cell (first_with b D key n (z ∷ pre)) other) ih
+          rw (first_skips key n y (z ∷ pre) g, ne_eqb y.cell (first_with b D key n (z ∷ pre)) other) ih
       at (no g) ih =
           let l : n ≤ shared b D y.key key = omega arith in
           let k = last_least y (z ∷ pre) a in
-          rw (first-hits key n y (z ∷ pre) l, eq-eqb y.cell y.cell refl) k
+          rw (first_hits key n y (z ∷ pre) l, eq-eqb y.cell y.cell refl) k
 
 -- the node before x shares more with itself than x does
 pub last_shares : (b D : ℕ) → 0 < D → (y : Node) (pre : List Node) (x : Node) (post : List Node) → Asc y.key (pre ++ x ∷ post) →
@@ -267,27 +267,27 @@ module _ (b D : ℕ) (pos : 0 < b) (deep : 0 < D) where
       (asc_above y.key row a) (last_greatest y row a)
 
   -- y has a link to a later x, if y shares more with the node before x than x does
-  pub link-leads :
+  pub link_leads :
       (y : Node) (pre : List Node) (x : Node) (post : List Node) → Asc y.key (pre ++ x ∷ post) →
       dimension_after b D y pre x.key < shared b D y.key (last_from y pre).key →
       first_sharing b D y.key (dimension_after b D y pre x.key) (pre ++ x ∷ post) ≡ x.cell
-  link-leads y pre x post a h =
+  link_leads y pre x post a h =
       let A = last_from y pre in
       let l = last_least y pre (asc_left y.key pre (x ∷ post) a) in
       let r = (asc_last y pre (x ∷ post) a).0 in
       let u = ultra b D y.key A.key x.key pos l (omega arith) in
-      sharing-skips b D y.key (shared b D A.key x.key) pre (x ∷ post)
+      sharing_skips b D y.key (shared b D A.key x.key) pre (x ∷ post)
       (all_map (λ z g. omega arith) pre (near y pre (asc_left y.key pre (x ∷ post) a)))
-      ∙ sharing-hits b D y.key (shared b D A.key x.key) x post (omega arith)
+      ∙ sharing_hits b D y.key (shared b D A.key x.key) x post (omega arith)
 
   -- and then only this one, and else none
-  pub link-from :
+  pub link_from :
       (y : Node) (d : ℕ) (pre : List Node) (x : Node) (post : List Node) → Asc y.key (pre ++ x ∷ post) → (x.cell ≡ 0 → ⊥) →
       Without x.cell (pre ++ post) →
       first_sharing b D y.key d (pre ++ x ∷ post) ≡ x.cell → (d ≡ dimension_after b D y pre x.key) × (d < shared b D y.key (last_from y pre).key)
-  link-from y d pre x post a nz w e =
+  link_from y d pre x post a nz w e =
       let A = last_from y pre in
-      let t = sharing-to b D y.key d pre x post nz w e in
+      let t = sharing_to b D y.key d pre x post nz w e in
       let l = last_least y pre (asc_left y.key pre (x ∷ post) a) in
       let r = (asc_last y pre (x ∷ post) a).0 in
       let u = ultra b D y.key A.key x.key pos l (omega arith) in
@@ -298,56 +298,56 @@ module _ (b D : ℕ) (pos : 0 < b) (deep : 0 < D) where
       (omega arith, omega arith)
 
   -- the same of settled links, where y has dimension e
-  pub settled-leads :
+  pub settled_leads :
       (y : Node) (e : ℕ) (pre : List Node) (x : Node) (post : List Node) → Asc y.key (pre ++ x ∷ post) →
       dimension_after b D y pre x.key < shared b D y.key (last_from y pre).key → e ≤ dimension_after b D y pre x.key →
       cond (leb e (dimension_after b D y pre x.key)) (first_sharing b D y.key (dimension_after b D y pre x.key) (pre ++ x ∷ post)) 0 ≡ x.cell
-  settled-leads y e pre x post a h g = rw (le-leb e (dimension_after b D y pre x.key) g) (link-leads y pre x post a h)
+  settled_leads y e pre x post a h g = rw (le-leb e (dimension_after b D y pre x.key) g) (link_leads y pre x post a h)
 
-  pub settled-from :
+  pub settled_from :
       (e : ℕ) (y : Node) (d : ℕ) (pre : List Node) (x : Node) (post : List Node) → Asc y.key (pre ++ x ∷ post) → (x.cell ≡ 0 → ⊥) →
       Without x.cell (pre ++ post) →
       cond (leb e d) (first_sharing b D y.key d (pre ++ x ∷ post)) 0 ≡ x.cell →
       (e ≤ d) × (d ≡ dimension_after b D y pre x.key) × (d < shared b D y.key (last_from y pre).key)
-  settled-from e y d pre x post a nz w q = at (dec_le e d) q
+  settled_from e y d pre x post a nz w q = at (dec_le e d) q
     where
       at : Dec (e ≤ d) → cond (leb e d) (first_sharing b D y.key d (pre ++ x ∷ post)) 0 ≡ x.cell →
           (e ≤ d) × (d ≡ dimension_after b D y pre x.key) × (d < shared b D y.key (last_from y pre).key)
-      at (yes h) r = let t = link-from y d pre x post a nz w (rw (le-leb e d h) at r) in (h, t.0, t.1)
+      at (yes h) r = let t = link_from y d pre x post a nz w (rw (le-leb e d h) at r) in (h, t.0, t.1)
       at (no h) r = absurd (nz (sym (rw (lt-leb e d (omega arith)) at r)))
 
-  settled-without : (e key d c : ℕ) (later : List Node) → (c ≡ 0 → ⊥) → Without c later → cond (leb e d) (first_sharing b D key d later) 0 ≡ c → ⊥
-  settled-without e key d c later nz o q = at (dec_le e d) q
+  settled_without : (e key d c : ℕ) (later : List Node) → (c ≡ 0 → ⊥) → Without c later → cond (leb e d) (first_sharing b D key d later) 0 ≡ c → ⊥
+  settled_without e key d c later nz o q = at (dec_le e d) q
     where
       at : Dec (e ≤ d) → cond (leb e d) (first_sharing b D key d later) 0 ≡ c → ⊥
-      at (yes h) r = sharing-without b D key d c later nz o (rw (le-leb e d h) at r)
+      at (yes h) r = sharing_without b D key d c later nz o (rw (le-leb e d h) at r)
       at (no h) r = nz (sym (rw (lt-leb e d (omega arith)) at r))
 
   -- The first place whose link of x's dimension leads to x
 
-  leads-step : (c d k : ℕ) (p : Place) (standing : List Place) → (settled_link b D p d ≡ c → ⊥) → leads_to b D d c standing ≡ k →
+  leads_step : (c d k : ℕ) (p : Place) (standing : List Place) → (settled_link b D p d ≡ c → ⊥) → leads_to b D d c standing ≡ k →
       leads_to b D d c (p ∷ standing) ≡ k
   unfolding leads_to
-  leads-step c d k p standing n e = rw (ne_eqb (settled_link b D p d) c n) e
+  leads_step c d k p standing n e = rw (ne_eqb (settled_link b D p d) c n) e
 
-  leads-here : (c d : ℕ) (p : Place) (standing : List Place) → settled_link b D p d ≡ c → leads_to b D d c (p ∷ standing) ≡ p.node.cell
+  leads_here : (c d : ℕ) (p : Place) (standing : List Place) → settled_link b D p d ≡ c → leads_to b D d c (p ∷ standing) ≡ p.node.cell
   unfolding leads_to
-  leads-here c d p standing e = rw (eq-eqb (settled_link b D p d) c e) refl
+  leads_here c d p standing e = rw (eq-eqb (settled_link b D p d) c e) refl
 
   -- The first that shares enough has dimension at most x's, since the one before it shares too little: so its link leads to x.
-  leads-first :
+  leads_first :
       (w : Node) (f : ℕ) (y : Node) (e : ℕ) (pre : List Node) (x : Node) (post : List Node) → Asc y.key (pre ++ x ∷ post) → (x.cell ≡ 0 → ⊥) →
       Without x.cell (pre ++ post) →
       (dimension_after b D y pre x.key < shared b D y.key (last_from y pre).key → e ≤ dimension_after b D y pre x.key) →
       leads_to b D (dimension_after b D y pre x.key) x.cell (places_from b D w f y e (pre ++ x ∷ post)) ≡ parent_after b D y pre x.key
   unfolding places_after last_from
-  leads-first w f y e [] x post a nz o i =
+  leads_first w f y e [] x post a nz o i =
       let l = last_shares b D deep y [] x post a in
-      leads-here x.cell (shared b D y.key x.key) (record { node = y; dimension = e; before = w; before_dimension = f; later = x ∷ post })
-      (places_after b D y e (x ∷ post)) (settled-leads y e [] x post a l (i l))
-      ∙ sym (first-hits b D y.key (suc (shared b D y.key x.key)) y [] l)
-  leads-first w f y e (z ∷ pre) x post a nz o i =
-      at (dec_lt d (shared b D y.key A.key)) (leads-first y e z (shared b D y.key z.key) pre x post a.1 nz o.1)
+      leads_here x.cell (shared b D y.key x.key) (record { node = y; dimension = e; before = w; before_dimension = f; later = x ∷ post })
+      (places_after b D y e (x ∷ post)) (settled_leads y e [] x post a l (i l))
+      ∙ sym (first_hits b D y.key (suc (shared b D y.key x.key)) y [] l)
+  leads_first w f y e (z ∷ pre) x post a nz o i =
+      at (dec_lt d (shared b D y.key A.key)) (leads_first y e z (shared b D y.key z.key) pre x post a.1 nz o.1)
     where
       A : Node
       A = last_from z pre
@@ -361,62 +361,62 @@ module _ (b D : ℕ) (pos : 0 < b) (deep : 0 < D) where
       at : Dec (d < shared b D y.key A.key) → ((d < shared b D z.key A.key → shared b D y.key z.key ≤ d) →
           leads_to b D d x.cell (places_after b D y e p.later) ≡ first_with b D A.key (suc d) (z ∷ pre)) →
           leads_to b D d x.cell (p ∷ places_after b D y e p.later) ≡ first_with b D A.key (suc d) (y ∷ z ∷ pre)
-      at (yes h) ih = leads-here x.cell d p (places_after b D y e p.later) (settled-leads y e (z ∷ pre) x post a h (i h))
-          ∙ sym (first-hits b D A.key (suc d) y (z ∷ pre) h)
+      at (yes h) ih = leads_here x.cell d p (places_after b D y e p.later) (settled_leads y e (z ∷ pre) x post a h (i h))
+          ∙ sym (first_hits b D A.key (suc d) y (z ∷ pre) h)
       at (no h) ih =
           let l = a.0 in
           let g = last_least z pre (asc_left z.key pre (x ∷ post) a.1) in
           let u = ultra b D y.key z.key A.key pos (omega arith) g in
-          leads-step x.cell d (first_with b D A.key (suc d) (y ∷ z ∷ pre)) p (places_after b D y e p.later)
-          (λ q. let t = settled-from e y d (z ∷ pre) x post a nz o q in h t.2)
-          (ih (λ k. omega arith) ∙ sym (first-skips b D A.key (suc d) y (z ∷ pre) (omega arith)))
+          leads_step x.cell d (first_with b D A.key (suc d) (y ∷ z ∷ pre)) p (places_after b D y e p.later)
+          (λ q. let t = settled_from e y d (z ∷ pre) x post a nz o q in h t.2)
+          (ih (λ k. omega arith) ∙ sym (first_skips b D A.key (suc d) y (z ∷ pre) (omega arith)))
 
   -- No other link leads to x
 
   -- no link leads back
-  behind-links : (y : Node) (e c : ℕ) (later : List Node) → (c ≡ 0 → ⊥) → Without c later →
+  behind_links : (y : Node) (e c : ℕ) (later : List Node) → (c ≡ 0 → ⊥) → Without c later →
       All (λ p. (d : ℕ) → settled_link b D p d ≡ c → ⊥) (places_after b D y e later)
   unfolding places_after
-  behind-links y e c [] nz o = tt
-  behind-links y e c (z ∷ later) nz o = (
-    λ d q. settled-without (shared b D y.key z.key) z.key d c later nz o.1 q,
-    behind-links z
+  behind_links y e c [] nz o = tt
+  behind_links y e c (z ∷ later) nz o = (
+    λ d q. settled_without (shared b D y.key z.key) z.key d c later nz o.1 q,
+    behind_links z
         (shared b D y.key z.key) c later nz o.1,
   )
 
   -- after a node that shares more with the one before x than x does, dimensions up to x are larger than x's
-  deep-links :
+  deep_links :
       (y : Node) (e : ℕ) (pre : List Node) (x : Node) (post : List Node) → Asc y.key (pre ++ x ∷ post) → (x.cell ≡ 0 → ⊥) →
       Without x.cell (pre ++ post) →
       dimension_after b D y pre x.key < shared b D y.key (last_from y pre).key →
       All (λ p. (d : ℕ) → settled_link b D p d ≡ x.cell → ⊥) (places_after b D y e (pre ++ x ∷ post))
   unfolding places_after last_from
-  deep-links y e [] x post a nz o h = (
-    λ d q. settled-without (shared b D y.key x.key) x.key d x.cell post nz o q,
-    behind-links x
+  deep_links y e [] x post a nz o h = (
+    λ d q. settled_without (shared b D y.key x.key) x.key d x.cell post nz o q,
+    behind_links x
         (shared b D y.key x.key) x.cell post nz o,
   )
-  deep-links y e (z ∷ pre) x post a nz o h =
+  deep_links y e (z ∷ pre) x post a nz o h =
       let l = a.0 in
       let g = last_least z pre (asc_left z.key pre (x ∷ post) a.1) in
       let u = ultra b D y.key z.key (last_from z pre).key pos (omega arith) g in (
-        λ d q. let t = settled-from (shared b D y.key z.key) z d pre x post a.1 nz o.1 q in omega arith,
-        deep-links z (shared b D y.key z.key) pre x post a.1 nz o.1 (omega arith),
+        λ d q. let t = settled_from (shared b D y.key z.key) z d pre x post a.1 nz o.1 q in omega arith,
+        deep_links z (shared b D y.key z.key) pre x post a.1 nz o.1 (omega arith),
       )
 
-  unique-from :
+  unique_from :
       (w : Node) (f : ℕ) (y : Node) (e : ℕ) (pre : List Node) (x : Node) (post : List Node) → Asc y.key (pre ++ x ∷ post) → (x.cell ≡ 0 → ⊥) →
       Without x.cell (pre ++ post) →
       All (λ p. (d : ℕ) → settled_link b D p d ≡ x.cell → (p.node.cell ≡ parent_after b D y pre x.key) × (d ≡ dimension_after b D y pre x.key))
       (places_from b D w f y e (pre ++ x ∷ post))
   unfolding places_after last_from
-  unique-from w f y e [] x post a nz o =
+  unique_from w f y e [] x post a nz o =
       let l = last_shares b D deep y [] x post a in (
-        λ d q. (sym (first-hits b D y.key (suc (shared b D y.key x.key)) y [] l), (settled-from e y d [] x post a nz o q).1),
-        all_map (λ p n d q. absurd (n d q)) (places_after b D y e (x ∷ post)) (deep-links y e [] x post a nz o l),
+        λ d q. (sym (first_hits b D y.key (suc (shared b D y.key x.key)) y [] l), (settled_from e y d [] x post a nz o q).1),
+        all_map (λ p n d q. absurd (n d q)) (places_after b D y e (x ∷ post)) (deep_links y e [] x post a nz o l),
       )
-  unique-from w f y e (z ∷ pre) x post a nz o =
-      at (dec_lt d (shared b D y.key A.key)) (unique-from y e z (shared b D y.key z.key) pre x post a.1 nz o.1)
+  unique_from w f y e (z ∷ pre) x post a nz o =
+      at (dec_lt d (shared b D y.key A.key)) (unique_from y e z (shared b D y.key z.key) pre x post a.1 nz o.1)
     where
       A : Node
       A = last_from z pre
@@ -433,47 +433,47 @@ module _ (b D : ℕ) (pos : 0 < b) (deep : 0 < D) where
       at : Dec (d < shared b D y.key A.key) → All (Parent (z ∷ pre)) (places_after b D y e later) →
           All (Parent (y ∷ z ∷ pre)) (places_from b D w f y e later)
       at (yes h) ih = (
-        λ n q. (sym (first-hits b D A.key (suc d) y (z ∷ pre) h), (settled-from e y n (z ∷ pre) x post a nz o q).1),
-        all_map (λ p k n q. absurd (k n q)) (places_after b D y e later) (deep-links y e (z ∷ pre) x post a nz o h),
+        λ n q. (sym (first_hits b D A.key (suc d) y (z ∷ pre) h), (settled_from e y n (z ∷ pre) x post a nz o q).1),
+        all_map (λ p k n q. absurd (k n q)) (places_after b D y e later) (deep_links y e (z ∷ pre) x post a nz o h),
       )
       at (no h) ih = (
-        λ n q. let t = settled-from e y n (z ∷ pre) x post a nz o q in absurd (omega arith),
-        all_map (λ p k n q. ((k n q).0 ∙ sym (first-skips b D A.key (suc d) y (z ∷ pre) (omega arith)), (k n q).1)) (places_after b D y e later) ih,
+        λ n q. let t = settled_from e y n (z ∷ pre) x post a nz o q in absurd (omega arith),
+        all_map (λ p k n q. ((k n q).0 ∙ sym (first_skips b D A.key (suc d) y (z ∷ pre) (omega arith)), (k n q).1)) (places_after b D y e later) ih,
       )
 
   -- Where the parent stands, whether what is later holds x yet or not
 
-  pub first-place :
+  pub first_place :
       (d : ℕ) (w : Node) (f : ℕ) (y : Node) (e : ℕ) (pre later : List Node) → Asc y.key pre → Apart (y ∷ pre) → d < D →
       (d < shared b D y.key (last_from y pre).key → e ≤ d) →
       (p : Place) × (place_of (first_with b D (last_from y pre).key (suc d) (y ∷ pre)) (places_from b D w f y e (pre ++ later)) ≡ some p)
       × ParentPlace b D d (last_from y pre) later p
   unfolding place_of places_after last_from
-  first-place d w f y e [] later a o h i =
+  first_place d w f y e [] later a o h i =
       let l : d < shared b D y.key y.key = omega (arith, shared_same b D y.key) in
       let p : Place = record { node = y; dimension = e; before = w; before_dimension = f; later = later } in (
         p,
-        rw (first-hits b D y.key (suc d) y [] l, eq-eqb y.cell y.cell refl)
+        rw (first_hits b D y.key (suc d) y [] l, eq-eqb y.cell y.cell refl)
             refl,
         record { between = []; later_is = refl; last_is = refl; ascends = tt; low = i l; shares = l },
       )
-  first-place d w f y e (z ∷ pre) later a o h i =
-      at (dec_lt d (shared b D y.key A.key)) (first-place d y e z (shared b D y.key z.key) pre later a.1 o.1 h)
+  first_place d w f y e (z ∷ pre) later a o h i =
+      at (dec_lt d (shared b D y.key A.key)) (first_place d y e z (shared b D y.key z.key) pre later a.1 o.1 h)
     where
       A : Node
       A = last_from z pre
 
-      y-place : Place
-      y-place = record { node = y; dimension = e; before = w; before_dimension = f; later = z ∷ (pre ++ later) }
+      y_place : Place
+      y_place = record { node = y; dimension = e; before = w; before_dimension = f; later = z ∷ (pre ++ later) }
 
       Stands : List Node → List Place → Type 0
       Stands row standing = (p : Place) × (place_of (first_with b D A.key (suc d) row) standing ≡ some p) × ParentPlace b D d A later p
 
       at : Dec (d < shared b D y.key A.key) → ((d < shared b D z.key A.key → shared b D y.key z.key ≤ d) →
-          Stands (z ∷ pre) (places_after b D y e y-place.later)) → Stands (y ∷ z ∷ pre) (y-place ∷ places_after b D y e y-place.later)
+          Stands (z ∷ pre) (places_after b D y e y_place.later)) → Stands (y ∷ z ∷ pre) (y_place ∷ places_after b D y e y_place.later)
       at (yes l) ih = (
-        y-place,
-        rw (first-hits b D A.key (suc d) y (z ∷ pre) l, eq-eqb y.cell y.cell refl)
+        y_place,
+        rw (first_hits b D A.key (suc d) y (z ∷ pre) l, eq-eqb y.cell y.cell refl)
             refl,
         record { between = z ∷ pre; later_is = refl; last_is = refl; ascends = a; low = i l; shares = l },
       )
@@ -484,32 +484,32 @@ module _ (b D : ℕ) (pos : 0 < b) (deep : 0 < D) where
           let t = ih (λ m. omega arith) in
           let q : suc d ≤ shared b D A.key A.key = omega (arith, shared_same b D A.key) in
           let other : y.cell ≡ first_with b D A.key (suc d) (z ∷ pre) → ⊥ =
-          first-among b D (λ c. y.cell ≡ c → ⊥) A.key (suc d) z pre q (λ r. o.0.0 (sym r)) (all_map (λ x n r. n (sym r)) pre o.0.1) in
+          first_among b D (λ c. y.cell ≡ c → ⊥) A.key (suc d) z pre q (λ r. o.0.0 (sym r)) (all_map (λ x n r. n (sym r)) pre o.0.1) in
           let m : shared b D y.key A.key < suc d = omega arith in
-          (t.0, rw (first-skips b D A.key (suc d) y (z ∷ pre) m, ne_eqb y.cell (first_with b D A.key (suc d) (z ∷ pre)) other) t.1, t.2)
+          (t.0, rw (first_skips b D A.key (suc d) y (z ∷ pre) m, ne_eqb y.cell (first_with b D A.key (suc d) (z ∷ pre)) other) t.1, t.2)
 
   -- what a node shares with the last one is at most that one's dimension
-  pub last-dimension : (y : Node) (z : Node) (row : List Node) → Asc y.key (z ∷ row) →
+  pub last_dimension : (y : Node) (z : Node) (row : List Node) → Asc y.key (z ∷ row) →
       shared b D y.key (last_from z row).key ≤ dimension_from b D z (shared b D y.key z.key) row
   unfolding last_from dimension_from
-  last-dimension y z [] a = omega arith
-  last-dimension y z (x ∷ row) a =
+  last_dimension y z [] a = omega arith
+  last_dimension y z (x ∷ row) a =
       let h = a.0 in
       let g = last_least z (x ∷ row) a.1 in
       let u = ultra b D y.key z.key (last_from x row).key pos (omega arith) g in
-      let k = last-dimension z x row a.1 in
+      let k = last_dimension z x row a.1 in
       omega arith
 
   -- the last node is itself the first that shares enough, if its dimension is small
-  pub last-first :
+  pub last_first :
       (d : ℕ) (y : Node) (e : ℕ) (pre : List Node) → Asc y.key pre → d < D → dimension_from b D y e pre ≤ d →
       first_with b D (last_from y pre).key (suc d) (y ∷ pre) ≡ (last_from y pre).cell
   unfolding last_from dimension_from
-  last-first d y e [] a h l = first-hits b D y.key (suc d) y [] (omega (arith, shared_same b D y.key))
-  last-first d y e (z ∷ pre) a h l =
-      let k = last-dimension y z pre a in
-      first-skips b D (last_from z pre).key (suc d) y (z ∷ pre) (omega arith)
-      ∙ last-first d z (shared b D y.key z.key) pre a.1 h l
+  last_first d y e [] a h l = first_hits b D y.key (suc d) y [] (omega (arith, shared_same b D y.key))
+  last_first d y e (z ∷ pre) a h l =
+      let k = last_dimension y z pre a in
+      first_skips b D (last_from z pre).key (suc d) y (z ∷ pre) (omega arith)
+      ∙ last_first d z (shared b D y.key z.key) pre a.1 h l
 
 -- In a row of a state
 
@@ -522,15 +522,15 @@ module _ (s : State) (pre : List Node) (x : Node) (post : List Node) (pos : 0 < 
       let D = s.settings.dimensions in
       let n = apart_at head_node pre x post o in
       rw (place_at b D head_node 0 head_node 0 pre x post (n.0, all_left (λ z. z.cell ≡ x.cell → ⊥) pre post n.1))
-      (leads-first b D pos deep head_node 0 head_node 0 pre x post a (λ e. n.0 (sym e)) n.1 (λ h. omega arith))
+      (leads_first b D pos deep head_node 0 head_node 0 pre x post a (λ e. n.0 (sym e)) n.1 (λ h. omega arith))
 
   -- a place with a settled link that leads to x is the parent, and the link's number is x's dimension
-  pub parent-unique :
+  pub parent_unique :
       All (λ p. (d : ℕ) → settled_link s.settings.base s.settings.dimensions p d ≡ x.cell →
       (p.node.cell ≡ parent_after s.settings.base s.settings.dimensions head_node pre x.key)
       × (d ≡ dimension_after s.settings.base s.settings.dimensions head_node pre x.key))
       (places s.settings.base s.settings.dimensions (pre ++ x ∷ post))
   unfolding places
-  parent-unique =
+  parent_unique =
       let n = apart_at head_node pre x post o in
-      unique-from s.settings.base s.settings.dimensions pos deep head_node 0 head_node 0 pre x post a (λ e. n.0 (sym e)) n.1
+      unique_from s.settings.base s.settings.dimensions pos deep head_node 0 head_node 0 pre x post a (λ e. n.0 (sym e)) n.1

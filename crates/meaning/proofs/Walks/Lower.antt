@@ -24,10 +24,10 @@ use Rattle.meaning.specs.declared.Rest.{Rest}
 use Rattle.meaning.proofs.Rows.AscendingRow.{Asc, asc_above}
 use Rattle.meaning.proofs.Rows.Keys.{shared_same, shared_less, ultra, coordinate_below, coordinate_less}
 use Rattle.meaning.proofs.Pictures.State.{Sound, base_positive}
-use Rattle.meaning.proofs.Rows.Parent.{sharing-behind}
+use Rattle.meaning.proofs.Rows.Parent.{sharing_behind}
 use Rattle.meaning.proofs.Pictures.Picture.{picture_dimensions}
-use Rattle.meaning.proofs.Cells.Placed.{Placed, Own, placed-has, placed-cell, place-key}
-use Rattle.meaning.proofs.BothWays.SentencesShape.{places-placed, placed-ascends}
+use Rattle.meaning.proofs.Cells.Placed.{Placed, Own, placed_has, placed_cell, place_key}
+use Rattle.meaning.proofs.BothWays.SentencesShape.{places_placed, placed_ascends}
 use Rattle.meaning.proofs.Cells.WalkRead.{settled_above}
 use Rattle.meaning.proofs.Walks.WalkRow.{last_bounded}
 use Rattle.meaning.proofs.Walks.WalkStop.{Hangs, Wanting, Moved, rests}
@@ -72,13 +72,13 @@ pub record LeadsNowhere (b D x d : ℕ) (later : List Node) : Type 0 where
   pub none : All (λ z. shared b D x z.key ≡ d → ⊥) later
 
 module _ (b D : ℕ) (pos : 0 < b) (R : Place → Type 0) (Q : Node → Type 0) where
-  link-from : (later : List Node) (x : ℕ) (a : Node) (e d : ℕ) → x ≤ a.key → d < shared b D x a.key → Asc a.key later →
+  link_from : (later : List Node) (x : ℕ) (a : Node) (e d : ℕ) → x ≤ a.key → d < shared b D x a.key → Asc a.key later →
       All R (places_after b D a e later) → All Q later → LeadsNowhere b D x d later ⊎ Leads b D x d later R Q
   unfolding first_sharing places_after
-  link-from [] x a e d h near asc all q = inl (record { leads = refl; none = tt })
-  link-from (y ∷ later) x a e d h near asc all q =
+  link_from [] x a e d h near asc all q = inl (record { leads = refl; none = tt })
+  link_from (y ∷ later) x a e d h near asc all q =
       go (ℕ_discrete (shared b D x y.key) d) (dec_le (shared b D x y.key) d)
-      (let l = asc.0 in ultra b D x a.key y.key pos h (omega arith)) (link-from later x y (shared b D a.key y.key) d)
+      (let l = asc.0 in ultra b D x a.key y.key pos h (omega arith)) (link_from later x y (shared b D a.key y.key) d)
     where
       s : ℕ
       s = shared b D x y.key
@@ -105,7 +105,7 @@ module _ (b D : ℕ) (pos : 0 < b) (R : Place → Type 0) (Q : Node → Type 0) 
           let less : s < d = lt_of_le-ne le n in
           inl
           (record {
-            leads = rw (ne_eqb s d n) (sharing-behind b D pos x d y.key later (omega arith) less asc.1);
+            leads = rw (ne_eqb s d n) (sharing_behind b D pos x d y.key later (omega arith) less asc.1);
             none = (
               n,
               all_map (λ z g i. let w = ultra b D x y.key z.key pos (omega arith) (omega arith) in omega arith) later
@@ -133,8 +133,8 @@ module _ (b D : ℕ) (pos : 0 < b) (R : Place → Type 0) (Q : Node → Type 0) 
 -- One step, by where link d of a place leads
 
 module _ {b D k : ℕ} (pos : 0 < b) {p : Place} {d : ℕ} (n : Nears b D k p d) (asc : Asc p.node.key p.later) where
-  pub nears-up : LeadsNowhere b D p.node.key d p.later → Nears b D k p (suc d)
-  nears-up t =
+  pub nears_up : LeadsNowhere b D p.node.key d p.later → Nears b D k p (suc d)
+  nears_up t =
       let low = n.dimension in
       let apart = n.apart in
       record {
@@ -145,19 +145,19 @@ module _ {b D k : ℕ} (pos : 0 < b) {p : Place} {d : ℕ} (n : Nears b D k p d)
       }
 
   -- the cell that it leads to is below k
-  led-below : (y : ℕ) → p.node.key < y → shared b D p.node.key y ≡ d → y < k
-  led-below y above same = at (dec_le k y)
+  led_below : (y : ℕ) → p.node.key < y → shared b D p.node.key y ≡ d → y < k
+  led_below y above same = at (dec_le k y)
     where
       at : Dec (k ≤ y) → y < k
       at (yes over) = let low = n.below in absurd (omega (arith, ultra b D p.node.key k y pos (omega arith) over, n.apart))
       at (no under) = omega arith
 
-  pub nears-along : {R : Place → Type 0} (t : Leads b D p.node.key d p.later R (λ z. z.key < k → d ≤ shared b D p.node.key z.key)) →
+  pub nears_along : {R : Place → Type 0} (t : Leads b D p.node.key d p.later R (λ z. z.key < k → d ≤ shared b D p.node.key z.key)) →
       Nears b D k t.to d
-  nears-along t =
+  nears_along t =
       let y = t.to.node.key in
       let above = t.above in
-      let below = led-below y above t.shares in
+      let below = led_below y above t.shares in
       let dim = t.dimension in
       record {
         below = below;
@@ -180,8 +180,8 @@ pub record Lowest (b D k : ℕ) (R : Place → Type 0) (p : Place) (d : ℕ) (ce
 
 module _ (ws : List ℕ) (b D k : ℕ) (is-D : dimensions_at ws ≡ D) (pos : 0 < b) (some : 0 < D) (R : Place → Type 0)
     (stands : (p : Place) → R p → StandingPlace ws b D p) where
-  lowest-here : (p : Place) → R p → Asc p.node.key p.later → (d : ℕ) → D ≤ d → Nears b D k p d → Lowest b D k R p d []
-  lowest-here p r asc d top n =
+  lowest_here : (p : Place) → R p → Asc p.node.key p.later → (d : ℕ) → D ≤ d → Nears b D k p d → Lowest b D k R p d []
+  lowest_here p r asc d top n =
       record {
         to = p;
         holds = r;
@@ -204,14 +204,14 @@ module _ (ws : List ℕ) (b D k : ℕ) (is-D : dimensions_at ws ≡ D) (pos : 0 
       (p : Place) → R p → All R (places_after b D p.node p.dimension p.later) → Asc p.node.key p.later → (d : ℕ) → Nears b D k p d →
       Room b D fuel p.node.key d → Lowest b D k R p d (way_from fuel ws p.node.cell d)
 
-  way-over-row : (fuel : ℕ) → Ways fuel
+  way_over_row : (fuel : ℕ) → Ways fuel
   unfolding way_from
-  way-over-row zero p r after asc d n room = at (dec_le D d)
+  way_over_row zero p r after asc d n room = at (dec_le D d)
     where
       at : Dec (D ≤ d) → Lowest b D k R p d []
-      at (yes top) = lowest-here p r asc d top n
+      at (yes top) = lowest_here p r asc d top n
       at (no l) = absurd (room_none b D p.node.key d pos (omega arith) room)
-  way-over-row (suc fuel) p r after asc d n room = at (dec_le D d) (way-over-row fuel)
+  way_over_row (suc fuel) p r after asc d n room = at (dec_le D d) (way_over_row fuel)
     where
       x : ℕ
       x = p.node.cell
@@ -226,7 +226,7 @@ module _ (ws : List ℕ) (b D k : ℕ) (is-D : dimensions_at ws ≡ D) (pos : 0 
       along : Ways fuel → d < D → LeadsNowhere b D p.node.key d p.later ⊎ Leads b D p.node.key d p.later R Q → Whole
       along further l (inl t) =
           let link = (stands p r).read.link d n.dimension l ∙ settled_above b D p d n.dimension ∙ t.leads in
-          let up = further p r after asc (suc d) (nears-up pos n asc t) (room_up b D fuel p.node.key d pos room) in
+          let up = further p r after asc (suc d) (nears_up pos n asc t) (room_up b D fuel p.node.key d pos room) in
           let digit = coordinate_below b D p.node.key d pos in
           rw (is-D, lt-ltb d D l, eq-eqb (link_read ws x d) 0 link)
           (record {
@@ -250,7 +250,7 @@ module _ (ws : List ℕ) (b D k : ℕ) (is-D : dimensions_at ws ≡ D) (pos : 0 
           let link : link_read ws x d ≡ y.cell = (stands p r).read.link d n.dimension l ∙ settled_above b D p d n.dimension ∙ t.leads in
           let real = at.other (omega arith) in
           let raised = rw t.shares at (coordinate_less b D p.node.key y.key pos (stands p r).fits at.fits above) in
-          let on = further t.to t.holds t.after t.ascends d (nears-along pos n asc t) (omega arith) in
+          let on = further t.to t.holds t.after t.ascends d (nears_along pos n asc t) (omega arith) in
           rw (is-D, lt-ltb d D l, link, ne_eqb y.cell 0 (λ e. omega arith))
           (record {
             to = on.to;
@@ -263,10 +263,10 @@ module _ (ws : List ℕ) (b D k : ℕ) (is-D : dimensions_at ws ≡ D) (pos : 0 
           })
 
       at : Dec (D ≤ d) → Ways fuel → Whole
-      at (yes top) further = rw (is-D, le-ltb d D top) (lowest-here p r asc d top n)
+      at (yes top) further = rw (is-D, le-ltb d D top) (lowest_here p r asc d top n)
       at (no l) further =
           along further (omega arith)
-          (link-from b D pos R Q p.later p.node.key p.node p.dimension d (omega arith) (omega (arith, shared_same b D p.node.key)) asc after
+          (link_from b D pos R Q p.later p.node.key p.node p.dimension d (omega arith) (omega (arith, shared_same b D p.node.key)) asc after
           n.between)
 
 -- On a list
@@ -278,15 +278,15 @@ unfolding places
 own_after {s} v placed =
     let b = s.settings.base in
     let D = s.settings.dimensions in
-    let own = places-placed v in
-    placed-has placed (λ q. All (Own s) (places_after b D q.node q.dimension q.later)) (own.1, after_all_lem (Own s) b D head_node 0 s.row own.1)
+    let own = places_placed v in
+    placed_has placed (λ q. All (Own s) (places_after b D q.node q.dimension q.later)) (own.1, after_all_lem (Own s) b D head_node 0 s.row own.1)
 
 -- where link d of a place leads
 module _ {s : State} (v : Sound s) {x : ℕ} {p : Place} (placed : Placed s x p) (d : ℕ) (up : p.dimension ≤ d) (l : d < s.settings.dimensions) where
-  pub link-leads : link_read (picture s) x d ≡ first_sharing s.settings.base s.settings.dimensions p.node.key d p.later
-  link-leads =
-      ap (λ c. link_read (picture s) c d) (sym (placed-cell placed))
-      ∙ (placed_stands v (subst (λ c. Placed s c p) (sym (placed-cell placed)) placed)).read.link d up l
+  pub link_leads : link_read (picture s) x d ≡ first_sharing s.settings.base s.settings.dimensions p.node.key d p.later
+  link_leads =
+      ap (λ c. link_read (picture s) c d) (sym (placed_cell placed))
+      ∙ (placed_stands v (subst (λ c. Placed s c p) (sym (placed_cell placed)) placed)).read.link d up l
       ∙ settled_above s.settings.base s.settings.dimensions p d up
 
   pub led : (Q : Node → Type 0) → All Q p.later →
@@ -294,8 +294,8 @@ module _ {s : State} (v : Sound s) {x : ℕ} {p : Place} (placed : Placed s x p)
       ⊎ Leads s.settings.base s.settings.dimensions p.node.key d p.later (Own s) Q
   led Q q =
       let same = shared_same s.settings.base s.settings.dimensions p.node.key in
-      link-from s.settings.base s.settings.dimensions (base_positive s v) (Own s) Q p.later p.node.key p.node p.dimension d
-      (omega arith) (omega arith) (placed-ascends v placed) (own_after v placed) q
+      link_from s.settings.base s.settings.dimensions (base_positive s v) (Own s) Q p.later p.node.key p.node p.dimension d
+      (omega arith) (omega arith) (placed_ascends v placed) (own_after v placed) q
 
 -- From the place from which k hangs or would hang
 
@@ -303,29 +303,29 @@ module _ (s : State) (v : Sound s) (k : ℕ) {x : ℕ} {p : Place} (placed : Pla
   abbrev number : ℕ
   number = suc (shared s.settings.base s.settings.dimensions p.node.key k)
 
-  way-lowest : Lowest s.settings.base s.settings.dimensions k (Own s) p number (lower_way (picture s) x number)
+  way_lowest : Lowest s.settings.base s.settings.dimensions k (Own s) p number (lower_way (picture s) x number)
   unfolding picture
-  way-lowest =
+  way_lowest =
       let b = s.settings.base in
       let D = s.settings.dimensions in
       let deep = v.ranges.dimensions_least in
-      let here : Own s p = subst (λ c. Placed s c p) (sym (placed-cell placed)) placed in
-      subst (λ c. Lowest b D k (Own s) p number (way_from (D * b) (picture s) c number)) (placed-cell placed)
-      (way-over-row (picture s) b D k (picture_dimensions s) (base_positive s v) (omega arith) (Own s) (λ q there. placed_stands v there) (D * b) p here
-      (own_after v placed) (placed-ascends v placed) number (hangs_nears hangs) (omega arith))
+      let here : Own s p = subst (λ c. Placed s c p) (sym (placed_cell placed)) placed in
+      subst (λ c. Lowest b D k (Own s) p number (way_from (D * b) (picture s) c number)) (placed_cell placed)
+      (way_over_row (picture s) b D k (picture_dimensions s) (base_positive s v) (omega arith) (Own s) (λ q there. placed_stands v there) (D * b) p here
+      (own_after v placed) (placed_ascends v placed) number (hangs_nears hangs) (omega arith))
 
-  pub lower-is : lower_from (picture s) x number ≡ (smaller_than k s.row).cell
-  lower-is =
-      let w = way-lowest in
-      ap (λ c. last_gone c (lower_way (picture s) x number)) (sym (placed-cell placed)) ∙ w.cell
+  pub lower_is : lower_from (picture s) x number ≡ (smaller_than k s.row).cell
+  lower_is =
+      let w = way_lowest in
+      ap (λ c. last_gone c (lower_way (picture s) x number)) (sym (placed_cell placed)) ∙ w.cell
       ∙ ap (λ y. y.cell) (sym (smaller_placed v w.holds k w.below w.beyond))
 
-  pub lower-bounded : length (lower_way (picture s) x number) ≤ s.settings.dimensions * (s.settings.base - 1)
-  lower-bounded = at (dec_le s.settings.dimensions number)
+  pub lower_bounded : length (lower_way (picture s) x number) ≤ s.settings.dimensions * (s.settings.base - 1)
+  lower_bounded = at (dec_le s.settings.dimensions number)
     where
       at : Dec (s.settings.dimensions ≤ number) → length (lower_way (picture s) x number) ≤ s.settings.dimensions * (s.settings.base - 1)
-      at (yes top) = omega (arith, way-lowest.none top)
-      at (no under) = omega (arith, way-lowest.bounded (omega arith))
+      at (yes top) = omega (arith, way_lowest.none top)
+      at (no under) = omega (arith, way_lowest.bounded (omega arith))
 
 -- From where the walk rests
 
@@ -346,15 +346,15 @@ way_to_lower s v k least most = at (rests s v k least most)
     Is x n = (lower_from (picture s) x (suc n) ≡ (smaller_than k s.row).cell) × (length (lower_way (picture s) x (suc n)) ≤ D * (b - 1))
 
     is : {x n : ℕ} {p : Place} → Placed s x p → Hangs b D k p → n ≡ shared b D p.node.key k → Is x n
-    is {x} placed hangs e = subst (Is x) (sym e) (lower-is s v k placed hangs, lower-bounded s v k placed hangs)
+    is {x} placed hangs e = subst (Is x) (sym e) (lower_is s v k placed hangs, lower_bounded s v k placed hangs)
 
     at : Wanting s k r ⊎ Moved s k r →
         (lower_for (picture s) k ≡ (smaller_than k s.row).cell) × (length (lower_way_for (picture s) k) ≤ s.settings.dimensions * (s.settings.base - 1))
     at (inl w) =
         let below = w.hangs.below in
-        let key = place-key v w.placed in
+        let key = place_key v w.placed in
         rw (lt-ltb (key_at (picture s) r.at) k (omega arith)) (is w.placed w.hangs w.coordinate)
     at (inr m) =
         let reached = m.reached in
-        let key = place-key v m.to_placed in
+        let key = place_key v m.to_placed in
         rw (le-ltb (key_at (picture s) r.at) k (omega arith)) (is m.placed m.hangs m.number)

@@ -77,8 +77,8 @@ Fresh b D k all a row = (y : ℕ) → k < y → every (λ z. not (eqb z y)) (cou
 
 module _ (b D k : ℕ) (pos : 0 < b) (some : 0 < D) (kfits : k < b ^ D) where
   -- every key counted is met: k agrees with it where the key before first differs, and that one is smaller there
-  counted-met : (a x : ℕ) → a < x → x < b ^ D → counts b D k a x ≡ true → meets b D k a x ≡ true
-  counted-met a x h xfits c =
+  counted_met : (a x : ℕ) → a < x → x < b ^ D → counts b D k a x ≡ true → meets b D k a x ≡ true
+  counted_met a x h xfits c =
       go (counts_facts b D k a x c) (coordinate_less b D a x pos (omega arith) xfits h) (dec_le (shared b D a k) (shared b D a x)) (dec_le k a) (ℕ_discrete k a)
     where
       go : (shared b D a x ≤ shared b D x k) × (coordinate b D x (shared b D a x) ≤ coordinate b D k (shared b D a x)) →
@@ -94,8 +94,8 @@ module _ (b D k : ℕ) (pos : 0 < b) (some : 0 < D) (kfits : k < b ^ D) where
       go f less (yes m) (no l) q = and_both _ _ (lt-ltb a k (omega arith)) (eq-eqb (shared b D a k) (shared b D a x) (omega (arith, triangle b D a x k pos)))
 
   -- up to k every key met is counted
-  met-counted : (a x : ℕ) → a < x → x < b ^ D → x ≤ k → meets b D k a x ≡ true → counts b D k a x ≡ true
-  met-counted a x h xfits l m = go (meets_facts b D k a x m) (ultra b D a x k pos (omega arith) l) (ℕ_discrete x k) (dec_le (shared b D x k) (shared b D a x))
+  met_counted : (a x : ℕ) → a < x → x < b ^ D → x ≤ k → meets b D k a x ≡ true → counts b D k a x ≡ true
+  met_counted a x h xfits l m = go (meets_facts b D k a x m) (ultra b D a x k pos (omega arith) l) (ℕ_discrete x k) (dec_le (shared b D x k) (shared b D a x))
     where
       counts_from : shared b D a x ≤ shared b D x k → coordinate b D x (shared b D a x) ≤ coordinate b D k (shared b D a x) → counts b D k a x ≡ true
       counts_from s c = and_both _ _ (le-leb _ _ s) (le-leb _ _ c)
@@ -108,22 +108,22 @@ module _ (b D k : ℕ) (pos : 0 < b) (some : 0 < D) (kfits : k < b ^ D) where
           counts_from (omega arith) (omega (arith, rw equal at (coordinate_less b D x k pos xfits kfits (omega arith))))
       go f u (no n) (no s) = counts_from (omega arith) (omega (arith, coordinate_same b D x k (shared b D a x) (omega arith)))
 
-  counted-just-met : (a x : ℕ) → a < x → x < b ^ D → x ≤ k → counts b D k a x ≡ meets b D k a x
-  counted-just-met a x h xfits l = tests_same (counts b D k a x) (meets b D k a x) (counted-met a x h xfits) (met-counted a x h xfits l)
+  counted_just_met : (a x : ℕ) → a < x → x < b ^ D → x ≤ k → counts b D k a x ≡ meets b D k a x
+  counted_just_met a x h xfits l = tests_same (counts b D k a x) (meets b D k a x) (counted_met a x h xfits) (met_counted a x h xfits l)
 
   -- from k on no key is counted
-  none-counted : (a : ℕ) (row : List Node) → k ≤ a → Asc a row → All (λ x. x.key < b ^ D) row → counted b D k a (keys row) ≡ []
+  none_counted : (a : ℕ) (row : List Node) → k ≤ a → Asc a row → All (λ x. x.key < b ^ D) row → counted b D k a (keys row) ≡ []
   unfolding counted
-  none-counted a [] h asc fits = refl
-  none-counted a (x ∷ row) h asc fits = go (counts b D k a x.key) refl (none-counted x.key row (let l = asc.0 in omega arith) asc.1 fits.1)
+  none_counted a [] h asc fits = refl
+  none_counted a (x ∷ row) h asc fits = go (counts b D k a x.key) refl (none_counted x.key row (let l = asc.0 in omega arith) asc.1 fits.1)
     where
       go : (t : Bool) → counts b D k a x.key ≡ t → counted b D k x.key (keys row) ≡ [] → counted b D k a (keys (x ∷ row)) ≡ []
-      go true e ih = absurd (let l = meets_facts b D k a x.key (counted-met a x.key asc.0 fits.0 e) in omega arith)
+      go true e ih = absurd (let l = meets_facts b D k a x.key (counted_met a x.key asc.0 fits.0 e) in omega arith)
       go false e ih = rw e ih
 
   -- the least key above k is met exactly if it shares as many coordinates with k as the key before does
-  above-met : (a x : ℕ) → a ≤ k → k < x → meets b D k a x ≡ leb (shared b D a k) (shared b D x k)
-  above-met a x h l = go (ℕ_discrete a k) (dec_le (shared b D a k) (shared b D x k))
+  above_met : (a x : ℕ) → a ≤ k → k < x → meets b D k a x ≡ leb (shared b D a k) (shared b D x k)
+  above_met a x h l = go (ℕ_discrete a k) (dec_le (shared b D a k) (shared b D x k))
     where
       go : Dec (a ≡ k) → Dec (shared b D a k ≤ shared b D x k) → meets b D k a x ≡ leb (shared b D a k) (shared b D x k)
       go (yes q) s =
@@ -145,95 +145,95 @@ module _ (b D k : ℕ) (pos : 0 < b) (some : 0 < D) (kfits : k < b ^ D) where
           ) refl
 
   -- no later key shares more with k than the least key above k does
-  later-share-less : (x : ℕ) (row : List Node) → k < x → Asc x row → every (λ z. leb (shared b D z k) (shared b D x k)) (keys row) ≡ true
-  later-share-less x row h asc = all_every (λ z. leb (shared b D z k) (shared b D x k)) (keys row) (all-keys row (asc_above x row asc))
+  later_share_less : (x : ℕ) (row : List Node) → k < x → Asc x row → every (λ z. leb (shared b D z k) (shared b D x k)) (keys row) ≡ true
+  later_share_less x row h asc = all_every (λ z. leb (shared b D z k) (shared b D x k)) (keys row) (all_keys row (asc_above x row asc))
     where
-      all-keys : (later : List Node) → All (λ y. x < y.key) later → All (λ z. leb (shared b D z k) (shared b D x k) ≡ true) (keys later)
-      all-keys [] l = tt
-      all-keys (y ∷ later) l =
+      all_keys : (later : List Node) → All (λ y. x < y.key) later → All (λ z. leb (shared b D z k) (shared b D x k) ≡ true) (keys later)
+      all_keys [] l = tt
+      all_keys (y ∷ later) l =
           let m = l.0 in
           let u = ultra b D k x y.key pos (omega arith) (omega arith) in
-          (le-leb (shared b D y.key k) (shared b D x k) (omega (arith, shared_sym b D x k, shared_sym b D y.key k)), all-keys later l.1)
+          (le-leb (shared b D y.key k) (shared b D x k) (omega (arith, shared_sym b D x k, shared_sym b D y.key k)), all_keys later l.1)
 
   -- What the rule's second half asks of all keys, from a key a on: up to k each key shares with k at least what the one before does.
-  most-before : (s a : ℕ) (x : Node) (row : List Node) → a < x.key → x.key ≤ k →
+  most_before : (s a : ℕ) (x : Node) (row : List Node) → a < x.key → x.key ≤ k →
       every (λ z. leb (shared b D z k) s) (a ∷ keys (x ∷ row)) ≡ every (λ z. leb (shared b D z k) s) (keys (x ∷ row))
   unfolding every
-  most-before s a x row h l = absorbed (leb (shared b D a k) s) (leb (shared b D x.key k) s) (every (λ z. leb (shared b D z k) s) (keys row))
+  most_before s a x row h l = absorbed (leb (shared b D a k) s) (leb (shared b D x.key k) s) (every (λ z. leb (shared b D z k) s) (keys row))
       (λ e. le-leb (shared b D a k) s (let m = leb-true (shared b D x.key k) s e in omega (arith, ultra b D a x.key k pos (omega arith) l)))
 
-  most-above : (a : ℕ) (x : Node) (row : List Node) → k < x.key → Asc x.key row →
+  most_above : (a : ℕ) (x : Node) (row : List Node) → k < x.key → Asc x.key row →
       every (λ z. leb (shared b D z k) (shared b D x.key k)) (a ∷ keys (x ∷ row)) ≡ leb (shared b D a k) (shared b D x.key k)
   unfolding every
-  most-above a x row h asc =
-      rw (le-leb (shared b D x.key k) (shared b D x.key k) (omega arith), later-share-less x.key row h asc)
+  most_above a x row h asc =
+      rw (le-leb (shared b D x.key k) (shared b D x.key k) (omega arith), later_share_less x.key row h asc)
       (and-true (leb (shared b D a k) (shared b D x.key k)))
 
   -- not counted yet, from a key a on: a key up to k is not one above k
-  fresh-before : (y a : ℕ) (x : Node) (row : List Node) → x.key ≤ k → k < y →
+  fresh_before : (y a : ℕ) (x : Node) (row : List Node) → x.key ≤ k → k < y →
       every (λ z. not (eqb z y)) (counted b D k a (keys (x ∷ row))) ≡ every (λ z. not (eqb z y)) (counted b D k x.key (keys row))
   unfolding every counted
-  fresh-before y a x row h l = go (counts b D k a x.key) refl
+  fresh_before y a x row h l = go (counts b D k a x.key) refl
     where
       go : (t : Bool) → counts b D k a x.key ≡ t →
           every (λ z. not (eqb z y)) (counted b D k a (keys (x ∷ row))) ≡ every (λ z. not (eqb z y)) (counted b D k x.key (keys row))
       go true e = rw (e, ne_eqb x.key y (λ q. omega arith)) refl
       go false e = rw e refl
 
-  counted-above : (a : ℕ) (x : Node) (row : List Node) → k < x.key → Asc x.key row → All (λ y. y.key < b ^ D) row →
+  counted_above : (a : ℕ) (x : Node) (row : List Node) → k < x.key → Asc x.key row → All (λ y. y.key < b ^ D) row →
       counted b D k a (keys (x ∷ row)) ≡ cond (counts b D k a x.key) (x.key ∷ []) []
   unfolding counted
-  counted-above a x row h asc fits = rw (none-counted x.key row (omega arith) asc fits) refl
+  counted_above a x row h asc fits = rw (none_counted x.key row (omega arith) asc fits) refl
 
-  fresh-above : (x : ℕ) (t : Bool) → every (λ z. not (eqb z x)) (cond t (x ∷ []) []) ≡ not t
+  fresh_above : (x : ℕ) (t : Bool) → every (λ z. not (eqb z x)) (cond t (x ∷ []) []) ≡ not t
   unfolding every
-  fresh-above x true = rw (eq-eqb x x refl) refl
-  fresh-above x false = refl
+  fresh_above x true = rw (eq-eqb x x refl) refl
+  fresh_above x false = refl
 
-  met-above : (a : ℕ) (x : Node) (row : List Node) → k < x.key → Asc x.key row → met b D k a (x ∷ row) ≡ cond (meets b D k a x.key) (x ∷ []) []
+  met_above : (a : ℕ) (x : Node) (row : List Node) → k < x.key → Asc x.key row → met b D k a (x ∷ row) ≡ cond (meets b D k a x.key) (x ∷ []) []
   unfolding met
-  met-above a x row h asc = rw (none_met b D k x.key row (omega arith) asc) refl
+  met_above a x row h asc = rw (none_met b D k x.key row (omega arith) asc) refl
 
-  rule-up-to : (all row : List Node) (x : Node) (a : ℕ) → a < x.key → x.key < b ^ D → x.key ≤ k →
+  rule_up_to : (all row : List Node) (x : Node) (a : ℕ) → a < x.key → x.key < b ^ D → x.key ≤ k →
       RuleFrom b D k all x.key row → RuleFrom b D k all a (x ∷ row)
   unfolding counted least_above met
-  rule-up-to all row x a h fits l rest = go (meets b D k a x.key) refl
+  rule_up_to all row x a h fits l rest = go (meets b D k a x.key) refl
     where
       go : (t : Bool) → meets b D k a x.key ≡ t → RuleFrom b D k all a (x ∷ row)
-      go true e = rw (counted-just-met a x.key h fits l, e, le-ltb k x.key l) (ap (λ l. x.key ∷ l) rest)
-      go false e = rw (counted-just-met a x.key h fits l, e, le-ltb k x.key l) rest
+      go true e = rw (counted_just_met a x.key h fits l, e, le-ltb k x.key l) (ap (λ l. x.key ∷ l) rest)
+      go false e = rw (counted_just_met a x.key h fits l, e, le-ltb k x.key l) rest
 
-  plus-above : (all row : List Node) (x : Node) (a : ℕ) → k < x.key → Asc x.key row → All (λ y. y.key < b ^ D) row →
+  plus_above : (all row : List Node) (x : Node) (a : ℕ) → k < x.key → Asc x.key row → All (λ y. y.key < b ^ D) row →
       Most b D k all a (x ∷ row) → Fresh b D k all a (x ∷ row) →
       plus_one b D k (keys all) (least_above k (keys (x ∷ row)))
       ≡ cond (leb (shared b D a k) (shared b D x.key k) && not (counts b D k a x.key)) (x.key ∷ []) []
   unfolding least_above plus_one
-  plus-above all row x a l asc fits most fresh =
-      let shares-most = most (shared b D x.key k) ∙ most-above a x row l asc in
-      rw (lt-ltb k x.key l, shares-most, fresh x.key l, counted-above a x row l asc fits, fresh-above x.key (counts b D k a x.key)) refl
+  plus_above all row x a l asc fits most fresh =
+      let shares-most = most (shared b D x.key k) ∙ most_above a x row l asc in
+      rw (lt-ltb k x.key l, shares-most, fresh x.key l, counted_above a x row l asc fits, fresh_above x.key (counts b D k a x.key)) refl
 
-  rule-above : (all row : List Node) (x : Node) (a : ℕ) → a ≤ k → k < x.key → x.key < b ^ D → Asc x.key row → All (λ y. y.key < b ^ D) row →
+  rule_above : (all row : List Node) (x : Node) (a : ℕ) → a ≤ k → k < x.key → x.key < b ^ D → Asc x.key row → All (λ y. y.key < b ^ D) row →
       Most b D k all a (x ∷ row) → Fresh b D k all a (x ∷ row) → RuleFrom b D k all a (x ∷ row)
-  rule-above all row x a h l xfits asc fits most fresh =
-      rw (plus-above all row x a l asc fits most fresh, counted-above a x row l asc fits, met-above a x row l asc, ← above-met a x.key h l)
-      (halves (counts b D k a x.key) (meets b D k a x.key) x (counted-met a x.key (omega arith) xfits))
+  rule_above all row x a h l xfits asc fits most fresh =
+      rw (plus_above all row x a l asc fits most fresh, counted_above a x row l asc fits, met_above a x row l asc, ← above_met a x.key h l)
+      (halves (counts b D k a x.key) (meets b D k a x.key) x (counted_met a x.key (omega arith) xfits))
 
-  rule-met-from : (all row : List Node) (a : ℕ) → a ≤ k → Asc a row → All (λ x. x.key < b ^ D) row →
+  rule_met_from : (all row : List Node) (a : ℕ) → a ≤ k → Asc a row → All (λ x. x.key < b ^ D) row →
       Most b D k all a row → Fresh b D k all a row → RuleFrom b D k all a row
   unfolding counted least_above plus_one met
-  rule-met-from all [] a h asc fits most fresh = refl
-  rule-met-from all (x ∷ row) a h asc fits most fresh = go (dec_le x.key k) (rule-met-from all row x.key)
+  rule_met_from all [] a h asc fits most fresh = refl
+  rule_met_from all (x ∷ row) a h asc fits most fresh = go (dec_le x.key k) (rule_met_from all row x.key)
     where
       go : Dec (x.key ≤ k) →
           (x.key ≤ k → Asc x.key row → All (λ y. y.key < b ^ D) row → Most b D k all x.key row →
           Fresh b D k all x.key row → RuleFrom b D k all x.key row) →
           RuleFrom b D k all a (x ∷ row)
       go (yes l) rest =
-          rule-up-to all row x a asc.0 fits.0 l
-          (rest l asc.1 fits.1 (λ s. most s ∙ most-before s a x row asc.0 l) (λ y m. fresh y m ∙ fresh-before y a x row l m))
-      go (no n) rest = rule-above all row x a h (omega arith) fits.0 asc.1 fits.1 most fresh
+          rule_up_to all row x a asc.0 fits.0 l
+          (rest l asc.1 fits.1 (λ s. most s ∙ most_before s a x row asc.0 l) (λ y m. fresh y m ∙ fresh_before y a x row l m))
+      go (no n) rest = rule_above all row x a h (omega arith) fits.0 asc.1 fits.1 most fresh
 
   -- the rule is the list of the keys met
-  pub rule-is-met : (row : List Node) → Asc 0 row → All (λ x. x.key < b ^ D) row → rule b D (keys row) k ≡ keys (met b D k 0 row)
+  pub rule_is_met : (row : List Node) → Asc 0 row → All (λ x. x.key < b ^ D) row → rule b D (keys row) k ≡ keys (met b D k 0 row)
   unfolding rule
-  rule-is-met row asc fits = rule-met-from row row 0 (omega arith) asc fits (λ s. refl) (λ y l. refl)
+  rule_is_met row asc fits = rule_met_from row row 0 (omega arith) asc fits (λ s. refl) (λ y l. refl)

@@ -7,7 +7,7 @@ use native.Mathlib.Omega.{arith}
 use lib.Dec.{ltb}
 use borrow.Author.Tests.{lt-ltb, le-ltb}
 use Rattle.lists.specs.Lists.{those}
-use Rattle.lists.proofs.Those.{those-all, those-none, those-append}
+use Rattle.lists.proofs.Those.{those_all, those_none, those_append}
 use Rattle.lists.proofs.All.{All, all_map, all_zip}
 use Rattle.meaning.specs.Keys.{shared}
 use Rattle.meaning.specs.Row.{Node, head_node, last_of, Place, places_after, places, place_of, smaller_than}
@@ -18,18 +18,18 @@ use Rattle.meaning.proofs.Rows.AscendingRow.{Asc, asc_above}
 use Rattle.meaning.proofs.Pictures.State.{Sound}
 use Rattle.meaning.proofs.Rows.Places.{asc_right, last_from, last_from_lem, dimension_from, places_nodes}
 use Rattle.meaning.proofs.Rows.Parent.{dimension_after, Apart, apart_before, place_at}
-use Rattle.meaning.proofs.Cells.Placed.{Placed, placed-has, placed-other}
+use Rattle.meaning.proofs.Cells.Placed.{Placed, placed_has, placed_other}
 use Rattle.meaning.proofs.Kept.Slot.{sound_apart}
-use Rattle.meaning.proofs.BothWays.SentencesShape.{place-next-smaller}
+use Rattle.meaning.proofs.BothWays.SentencesShape.{place_next_smaller}
 
 -- where the nodes in front are below the key and the rest is not
 pub smaller_is : (k : ℕ) (front rest : List Node) → All (λ y. y.key < k) front → All (λ y. k ≤ y.key) rest → smaller_than k (front ++ rest) ≡ last_from head_node front
 smaller_is k front rest below above =
     let test : Node → Bool = λ x. ltb x.key k in
     ap last_of
-    (those-append test front rest
-    ∙ ap₂ ◌++◌ (those-all test front (all_map (λ y h. lt-ltb y.key k h) front below))
-    (those-none test rest (all_map (λ y h. le-ltb y.key k h) rest above))
+    (those_append test front rest
+    ∙ ap₂ ◌++◌ (those_all test front (all_map (λ y h. lt-ltb y.key k h) front below))
+    (those_none test rest (all_map (λ y h. le-ltb y.key k h) rest above))
     ∙ append-nil front)
     ∙ last_from_lem front
 
@@ -43,7 +43,7 @@ unfolding places_after those last_from LastBelow
 last_below_lem b D k a e [] asc = tt
 last_below_lem b D k a e (x ∷ row) asc = (
   λ h beyond.
-      rw (lt-ltb x.key k h, those-none (λ y. ltb y.key k) row (all_map (λ y l. le-ltb y.key k l) row beyond)) refl,
+      rw (lt-ltb x.key k h, those_none (λ y. ltb y.key k) row (all_map (λ y l. le-ltb y.key k l) row beyond)) refl,
   all_zip (λ p above last h beyond. let l : x.key < k = omega arith in rw (lt-ltb x.key k l) (last h beyond))
       (places_after b D x (shared b D a.key x.key) row) (places_nodes (λ y. x.key < y.key) b D x (shared b D a.key x.key) row (asc_above x.key row asc.1))
       (last_below_lem b D k x (shared b D a.key x.key) row asc.1),
@@ -54,8 +54,8 @@ pub smaller_placed : {s : State} → Sound s → {x : ℕ} {p : Place} → Place
 unfolding places LastBelow last_from those
 smaller_placed {s} v here k h beyond =
     last_from_lem (those (λ x. ltb x.key k) s.row)
-    ∙ placed-has here (LastBelow k s.row head_node) (
-      λ l after. ap (last_from head_node) (those-none (λ y. ltb y.key k) s.row (all_map (λ y m. le-ltb y.key k m) s.row after)),
+    ∙ placed_has here (LastBelow k s.row head_node) (
+      λ l after. ap (last_from head_node) (those_none (λ y. ltb y.key k) s.row (all_map (λ y m. le-ltb y.key k m) s.row after)),
       last_below_lem s.settings.base s.settings.dimensions k head_node 0 s.row v.ascends,
     ) h beyond
 
@@ -77,4 +77,4 @@ split_next_smaller s v pre x post split =
     } in
     let here : Placed s x.cell place = record { found = ap (λ r. place_of x.cell (places b D r)) split ∙ found } in
     let positive = (asc_right 0 pre (x ∷ post) (subst (Asc 0) split v.ascends)).0 in
-    place-next-smaller v here (placed-other v here (omega arith))
+    place_next_smaller v here (placed_other v here (omega arith))

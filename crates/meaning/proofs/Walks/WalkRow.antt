@@ -21,7 +21,7 @@ use Rattle.meaning.specs.declared.Step.TheVariants.{Go, Up, End}
 use Rattle.meaning.proofs.Rows.AscendingRow.{Asc, asc_above}
 use Rattle.meaning.proofs.Rows.Keys.{shared_same, shared_less, ultra, coordinate_below, coordinate_less}
 use Rattle.meaning.proofs.Walks.Rule.{meets, met, none_met}
-use Rattle.meaning.proofs.Rows.Parent.{sharing-behind}
+use Rattle.meaning.proofs.Rows.Parent.{sharing_behind}
 
 -- The nodes met are nodes of the row, in its order.
 
@@ -78,8 +78,8 @@ StopAt b D k p = Stop b D k p.node.key p.node.key p.later
 
 module _ (b D k : ℕ) (pos : 0 < b) (some : 0 < D) where
   -- where all up to a share more with x than k does, the node after a is met exactly if it shares with x just what k does
-  meets-as : (x a y : ℕ) → x ≤ a → a < k → a < y → shared b D x k < shared b D x a → meets b D k a y ≡ eqb (shared b D x y) (shared b D x k)
-  meets-as x a y h l m near =
+  meets_as : (x a y : ℕ) → x ≤ a → a < k → a < y → shared b D x k < shared b D x a → meets b D k a y ≡ eqb (shared b D x y) (shared b D x k)
+  meets_as x a y h l m near =
       go (ultra b D x a k pos h (omega arith)) (ultra b D x a y pos h (omega arith)) (ℕ_discrete (shared b D x y) (shared b D x k))
     where
       go : shared b D x k ≡ min (shared b D x a) (shared b D a k) → shared b D x y ≡ min (shared b D x a) (shared b D a y) →
@@ -88,14 +88,14 @@ module _ (b D k : ℕ) (pos : 0 < b) (some : 0 < D) where
       go u v (no n) = rw (lt-ltb a k l, ne_eqb (shared b D x y) (shared b D x k) n, ne_eqb (shared b D a k) (shared b D a y) (λ e. omega arith)) refl
 
   -- the next place, if all up to a share more with x than k does
-  next-from : (R : Place → Type 0) (later : List Node) (x : ℕ) (a : Node) (e : ℕ) → x ≤ a.key → a.key < k → shared b D x k < shared b D x a.key →
+  next_from_lem : (R : Place → Type 0) (later : List Node) (x : ℕ) (a : Node) (e : ℕ) → x ≤ a.key → a.key < k → shared b D x k < shared b D x a.key →
       Asc a.key later → All R (places_after b D a e later) → Stop b D k x a.key later ⊎ Next b D k x a.key later R
   unfolding first_sharing places_after met
-  next-from R [] x a e h l near asc all = inl (record { leads = refl; gone = refl; passed = tt })
-  next-from R (y ∷ later) x a e h l near asc all =
+  next_from_lem R [] x a e h l near asc all = inl (record { leads = refl; gone = refl; passed = tt })
+  next_from_lem R (y ∷ later) x a e h l near asc all =
       let m = asc.0 in
-      go (ℕ_discrete s₀ s) (dec_le s₀ s) (dec_le k y.key) (meets-as x a.key y.key h l m near)
-      (next-from R later x y (shared b D a.key y.key))
+      go (ℕ_discrete s₀ s) (dec_le s₀ s) (dec_le k y.key) (meets_as x a.key y.key h l m near)
+      (next_from_lem R later x y (shared b D a.key y.key))
     where
       -- what x shares with k, and with y
       s : ℕ
@@ -131,7 +131,7 @@ module _ (b D k : ℕ) (pos : 0 < b) (some : 0 < D) where
           let other : y.key ≡ k → ⊥ = λ q. n (ap (shared b D x) q) in
           inl
           (record {
-            leads = rw none (sharing-behind b D pos x s y.key later (omega arith) (omega arith) asc.1);
+            leads = rw none (sharing_behind b D pos x s y.key later (omega arith) (omega arith) asc.1);
             gone = rw (test, none) (none_met b D k y.key later m asc.1);
             passed = ((λ l. absurd (omega arith)), all_map (λ z l i. absurd (omega arith)) later (asc_above y.key later asc.1));
           })
@@ -165,7 +165,7 @@ module _ (b D k : ℕ) (pos : 0 < b) (some : 0 < D) where
   next R p h asc all =
       let less = shared_less b D p.node.key k some (omega arith) in
       let same = shared_same b D p.node.key in
-      next-from R p.later p.node.key p.node p.dimension (omega arith) h (omega arith) asc all
+      next_from_lem R p.later p.node.key p.node p.dimension (omega arith) h (omega arith) asc all
 
 -- The steps of the walk for k over a row, from place p and coordinate d: up as long as cell and k share the coordinate at hand, then along
 -- the link of that number. It ends for want of that link, or at the first cell gone to at k or above it, there after what is shared or at
@@ -184,46 +184,46 @@ pub last_bounded : (b D key d : ℕ) → 0 < b → d < D → d * (b - 1) + coord
 last_bounded b D key d pos h = let digit = coordinate_below b D key d pos in let more = mul-le-mul_right (b - 1) h in omega arith
 
 module _ {b D k : ℕ} {R : Place → Type 0} where
-  pub row-trail-ends : {p : Place} {d : ℕ} {steps : List Step} → RowTrail b D k R p d steps → ends steps ≡ true
+  pub row_trail_ends : {p : Place} {d : ℕ} {steps : List Step} → RowTrail b D k R p d steps → ends steps ≡ true
   unfolding ends
-  row-trail-ends (rises t) = row-trail-ends t
-  row-trail-ends (moves h up e to t) = row-trail-ends t
-  row-trail-ends (wants h up e stop) = refl
-  row-trail-ends (reaches h e) = refl
+  row_trail_ends (rises t) = row_trail_ends t
+  row_trail_ends (moves h up e to t) = row_trail_ends t
+  row_trail_ends (wants h up e stop) = refl
+  row_trail_ends (reaches h e) = refl
 
   -- the coordinates before the one at hand are shared by cell and k
-  pub row-trail-shares : {p : Place} {d : ℕ} {steps : List Step} → RowTrail b D k R p d steps → d ≤ shared b D p.node.key k
-  row-trail-shares (rises t) = let more = row-trail-shares t in omega arith
-  row-trail-shares (moves h up e to t) = omega arith
-  row-trail-shares (wants h up e stop) = omega arith
-  row-trail-shares (reaches h e) = omega arith
+  pub row_trail_shares : {p : Place} {d : ℕ} {steps : List Step} → RowTrail b D k R p d steps → d ≤ shared b D p.node.key k
+  row_trail_shares (rises t) = let more = row_trail_shares t in omega arith
+  row_trail_shares (moves h up e to t) = omega arith
+  row_trail_shares (wants h up e stop) = omega arith
+  row_trail_shares (reaches h e) = omega arith
 
   -- it goes to the nodes met
-  pub row-trail-meets : {p : Place} {d : ℕ} {steps : List Step} → RowTrail b D k R p d steps → Asc p.node.key p.later →
+  pub row_trail_meets : {p : Place} {d : ℕ} {steps : List Step} → RowTrail b D k R p d steps → Asc p.node.key p.later →
       gone_to steps ≡ map (λ x. x.cell) (met b D k p.node.key p.later)
   unfolding gone_to
-  row-trail-meets (rises t) asc = row-trail-meets t asc
-  row-trail-meets (moves h up e to t) asc = rw to.gone (ap (λ l. to.to.node.cell ∷ l) (row-trail-meets t to.ascends))
-  row-trail-meets (wants h up e stop) asc = rw stop.gone refl
-  row-trail-meets {p} (reaches h e) asc = rw (none_met b D k p.node.key p.later h asc) refl
+  row_trail_meets (rises t) asc = row_trail_meets t asc
+  row_trail_meets (moves h up e to t) asc = rw to.gone (ap (λ l. to.to.node.cell ∷ l) (row_trail_meets t to.ascends))
+  row_trail_meets (wants h up e stop) asc = rw stop.gone refl
+  row_trail_meets {p} (reaches h e) asc = rw (none_met b D k p.node.key p.later h asc) refl
 
   -- at most D(b-1): each move raises the coordinate at hand
   module _ (pos : 0 < b) (some : 0 < D) (fits : (q : Place) → R q → q.node.key < b ^ D) where
-    pub row-trail-bounded : {p : Place} {d : ℕ} {steps : List Step} → RowTrail b D k R p d steps →
+    pub row_trail_bounded : {p : Place} {d : ℕ} {steps : List Step} → RowTrail b D k R p d steps →
         length (gone_to steps) + (d * (b - 1) + coordinate b D p.node.key d) ≤ D * (b - 1)
     unfolding gone_to
-    row-trail-bounded {p} {d} (rises t) =
-        let more = row-trail-bounded t in
+    row_trail_bounded {p} {d} (rises t) =
+        let more = row_trail_bounded t in
         let digit = coordinate_below b D p.node.key d pos in
         omega arith
-    row-trail-bounded {p} {d} (moves h up e to t) =
-        let more = row-trail-bounded t in
+    row_trail_bounded {p} {d} (moves h up e to t) =
+        let more = row_trail_bounded t in
         let y = to.to.node.key in
         let fit = fits to.to to.holds in
         let above = to.above in
         let raised = rw (to.shares ∙ sym e) at (coordinate_less b D p.node.key y pos (omega arith) fit above) in
         omega arith
-    row-trail-bounded {p} {d} (wants h up e stop) =
+    row_trail_bounded {p} {d} (wants h up e stop) =
         let less = shared_less b D p.node.key k some (omega arith) in
         omega (arith, last_bounded b D p.node.key d pos (omega arith))
-    row-trail-bounded {p} {d} (reaches h e) = omega (arith, last_bounded b D p.node.key d pos (omega arith))
+    row_trail_bounded {p} {d} (reaches h e) = omega (arith, last_bounded b D p.node.key d pos (omega arith))

@@ -21,9 +21,9 @@ use Rattle.meaning.specs.declared.Step.TheVariants.{Go, Up, End}
 use Rattle.meaning.specs.Resting.{at_head, rest_after, rest_over, rest}
 use Rattle.meaning.proofs.Pictures.State.{Sound}
 use Rattle.meaning.proofs.Rows.Places.{node_past}
-use Rattle.meaning.proofs.Cells.Placed.{Placed, Own, placed_at, placed-passed, head_placed}
+use Rattle.meaning.proofs.Cells.Placed.{Placed, Own, placed_at, placed_passed, head_placed}
 use Rattle.meaning.proofs.Walks.WalkRow.{RowTrail, rises, moves, wants, reaches}
-use Rattle.meaning.proofs.Walks.Walk.{row-trail}
+use Rattle.meaning.proofs.Walks.Walk.{row_trail}
 
 -- the cells gone to are those that steps go to
 pub rest_looked : (r : Rest) (steps : List Step) → (rest_over r steps).looked ≡ r.looked + length (gone_to steps)
@@ -79,7 +79,7 @@ node_between b D k x later a =
 
 module _ {s : State} (v : Sound s) {k : ℕ} where
   -- at k or above it the walk rests at the cell itself
-  rest-reached : {p : Place} {d : ℕ} {steps : List Step} → RowTrail s.settings.base s.settings.dimensions k (Own s) p d steps →
+  rest_reached : {p : Place} {d : ℕ} {steps : List Step} → RowTrail s.settings.base s.settings.dimensions k (Own s) p d steps →
       k ≤ p.node.key → (r : Rest) → r.coordinate ≡ d →
       rest_over r steps ≡ record {
         from = r.from;
@@ -89,16 +89,16 @@ module _ {s : State} (v : Sound s) {k : ℕ} where
         looked = r.looked;
       }
   unfolding rest_over
-  rest-reached (rises t) h r c = rest-reached t h (rest_after r Up) (ap suc c)
-  rest-reached (moves l up e to t) h r c = absurd (omega arith)
-  rest-reached (wants l up e stop) h r c = absurd (omega arith)
-  rest-reached (reaches l e) h r c = ap (λ n. record { from = r.from; number = r.number; at = r.at; coordinate = n; looked = r.looked }) (c ∙ e)
+  rest_reached (rises t) h r c = rest_reached t h (rest_after r Up) (ap suc c)
+  rest_reached (moves l up e to t) h r c = absurd (omega arith)
+  rest_reached (wants l up e stop) h r c = absurd (omega arith)
+  rest_reached (reaches l e) h r c = ap (λ n. record { from = r.from; number = r.number; at = r.at; coordinate = n; looked = r.looked }) (c ∙ e)
 
-  rests-from : {p : Place} {d : ℕ} {steps : List Step} → RowTrail s.settings.base s.settings.dimensions k (Own s) p d steps →
+  rests_from : {p : Place} {d : ℕ} {steps : List Step} → RowTrail s.settings.base s.settings.dimensions k (Own s) p d steps →
       p.node.key < k → (r : Rest) → Placed s r.at p → r.coordinate ≡ d → Wanting s k (rest_over r steps) ⊎ Moved s k (rest_over r steps)
   unfolding rest_over
-  rests-from (rises t) h r here c = rests-from t h (rest_after r Up) here (ap suc c)
-  rests-from {p} (moves {steps = steps} h up e to t) l r here c = at (dec_le k y.node.key) (λ m. rests-from t m after to.holds c)
+  rests_from (rises t) h r here c = rests_from t h (rest_after r Up) here (ap suc c)
+  rests_from {p} (moves {steps = steps} h up e to t) l r here c = at (dec_le k y.node.key) (λ m. rests_from t m after to.holds c)
     where
       b : ℕ
       b = s.settings.base
@@ -117,7 +117,7 @@ module _ {s : State} (v : Sound s) {k : ℕ} where
       at (no m) further = further (omega arith)
       at (yes m) further =
           inr
-          (subst (Moved s k) (sym (rest-reached t m after c))
+          (subst (Moved s k) (sym (rest_reached t m after c))
           (record {
             place = p;
             placed = here;
@@ -129,10 +129,10 @@ module _ {s : State} (v : Sound s) {k : ℕ} where
             reached = m;
             present = λ q. ap (λ z. node_at z s.row) (sym q) ∙ placed_at v to.holds (let above = to.above in omega arith);
             absent = λ over.
-                placed-passed v here k h ∙ node_between b D k p.node.key p.later (all_map (λ z f g. f (omega arith)) p.later to.passed);
+                placed_passed v here k h ∙ node_between b D k p.node.key p.later (all_map (λ z f g. f (omega arith)) p.later to.passed);
             coordinate = refl;
           }))
-  rests-from {p} (wants h up e stop) l r here c =
+  rests_from {p} (wants h up e stop) l r here c =
       let b = s.settings.base in
       let D = s.settings.dimensions in
       inl
@@ -142,11 +142,11 @@ module _ {s : State} (v : Sound s) {k : ℕ} where
         hangs = record { below = h; dimension = omega arith; between = all_map (λ y f g. f (omega arith)) p.later stop.passed };
         coordinate = c ∙ e;
         leads = ap (λ n. first_sharing b D p.node.key n p.later) (c ∙ e) ∙ stop.leads;
-        absent = placed-passed v here k h ∙ node_between b D k p.node.key p.later stop.passed;
+        absent = placed_passed v here k h ∙ node_between b D k p.node.key p.later stop.passed;
       })
-  rests-from (reaches l e) h r here c = absurd (omega arith)
+  rests_from (reaches l e) h r here c = absurd (omega arith)
 
 -- where the walk of a list rests
 pub rests : (s : State) → Sound s → (k : ℕ) → 1 ≤ k → k ≤ s.settings.largest → Wanting s k (rest (picture s) k) ⊎ Moved s k (rest (picture s) k)
 unfolding rest
-rests s v k least most = rests-from v (row-trail s v k least most) least at_head (head_placed s) refl
+rests s v k least most = rests_from v (row_trail s v k least most) least at_head (head_placed s) refl

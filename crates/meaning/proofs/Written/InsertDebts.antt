@@ -8,7 +8,7 @@ use native.Mathlib.Omega.{arith}
 use Rattle.meaning.specs.Words.{key_at, owed_at, low_at, high_at}
 use Rattle.meaning.specs.Writes.{Unmoved}
 use Rattle.meaning.specs.Sentences.{Standing, NextLarger, Settled, leads, leads_nowhere, below_dimension, AList}
-use Rattle.meaning.proofs.BothWays.ConverseKeys.{larger-key, next-larger-of-one}
+use Rattle.meaning.proofs.BothWays.ConverseKeys.{larger_key, next_larger_of_one}
 
 -- finishing cell n spares a cell that is neither n nor the one that n owes from
 pub spared : (ws : List ℕ) (n x j : ℕ) → (0 < owed_at ws n → (x ≡ n → ⊥) × (x ≡ owed_at ws n → ⊥)) → Unmoved ws n x j
@@ -16,19 +16,19 @@ spared ws n x j apart o = ((λ e l h. (apart o).0 e), (λ d l h e. apart o))
 
 module _ (ws : List ℕ) (a : AList ws) where
   -- a cell that is due links owes
-  pub due-owes : (x d : ℕ) → Standing ws x → low_at ws x ≤ d → d < high_at ws x → 0 < owed_at ws x
-  due-owes x d stands l h = at (dec_lt 0 (owed_at ws x))
+  pub due_owes : (x d : ℕ) → Standing ws x → low_at ws x ≤ d → d < high_at ws x → 0 < owed_at ws x
+  due_owes x d stands l h = at (dec_lt 0 (owed_at ws x))
     where
       at : Dec (0 < owed_at ws x) → 0 < owed_at ws x
       at (yes o) = o
       at (no o) = absurd (let nothing = (a.owes_nothing x stands (omega arith)).1 in omega arith)
 
   -- the cell that it owes from is the next one
-  pub owed-next : (x : ℕ) → Standing ws x → 0 < owed_at ws x → NextLarger ws x (owed_at ws x)
-  owed-next x stands o = (a.debts x stands o).owed
+  pub owed_next : (x : ℕ) → Standing ws x → 0 < owed_at ws x → NextLarger ws x (owed_at ws x)
+  owed_next x stands o = (a.debts x stands o).owed
 
-  pub owed-other : (x : ℕ) → Standing ws x → 0 < owed_at ws x → owed_at ws x ≡ x → ⊥
-  owed-other x stands o e = let larger = (owed-next x stands o).larger in let same = ap (key_at ws) e in omega arith
+  pub owed_other : (x : ℕ) → Standing ws x → 0 < owed_at ws x → owed_at ws x ≡ x → ⊥
+  owed_other x stands o e = let larger = (owed_next x stands o).larger in let same = ap (key_at ws) e in omega arith
 
 -- Neither of two cells is the other, nor the cell from which the other owes, and they do not owe from the same one.
 pub record DebtsApart (ws : List ℕ) (parent c : ℕ) : Type 0 where
@@ -44,25 +44,25 @@ module _ (ws : List ℕ) (a : AList ws) (parent p c : ℕ) (parent_stands : Stan
   parent_below = at held (a.debts c c_stands o).not_head
     where
       at : {y : ℕ} → Settled ws parent p y → 0 < y → key_at ws parent < key_at ws y
-      at {y} (leads e l larger least) some = larger-key ws a parent p y parent_stands larger
+      at {y} (leads e l larger least) some = larger_key ws a parent p y parent_stands larger
       at (leads_nowhere e l never) some = absurd (omega arith)
       at (below_dimension e l) some = absurd (omega arith)
 
-  parent-not-c : parent ≡ c → ⊥
-  parent-not-c e = let below = parent_below in let same = ap (key_at ws) e in omega arith
+  parent_not_c : parent ≡ c → ⊥
+  parent_not_c e = let below = parent_below in let same = ap (key_at ws) e in omega arith
 
   -- a cell owed from owes nothing, and is the next one of one cell
-  pub debts-apart : DebtsApart ws parent c
-  debts-apart =
+  pub debts_apart : DebtsApart ws parent c
+  debts_apart =
       record {
-        not_c = parent-not-c;
+        not_c = parent_not_c;
         not_owed = λ e.
             let below = parent_below in
-            let larger = (owed-next ws a c c_stands o).larger in
+            let larger = (owed_next ws a c c_stands o).larger in
             let same = ap (key_at ws) e in
             omega arith;
         owed_not_c = λ m e. let nothing = (a.debts parent parent_stands m).owes_nothing in let same = ap (owed_at ws) e in omega arith;
         owed_not_owed = λ m e.
-            parent-not-c (next-larger-of-one ws a parent c (owed_at ws c) parent_stands c_stands
-            (subst (NextLarger ws parent) e (owed-next ws a parent parent_stands m)) (owed-next ws a c c_stands o));
+            parent_not_c (next_larger_of_one ws a parent c (owed_at ws c) parent_stands c_stands
+            (subst (NextLarger ws parent) e (owed_next ws a parent parent_stands m)) (owed_next ws a c c_stands o));
       }

@@ -19,11 +19,11 @@ use Rattle.meaning.proofs.Rows.AscendingRow.{Asc, asc_above}
 use Rattle.meaning.proofs.Rows.Keys.{shared_less, ultra}
 use Rattle.meaning.proofs.Pictures.Picture.{place_here, place_past, Told, told}
 use Rattle.meaning.proofs.Rows.Places.{asc_left, last_from}
-use Rattle.meaning.proofs.Rows.Parent.{dimension_after, parent_after, places_from, Apart, ParentPlace, asc_last, apart_left, sharing-skips}
-use Rattle.meaning.proofs.Rows.Parent.{sharing-hits, sharing-none, link-leads, first-place, parent-unique, sharing-alike, sharing-above}
+use Rattle.meaning.proofs.Rows.Parent.{dimension_after, parent_after, places_from, Apart, ParentPlace, asc_last, apart_left, sharing_skips}
+use Rattle.meaning.proofs.Rows.Parent.{sharing_hits, sharing_none, link_leads, first_place, parent_unique, sharing_alike, sharing_above}
 use Rattle.meaning.proofs.Cells.WalkRead.{all_places, between_not, between_is, settled_above, between_below, link_due, due_link, link_owing}
 use Rattle.meaning.proofs.Cells.WalkRead.{link_tested, link_settled}
-use Rattle.meaning.proofs.BothWays.SentencesRow.{places-ascend}
+use Rattle.meaning.proofs.BothWays.SentencesRow.{places_ascend}
 
 -- Choices between numbers
 
@@ -53,33 +53,33 @@ place_after a e x d later = record { node = x; dimension = d; before = a; before
 -- Links as they stand, by who owes
 
 module _ (b D : ℕ) where
-  link-same :
+  link_same :
       (p q : Place) (d : ℕ) → link_due p d ≡ link_due q d → (link_due q d ≡ true → due_link b D p d ≡ due_link b D q d) → link_owing b D p d ≡ link_owing b D q d →
       (link_owing b D q d ≡ false → settled_link b D p d ≡ settled_link b D q d) → link b D p d ≡ link b D q d
   unfolding link
-  link-same p q d e f g h =
+  link_same p q d e f g h =
       cond_same (link_due p d) (link_due q d) (due_link b D p d) (cond (link_owing b D p d) 0 (settled_link b D p d)) (due_link b D q d)
       (cond (link_owing b D q d) 0 (settled_link b D q d)) e f
       (λ undue. cond_same (link_owing b D p d) (link_owing b D q d) 0 (settled_link b D p d) 0 (settled_link b D q d) g (λ y. refl) h)
 
   -- after a node that owes nothing
-  pub link-undue : (p : Place) (d : ℕ) → p.before.owes ≡ false → link b D p d ≡ cond (link_owing b D p d) 0 (settled_link b D p d)
-  link-undue p d e = link_tested b D p d (ap (λ t. t && between p.before_dimension p.dimension d) e) refl
+  pub link_undue : (p : Place) (d : ℕ) → p.before.owes ≡ false → link b D p d ≡ cond (link_owing b D p d) 0 (settled_link b D p d)
+  link_undue p d e = link_tested b D p d (ap (λ t. t && between p.before_dimension p.dimension d) e) refl
 
   -- of a node that owes nothing
   unowing : (p : Place) (d : ℕ) → p.node.owes ≡ false → link_owing b D p d ≡ false
   unowing p d e = ap (λ t. t && between (low p) (high b D p) d) e
 
-  pub link-unowing : (p : Place) (d : ℕ) → p.node.owes ≡ false → link b D p d ≡ cond (link_due p d) (due_link b D p d) (settled_link b D p d)
-  link-unowing p d e = link_tested b D p d refl (unowing p d e)
+  pub link_unowing : (p : Place) (d : ℕ) → p.node.owes ≡ false → link b D p d ≡ cond (link_due p d) (due_link b D p d) (settled_link b D p d)
+  link_unowing p d e = link_tested b D p d refl (unowing p d e)
 
   -- where neither owes, every link is settled
-  pub link-unowed : (p : Place) (d : ℕ) → p.before.owes ≡ false → p.node.owes ≡ false → link b D p d ≡ settled_link b D p d
-  link-unowed p d e f = link-undue p d e ∙ ap (λ t. cond t 0 (settled_link b D p d)) (unowing p d f)
+  pub link_unowed : (p : Place) (d : ℕ) → p.before.owes ≡ false → p.node.owes ≡ false → link b D p d ≡ settled_link b D p d
+  link_unowed p d e f = link_undue p d e ∙ ap (λ t. cond t 0 (settled_link b D p d)) (unowing p d f)
 
   -- from the dimension up, the links of a place that owes nothing are settled
-  pub link-above : (p : Place) (d : ℕ) → p.node.owes ≡ false → p.dimension ≤ d → link b D p d ≡ first_sharing b D p.node.key d p.later
-  link-above p d e h = link_settled b D p d h (unowing p d e) ∙ settled_above b D p d h
+  pub link_above : (p : Place) (d : ℕ) → p.node.owes ≡ false → p.dimension ≤ d → link b D p d ≡ first_sharing b D p.node.key d p.later
+  link_above p d e h = link_settled b D p d h (unowing p d e) ∙ settled_above b D p d h
 
 -- Two rows, place by place
 
@@ -99,17 +99,17 @@ OnBoth R (some p) none = ⊥
 OnBoth R (some p) (some q) = R p q
 
 module _ (b D n : ℕ) where
-  kept-itself : (p : Place) → Kept b D n p p
-  kept-itself p = record { node = refl; owed = refl; low = refl; high = refl; links = λ d h. refl }
+  kept_itself : (p : Place) → Kept b D n p p
+  kept_itself p = record { node = refl; owed = refl; low = refl; high = refl; links = λ d h. refl }
 
-  both-itself : (o : Option Place) → OnBoth (Kept b D n) o o
-  both-itself none = tt
-  both-itself (some p) = kept-itself p
+  both_itself : (o : Option Place) → OnBoth (Kept b D n) o o
+  both_itself none = tt
+  both_itself (some p) = kept_itself p
 
-  both-step :
+  both_step :
       (c : ℕ) (p q : Place) (ps qs : List Place) → Kept b D n p q → OnBoth (Kept b D n) (place_of c ps) (place_of c qs) →
       OnBoth (Kept b D n) (place_of c (p ∷ ps)) (place_of c (q ∷ qs))
-  both-step c p q ps qs k more = at (ℕ_discrete q.node.cell c)
+  both_step c p q ps qs k more = at (ℕ_discrete q.node.cell c)
     where
       same : p.node.cell ≡ q.node.cell
       same = ap (λ y. y.cell) k.node
@@ -122,31 +122,31 @@ module _ (b D n : ℕ) where
 
 module _ (b D : ℕ) where
   -- a link that does not lead to x leads where it would lead without x
-  pub sharing-put :
+  pub sharing_put :
       (key d : ℕ) (pre : List Node) (x : Node) (post : List Node) → (first_sharing b D key d (pre ++ x ∷ post) ≡ x.cell → ⊥) →
       first_sharing b D key d (pre ++ x ∷ post) ≡ first_sharing b D key d (pre ++ post)
   unfolding first_sharing
-  sharing-put key d [] x post other = at (ℕ_discrete (shared b D key x.key) d)
+  sharing_put key d [] x post other = at (ℕ_discrete (shared b D key x.key) d)
     where
       at : Dec (shared b D key x.key ≡ d) → first_sharing b D key d (x ∷ post) ≡ first_sharing b D key d post
-      at (yes e) = absurd (other (sharing-hits b D key d x post e))
+      at (yes e) = absurd (other (sharing_hits b D key d x post e))
       at (no ne) = rw (ne_eqb (shared b D key x.key) d ne) refl
-  sharing-put key d (y ∷ pre) x post other = at (ℕ_discrete (shared b D key y.key) d) other (sharing-put key d pre x post)
+  sharing_put key d (y ∷ pre) x post other = at (ℕ_discrete (shared b D key y.key) d) other (sharing_put key d pre x post)
     where
       at : Dec (shared b D key y.key ≡ d) → (cond (eqb (shared b D key y.key) d) y.cell (first_sharing b D key d (pre ++ x ∷ post)) ≡ x.cell → ⊥) →
           ((first_sharing b D key d (pre ++ x ∷ post) ≡ x.cell → ⊥) → first_sharing b D key d (pre ++ x ∷ post) ≡ first_sharing b D key d (pre ++ post)) →
           first_sharing b D key d (y ∷ (pre ++ x ∷ post)) ≡ first_sharing b D key d (y ∷ (pre ++ post))
-      at (yes e) o ih = sharing-hits b D key d y (pre ++ x ∷ post) e ∙ sym (sharing-hits b D key d y (pre ++ post) e)
+      at (yes e) o ih = sharing_hits b D key d y (pre ++ x ∷ post) e ∙ sym (sharing_hits b D key d y (pre ++ post) e)
       at (no ne) o ih =
           let same = ih (rw (ne_eqb (shared b D key y.key) d ne) at o) in
           rw (ne_eqb (shared b D key y.key) d ne) same
 
   -- below what x shares with the next larger node, the links of the two lead to the same
-  pub sharing-next : 0 < b → (key d : ℕ) (z : Node) (rest : List Node) → key < z.key → Asc z.key rest → d < shared b D key z.key →
+  pub sharing_next : 0 < b → (key d : ℕ) (z : Node) (rest : List Node) → key < z.key → Asc z.key rest → d < shared b D key z.key →
       first_sharing b D key d (z ∷ rest) ≡ first_sharing b D z.key d rest
-  sharing-next pos key d z rest h a l =
-      sharing-skips b D key d (z ∷ []) rest (λ e. omega arith, tt)
-      ∙ sharing-alike b D key z.key d rest (all_map (λ u k. let m = ultra b D key z.key u.key pos (omega arith) (omega arith) in
+  sharing_next pos key d z rest h a l =
+      sharing_skips b D key d (z ∷ []) rest (λ e. omega arith, tt)
+      ∙ sharing_alike b D key z.key d rest (all_map (λ u k. let m = ultra b D key z.key u.key pos (omega arith) (omega arith) in
       (λ e. omega arith, λ e. omega arith)) rest (asc_above z.key rest a))
 
 -- The new node and what comes behind it
@@ -168,10 +168,10 @@ NextUnowing b D key p (z ∷ rest) = p ≤ shared b D key z.key → z.owes ≡ f
 
 module _ (b D : ℕ) (pos : 0 < b) where
   -- the links of a place of dimension p, after a node that owes nothing, if it owes just the links p to q-1
-  pub link-of-new :
+  pub link_of_new :
       (p : Place) (d : ℕ) → p.before.owes ≡ false → Asc p.node.key p.later → p.node.owes ≡ new_owes b D p.node.key p.dimension p.later →
       link b D p d ≡ new_link b D p.node.key p.dimension p.later d
-  link-of-new p d un a own = at p.later refl a own
+  link_of_new p d un a own = at p.later refl a own
     where
       key : ℕ
       key = p.node.key
@@ -180,10 +180,10 @@ module _ (b D : ℕ) (pos : 0 < b) where
       e = p.dimension
 
       unsettled : settled_link b D p d ≡ 0 → link b D p d ≡ 0
-      unsettled f = link-undue b D p d un ∙ zero_either (link_owing b D p d) (settled_link b D p d) f
+      unsettled f = link_undue b D p d un ∙ zero_either (link_owing b D p d) (settled_link b D p d) f
 
       at : (later : List Node) → p.later ≡ later → Asc key later → p.node.owes ≡ new_owes b D key e later → link b D p d ≡ new_link b D key e later d
-      at [] is a own = unsettled (zero_or (leb e d) (first_sharing b D key d p.later) (ap (first_sharing b D key d) is ∙ sharing-none b D key d [] tt))
+      at [] is a own = unsettled (zero_or (leb e d) (first_sharing b D key d p.later) (ap (first_sharing b D key d) is ∙ sharing_none b D key d [] tt))
       at (z ∷ rest) is a own = split (dec_lt d e) (dec_lt d q) (ℕ_discrete d q)
         where
           q : ℕ
@@ -192,17 +192,17 @@ module _ (b D : ℕ) (pos : 0 < b) where
           sought : e ≤ d → settled_link b D p d ≡ first_sharing b D key d (z ∷ rest)
           sought h = settled_above b D p d h ∙ ap (first_sharing b D key d) is
 
-          no-link : (e ≤ q → d ≡ q → ⊥) → cond (leb e q && eqb d q) z.cell 0 ≡ 0
-          no-link f = ap (λ t. cond t z.cell 0) (and-test (dec_le e q))
+          no_link : (e ≤ q → d ≡ q → ⊥) → cond (leb e q && eqb d q) z.cell 0 ≡ 0
+          no_link f = ap (λ t. cond t z.cell 0) (and_test (dec_le e q))
             where
-              and-test : Dec (e ≤ q) → (leb e q && eqb d q) ≡ false
-              and-test (yes h) = rw (le-leb e q h) (ne_eqb d q (f h))
-              and-test (no h) = rw (lt-leb e q (omega arith)) refl
+              and_test : Dec (e ≤ q) → (leb e q && eqb d q) ≡ false
+              and_test (yes h) = rw (le-leb e q h) (ne_eqb d q (f h))
+              and_test (no h) = rw (lt-leb e q (omega arith)) refl
 
           owned : e < q → d < q → e ≤ d → link_owing b D p d ≡ true
           owned h l g =
               let o : p.node.owes ≡ true = own ∙ lt-ltb e q h in
-              let low-is = ap (λ t. cond t e 0) o in
+              let low_is = ap (λ t. cond t e 0) o in
               let high_is = ap (λ t. cond t (shared b D key (first_of p.later).key) 0) o ∙ ap (λ r. shared b D key (first_of r).key) is in
               and_both p.node.owes (between (low p) (high b D p) d) o (between_is (low p) (high b D p) d (omega arith) (omega arith))
 
@@ -216,28 +216,28 @@ module _ (b D : ℕ) (pos : 0 < b) where
 
           split : Dec (d < e) → Dec (d < q) → Dec (d ≡ q) → link b D p d ≡ cond (leb e q && eqb d q) z.cell 0
           split (yes h) l g =
-              unsettled (ap (λ t. cond t (first_sharing b D key d p.later) 0) (lt-leb e d h)) ∙ sym (no-link (λ m n. omega (arith, h, m, n)))
+              unsettled (ap (λ t. cond t (first_sharing b D key d p.later) 0) (lt-leb e d h)) ∙ sym (no_link (λ m n. omega (arith, h, m, n)))
           split (no h) (yes l) g =
-              link-undue b D p d un ∙ ap (λ t. cond t 0 (settled_link b D p d)) (owned (omega arith) l (omega arith))
-              ∙ sym (no-link (λ m n. omega (arith, l, n)))
+              link_undue b D p d un ∙ ap (λ t. cond t 0 (settled_link b D p d)) (owned (omega arith) l (omega arith))
+              ∙ sym (no_link (λ m n. omega (arith, l, n)))
           split (no h) (no l) (yes g) =
               let m : e ≤ q = omega arith in
-              link-undue b D p d un
+              link_undue b D p d un
               ∙ ap (λ t. cond t 0 (settled_link b D p d)) (unowned g)
               ∙ sought (omega arith)
-              ∙ sharing-hits b D key d z rest (sym g)
+              ∙ sharing_hits b D key d z rest (sym g)
               ∙ sym (ap (λ t. cond t z.cell 0) (and_both (leb e q) (eqb d q) (le-leb e q m) (eq-eqb d q g)))
           split (no h) (no l) (no g) =
-              unsettled (sought (omega arith) ∙ sharing-above b D pos key d z rest (let h = a.0 in omega arith) a.1 (omega arith))
-              ∙ sym (no-link (λ m n. g n))
+              unsettled (sought (omega arith) ∙ sharing_above b D pos key d z rest (let h = a.0 in omega arith) a.1 (omega arith))
+              ∙ sym (no_link (λ m n. g n))
 
   -- The next larger node z: before x stood it came after a and had dimension min p q, now it comes after x and has dimension q.
-  pub link-of-next :
+  pub link_of_next :
       (a x z : Node) (e d : ℕ) (rest : List Node) → a.key < x.key → Asc x.key (z ∷ rest) → a.owes ≡ false →
       x.owes ≡ new_owes b D x.key (shared b D a.key x.key) (z ∷ rest) → NextUnowing b D x.key (shared b D a.key x.key) (z ∷ rest) →
       link b D (place_after x (shared b D a.key x.key) z (shared b D x.key z.key) rest) d
       ≡ link b D (place_after a e z (shared b D a.key z.key) rest) d
-  link-of-next a x z e d rest h asc un own next = at (dec_le p q)
+  link_of_next a x z e d rest h asc un own next = at (dec_le p q)
     where
       p : ℕ
       p = shared b D a.key x.key
@@ -258,10 +258,10 @@ module _ (b D : ℕ) (pos : 0 < b) where
       at (yes g) = paid (next g) (dec_lt d p) (dec_lt d q)
         where
           settled : z.owes ≡ false → link b D before d ≡ settled_link b D before d
-          settled o = link-unowed b D before d un o
+          settled o = link_unowed b D before d un o
 
           given : z.owes ≡ false → (t : Bool) → link_due now d ≡ t → link b D now d ≡ cond t (first_sharing b D x.key d (z ∷ rest)) (settled_link b D now d)
-          given o t f = link-unowing b D now d o ∙ ap (λ r. cond r (due_link b D now d) (settled_link b D now d)) f
+          given o t f = link_unowing b D now d o ∙ ap (λ r. cond r (due_link b D now d) (settled_link b D now d)) f
 
           undue : between p q d ≡ false → link_due now d ≡ false
           undue f = ap (λ t. x.owes && t) f ∙ and-false x.owes
@@ -274,7 +274,7 @@ module _ (b D : ℕ) (pos : 0 < b) where
           paid o (no l) (yes m) =
               let owes : x.owes ≡ true = own ∙ lt-ltb p q (omega arith) in
               given o true (and_both x.owes (between p q d) owes (between_is p q d (omega arith) m))
-              ∙ sharing-next b D pos x.key d z rest asc.0 asc.1 m
+              ∙ sharing_next b D pos x.key d z rest asc.0 asc.1 m
               ∙ sym (settled o ∙ settled_above b D before d (omega (arith, g, l, least)))
           paid o (no l) (no m) =
               given o false (undue (between_not p q d (omega (arith, m))))
@@ -283,15 +283,15 @@ module _ (b D : ℕ) (pos : 0 < b) where
       at (no g) =
           let f : x.owes ≡ false = own ∙ le-ltb p q (omega arith) in
           let same : q ≡ before.dimension = omega (arith, g, least) in
-          link-undue b D now d f
+          link_undue b D now d f
           ∙ ap (λ m. cond (z.owes && between (cond z.owes m 0) (high b D before) d) 0 (cond (leb m d) (first_sharing b D z.key d rest) 0)) same
-          ∙ sym (link-undue b D before d un)
+          ∙ sym (link_undue b D before d un)
 
   -- if it owes, it does not have the slot, and its dimension stays
-  next-stays :
+  next_stays :
       (a x z : Node) (rest : List Node) → a.key < x.key → x.key < z.key → NextUnowing b D x.key (shared b D a.key x.key) (z ∷ rest) →
       z.owes ≡ true → shared b D x.key z.key ≡ shared b D a.key z.key
-  next-stays a x z rest h l next o = at (dec_le (shared b D a.key x.key) (shared b D x.key z.key))
+  next_stays a x z rest h l next o = at (dec_le (shared b D a.key x.key) (shared b D x.key z.key))
     where
       at : Dec (shared b D a.key x.key ≤ shared b D x.key z.key) → shared b D x.key z.key ≡ shared b D a.key z.key
       at (yes g) = absurd (let f = next g in let y : ◌≡◌ {A = ℕ} 0 1 = cc in omega arith)
@@ -307,30 +307,30 @@ module _ (b D : ℕ) (pos : 0 < b) where
         node = refl;
         owed = refl;
         low = cond_same z.owes z.owes (shared b D x.key z.key) 0 (shared b D a.key z.key) 0 refl
-            (next-stays a x z rest h asc.0 next) (λ f. refl);
+            (next_stays a x z rest h asc.0 next) (λ f. refl);
         high = refl;
-        links = λ d f. link-of-next a x z e d rest h asc un own next;
+        links = λ d f. link_of_next a x z e d rest h asc un own next;
       }
 
   -- the dimension of the node before matters only if that one owes
-  kept-behind : (n : ℕ) (z : Node) (e f : ℕ) (rest : List Node) → (z.owes ≡ true → e ≡ f) → (c : ℕ) →
+  kept_behind : (n : ℕ) (z : Node) (e f : ℕ) (rest : List Node) → (z.owes ≡ true → e ≡ f) → (c : ℕ) →
       OnBoth (Kept b D n) (place_of c (places_after b D z e rest)) (place_of c (places_after b D z f rest))
   unfolding places_after place_of
-  kept-behind n z e f [] same c = tt
-  kept-behind n z e f (u ∷ rest) same c =
-      both-step b D n c (place e) (place f) behind behind
+  kept_behind n z e f [] same c = tt
+  kept_behind n z e f (u ∷ rest) same c =
+      both_step b D n c (place e) (place f) behind behind
       (record {
         node = refl;
         owed = refl;
         low = refl;
         high = refl;
         links = λ d h.
-            link-same b D (place e) (place f) d
+            link_same b D (place e) (place f) d
             (and_same z.owes (between e (shared b D z.key u.key) d) (between f (shared b D z.key u.key) d)
             (λ o. ap (λ m. between m (shared b D z.key u.key) d) (same o)))
             (λ y. refl) refl (λ y. refl);
       })
-      (both-itself b D n (place_of c behind))
+      (both_itself b D n (place_of c behind))
     where
       place : ℕ → Place
       place m = place_after z m u (shared b D z.key u.key) rest
@@ -345,23 +345,23 @@ module _ (b D : ℕ) (pos : 0 < b) where
   unfolding places_after place_of
   kept_above n a x e [] h asc un own next c = tt
   kept_above n a x e (z ∷ rest) h asc un own next c =
-      both-step b D n c
+      both_step b D n c
       (place_after x (shared b D a.key x.key) z (shared b D x.key z.key) rest)
       (place_after a e z (shared b D a.key z.key) rest)
       (places_after b D z (shared b D x.key z.key) rest) (places_after b D z (shared b D a.key z.key) rest)
       (kept_next n a x z e rest h asc un own next)
-      (kept-behind n z (shared b D x.key z.key) (shared b D a.key z.key) rest (next-stays a x z rest h asc.0 next) c)
+      (kept_behind n z (shared b D x.key z.key) (shared b D a.key z.key) rest (next_stays a x z rest h asc.0 next) c)
 
   -- The nodes before x
 
   -- A node y before x, after a node w of dimension f. If w owes, it has no link to x; if y owes, x is not the next after it.
-  kept-front :
+  kept_front :
       (w : Node) (f : ℕ) (y : Node) (e : ℕ) (front : List Node) (x : Node) (post : List Node) →
       (w.owes ≡ true → (d : ℕ) → f ≤ d → first_sharing b D w.key d (y ∷ (front ++ x ∷ post)) ≡ x.cell → ⊥) →
       (y.owes ≡ true → first_of (front ++ x ∷ post) ≡ first_of (front ++ post)) →
       Kept b D x.cell (place_after w f y e (front ++ x ∷ post))
       (place_after w f y e (front ++ post))
-  kept-front w f y e front x post clear first =
+  kept_front w f y e front x post clear first =
       record {
         node = refl;
         owed = cond_same y.owes y.owes (first_of (front ++ x ∷ post)).cell 0 (first_of (front ++ post)).cell 0 refl
@@ -369,15 +369,15 @@ module _ (b D : ℕ) (pos : 0 < b) where
         low = refl;
         high = high_same;
         links = λ d other.
-            link-same b D now before d refl
+            link_same b D now before d refl
             (λ t.
             let one = both w.owes (between f e d) t in
             let two = both (leb f d) (ltb d e) one.1 in
-            sharing-put b D w.key d (y ∷ front) x post (clear one.0 d (leb-true f d two.0)))
+            sharing_put b D w.key d (y ∷ front) x post (clear one.0 d (leb-true f d two.0)))
             (and_same y.owes (between (low now) (high b D now) d) (between (low before) (high b D before) d)
             (λ o. ap (λ m. between (low now) m d) high_same))
             (λ t. cond_same (leb e d) (leb e d) (first_sharing b D y.key d (front ++ x ∷ post)) 0 (first_sharing b D y.key d (front ++ post)) 0 refl
-            (λ h. sharing-put b D y.key d front x post (λ g. other (settled_above b D now d (leb-true e d h) ∙ g))) (λ h. refl));
+            (λ h. sharing_put b D y.key d front x post (λ g. other (settled_above b D now d (leb-true e d h) ∙ g))) (λ h. refl));
       }
     where
       now : Place
@@ -399,17 +399,17 @@ module _ (b D : ℕ) (pos : 0 < b) where
       (place_of c (places_from b D w f y e (pre ++ post)))
   unfolding places_after last_from
   kept_from w f y e [] x post asc un clear led own next c other =
-      both-step b D x.cell c (place_after w f y e (x ∷ post)) (place_after w f y e post)
+      both_step b D x.cell c (place_after w f y e (x ∷ post)) (place_after w f y e post)
       (places_after b D y e (x ∷ post)) (places_after b D y e post)
-      (kept-front w f y e [] x post clear (λ o. absurd (let z : ◌≡◌ {A = ℕ} 0 1 = cc in omega arith)))
+      (kept_front w f y e [] x post clear (λ o. absurd (let z : ◌≡◌ {A = ℕ} 0 1 = cc in omega arith)))
       (subst (λ o. OnBoth (Kept b D x.cell) o (place_of c (places_after b D y e post)))
       (sym (place_past c (place_after y e x (shared b D y.key x.key) post) (places_after b D x (shared b D y.key x.key) post) other))
       (kept_above x.cell y x e post asc.0 asc.1 un own next c))
   kept_from w f y e (z ∷ pre) x post asc un clear led own next c other =
       let now : Place = place_after w f y e (z ∷ (pre ++ x ∷ post)) in
-      both-step b D x.cell c now (place_after w f y e (z ∷ (pre ++ post)))
+      both_step b D x.cell c now (place_after w f y e (z ∷ (pre ++ post)))
       (places_after b D y e (z ∷ (pre ++ x ∷ post))) (places_after b D y e (z ∷ (pre ++ post)))
-      (kept-front w f y e (z ∷ pre) x post clear (λ o. refl))
+      (kept_front w f y e (z ∷ pre) x post clear (λ o. refl))
       (kept_from y e z (shared b D y.key z.key) pre x post asc.1 un (λ o d h g. led.0 o d (settled_above b D now d h ∙ g)) led.1 own next c other)
 
 -- In a row
@@ -426,40 +426,40 @@ module _ (s : State) (pre : List Node) (x : Node) (post : List Node) (pos : 0 < 
     (a : Asc 0 (pre ++ x ∷ post)) (o : Apart (head_node ∷ (pre ++ x ∷ post)))
     (clear : Cleared s.settings.base s.settings.dimensions pre x post) where
   -- a place that owes has no link to x
-  owing-leads-elsewhere :
+  owing_leads_elsewhere :
       All (λ p. p.node.owes ≡ true → (d : ℕ) → settled_link s.settings.base s.settings.dimensions p d ≡ x.cell → ⊥)
       (places s.settings.base s.settings.dimensions (pre ++ x ∷ post))
-  owing-leads-elsewhere =
+  owing_leads_elsewhere =
       let b = s.settings.base in
       let D = s.settings.dimensions in
       all_zip (λ p unique paid owes d leads. let f = paid (unique d leads).0 in let z : ◌≡◌ {A = ℕ} 0 1 = cc in omega arith)
-      (places b D (pre ++ x ∷ post)) (parent-unique s pre x post pos deep a o)
+      (places b D (pre ++ x ∷ post)) (parent_unique s pre x post pos deep a o)
       (all_places (λ y. y.cell ≡ parent_after b D head_node pre x.key → y.owes ≡ false) b D (pre ++ x ∷ post) clear.parent.0 clear.parent.1)
 
   -- every other cell that stands stood, and keeps its words but for links that lead to x
-  pub kept-places :
+  pub kept_places :
       (c : ℕ) → (x.cell ≡ c → ⊥) →
       OnBoth (Kept s.settings.base s.settings.dimensions x.cell)
       (place_of c (places s.settings.base s.settings.dimensions (pre ++ x ∷ post)))
       (place_of c (places s.settings.base s.settings.dimensions (pre ++ post)))
   unfolding places
-  kept-places c other =
+  kept_places c other =
       kept_from s.settings.base s.settings.dimensions pos head_node 0 head_node 0 pre x post a clear.last
-      (λ owes. absurd (let z : ◌≡◌ {A = ℕ} 0 1 = cc in omega arith)) owing-leads-elsewhere clear.own clear.next c other
+      (λ owes. absurd (let z : ◌≡◌ {A = ℕ} 0 1 = cc in omega arith)) owing_leads_elsewhere clear.own clear.next c other
 
   -- link p of the parent leads to x
-  pub link-of-parent :
+  pub link_of_parent :
       (p : Place) → place_of (parent_after s.settings.base s.settings.dimensions head_node pre x.key)
       (places s.settings.base s.settings.dimensions (pre ++ x ∷ post)) ≡ some p →
       link s.settings.base s.settings.dimensions p (dimension_after s.settings.base s.settings.dimensions head_node pre x.key) ≡ x.cell
   unfolding places
-  link-of-parent p found =
+  link_of_parent p found =
       subst (λ q. link b D q d ≡ x.cell) same
-      (link-above b D t d unowing h.low
+      (link_above b D t d unowing h.low
       ∙ ap (first_sharing b D t.node.key d) h.later_is
       ∙ subst (λ m. shared b D m.key x.key < shared b D t.node.key m.key →
       first_sharing b D t.node.key (shared b D m.key x.key) (h.between ++ x ∷ post) ≡ x.cell) h.last_is
-      (link-leads b D pos deep t.node h.between x post (subst (Asc t.node.key) h.later_is ascends)) h.shares)
+      (link_leads b D pos deep t.node h.between x post (subst (Asc t.node.key) h.later_is ascends)) h.shares)
     where
       b : ℕ
       b = s.settings.base
@@ -481,7 +481,7 @@ module _ (s : State) (pre : List Node) (x : Node) (post : List Node) (pos : 0 < 
 
       at : (t : Place) × (place_of (parent_after b D head_node pre x.key) (places b D row) ≡ some t) × ParentPlace b D d A (x ∷ post) t
       at =
-          first-place b D pos deep d head_node 0 head_node 0 pre (x ∷ post) (asc_left 0 pre (x ∷ post) a) (apart_left (head_node ∷ pre) (x ∷ post) o)
+          first_place b D pos deep d head_node 0 head_node 0 pre (x ∷ post) (asc_left 0 pre (x ∷ post) a) (apart_left (head_node ∷ pre) (x ∷ post) o)
           (shared_less b D A.key x.key deep (omega (arith, low))) (λ q. omega arith)
 
       t : Place
@@ -502,7 +502,7 @@ module _ (s : State) (pre : List Node) (x : Node) (post : List Node) (pos : 0 < 
           (parent_after b D head_node pre x.key) (places b D row)
           (all_zip (λ q f g. (f, g)) (places b D row)
           (all_places (λ y. y.cell ≡ parent_after b D head_node pre x.key → y.owes ≡ false) b D row clear.parent.0 clear.parent.1)
-          (places-ascend b D row a)))
+          (places_ascend b D row a)))
 
       unowing : t.node.owes ≡ false
       unowing = fact.1.0 fact.0
@@ -511,19 +511,19 @@ module _ (s : State) (pre : List Node) (x : Node) (post : List Node) (pos : 0 < 
       ascends = fact.1.1
 
   -- every other link of a cell other than x is as it was
-  pub link-of-other :
+  pub link_of_other :
       (c d : ℕ) (p q : Place) → place_of c (places s.settings.base s.settings.dimensions (pre ++ x ∷ post)) ≡ some p →
       place_of c (places s.settings.base s.settings.dimensions (pre ++ post)) ≡ some q → (x.cell ≡ c → ⊥) →
       (c ≡ parent_after s.settings.base s.settings.dimensions head_node pre x.key →
       d ≡ dimension_after s.settings.base s.settings.dimensions head_node pre x.key → ⊥) →
       link s.settings.base s.settings.dimensions p d ≡ link s.settings.base s.settings.dimensions q d
-  link-of-other c d p q now before other elsewhere =
+  link_of_other c d p q now before other elsewhere =
       let b = s.settings.base in
       let D = s.settings.dimensions in
-      let kept = subst₂ (OnBoth (Kept b D x.cell)) now before (kept-places c other) in
+      let kept = subst₂ (OnBoth (Kept b D x.cell)) now before (kept_places c other) in
       let unique =
       subst (Told (λ r. (m : ℕ) → settled_link b D r m ≡ x.cell → (r.node.cell ≡ parent_after b D head_node pre x.key)
       × (m ≡ dimension_after b D head_node pre x.key)) c) now
       (told (λ r. (m : ℕ) → settled_link b D r m ≡ x.cell → (r.node.cell ≡ parent_after b D head_node pre x.key)
-      × (m ≡ dimension_after b D head_node pre x.key)) c (places b D (pre ++ x ∷ post)) (parent-unique s pre x post pos deep a o)) in
+      × (m ≡ dimension_after b D head_node pre x.key)) c (places b D (pre ++ x ∷ post)) (parent_unique s pre x post pos deep a o)) in
       kept.links d (λ leads. let u = unique.1 d leads in elsewhere (sym unique.0 ∙ u.0) u.1)

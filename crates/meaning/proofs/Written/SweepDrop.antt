@@ -28,16 +28,16 @@ use Rattle.meaning.proofs.Pictures.StateCells.{row_distinct, row_range}
 use Rattle.meaning.proofs.Pictures.Picture.{picture_free, picture_path, place_here, place_past, free_found}
 use Rattle.meaning.proofs.Rows.Places.{last_from, dimension_from, key_of_same, key_of_other}
 use Rattle.meaning.proofs.Kept.KeepsState.{cell_alone}
-use Rattle.meaning.proofs.Rows.Parent.{dimension_after, Without, asc_last, apart_before, place_at, first-skips, first-hits}
+use Rattle.meaning.proofs.Rows.Parent.{dimension_after, Without, asc_last, apart_before, place_at, first_skips, first_hits}
 use Rattle.meaning.proofs.Kept.Slot.{sound_apart, dimensions_positive}
-use Rattle.meaning.proofs.Cells.Placed.{Placed, placed-has, placed_below, head_placed}
+use Rattle.meaning.proofs.Cells.Placed.{Placed, placed_has, placed_below, head_placed}
 use Rattle.meaning.proofs.Cells.WalkRead.{settled_above}
 use Rattle.meaning.proofs.Cells.Stores.{Exact, word_in, picture_exact, words_equal, field_cases}
 use Rattle.meaning.proofs.Cells.Changed.{words_by, standing_by, by_link, picture_place, placed_word}
-use Rattle.meaning.proofs.Written.SweepRow.{head-link-below, head-link-at, head-link-above, dimension-falls, path_shifts}
-use Rattle.meaning.proofs.Written.SweepStores.{next_free-behind, Dropping, exact-dropped, dropFront-header, dropFront-first, dropFront-path-head}
-use Rattle.meaning.proofs.Written.SweepStores.{dropFront-path-position, dropFront-other, dropFront-taken, dropFront-position, dropFront-head}
-use Rattle.meaning.proofs.Written.SweepStores.{dropFront-head-at, dropFront-head-above, dropFront-freed}
+use Rattle.meaning.proofs.Written.SweepRow.{head_link_below, head_link_at, head_link_above, dimension_falls, path_shifts}
+use Rattle.meaning.proofs.Written.SweepStores.{next_free-behind, Dropping, exact_dropped, drop_front-header, drop_front-first, drop_front-path_head}
+use Rattle.meaning.proofs.Written.SweepStores.{drop_front-path_position, drop_front-other, drop_front-taken, drop_front-position, drop_front-head}
+use Rattle.meaning.proofs.Written.SweepStores.{drop_front-head_at, drop_front-head_above, drop_front-freed}
 
 -- Words of cells where nothing is owed
 
@@ -72,7 +72,7 @@ unowing_word : (s : State) → Sound s → All (λ x. x.owes ≡ false) s.row �
     word_in s.settings.dimensions (picture s) x j ≡ get_or (words_by s.settings.base s.settings.dimensions p.node.value p.node.live
     false false p) j 0
 unowing_word s v unowing {x} {p} here j h =
-    let nothing = placed-has here Unowing (unowing_places s.settings.base s.settings.dimensions s.row unowing) in
+    let nothing = placed_has here Unowing (unowing_places s.settings.base s.settings.dimensions s.row unowing) in
     placed_word s here j (placed_below v here) h
     ∙ ap₂ (λ t u. get_or (words_by s.settings.base s.settings.dimensions p.node.value p.node.live t u p) j 0) nothing.0 nothing.1
 
@@ -179,8 +179,8 @@ module _ (s : State) (front : List Node) (x : Node) (later : List Node) (v : Sou
   deep : 0 < s.settings.dimensions
   deep = dimensions_positive (fronted s front x later) v
 
-  key-positive : 0 < x.key
-  key-positive = let less = (asc_last head_node front (x ∷ later) v.ascends).0 in omega arith
+  key_positive : 0 < x.key
+  key_positive = let less = (asc_last head_node front (x ∷ later) v.ascends).0 in omega arith
 
   pub dropping : Dropping s.settings.dimensions s.settings.cells x.cell (reached s front x) (zeros s x) (map (λ y. y.cell) front)
   dropping =
@@ -192,8 +192,8 @@ module _ (s : State) (front : List Node) (x : Node) (later : List Node) (v : Sou
       record {
         cell = own.1;
         standing = own.0;
-        inside = shared_less b D 0 x.key deep (let h = key-positive in omega arith);
-        falls = dimension-falls b D pos front x later v.ascends;
+        inside = shared_less b D 0 x.key deep (let h = key_positive in omega arith);
+        falls = dimension_falls b D pos front x later v.ascends;
         least = shared_le b D (last_from head_node front).key x.key;
         distinct =
             distinct_left (map (λ y. y.cell) front) (map (λ y. y.cell) (x ∷ later))
@@ -205,51 +205,51 @@ module _ (s : State) (front : List Node) (x : Node) (later : List Node) (v : Sou
   others : Without x.cell (head_node ∷ front)
   others = apart_before (head_node ∷ front) x later (sound_apart (fronted s front x later) v)
 
-  placed-before : Placed (fronted s front x later) x.cell (place_before s front x later)
+  placed_before : Placed (fronted s front x later) x.cell (place_before s front x later)
   unfolding places
-  placed-before = record { found = place_at s.settings.base s.settings.dimensions head_node 0 head_node 0 front x later others }
+  placed_before = record { found = place_at s.settings.base s.settings.dimensions head_node 0 head_node 0 front x later others }
 
-  placed-after : Placed (dropped s front x later) x.cell (place_after s x later)
+  placed_after : Placed (dropped s front x later) x.cell (place_after s x later)
   unfolding places last_from dimension_from
-  placed-after = record { found = place_at s.settings.base s.settings.dimensions head_node 0 head_node 0 [] x later (others.0, tt) }
+  placed_after = record { found = place_at s.settings.base s.settings.dimensions head_node 0 head_node 0 [] x later (others.0, tt) }
 
   exact : Exact s.settings.dimensions s.settings.cells (picture (fronted s front x later))
   exact = picture_exact (fronted s front x later)
 
-  abbrev pathBefore : List ℕ
-  pathBefore = path_for s.settings.base s.settings.dimensions (front ++ x ∷ later) x.key
+  abbrev path_before : List ℕ
+  path_before = path_for s.settings.base s.settings.dimensions (front ++ x ∷ later) x.key
 
   -- Header and path
 
-  header-dropped : (i : ℕ) → i < header_words → get_or (picture (dropped s front x later)) i 0 ≡ get_or (written s front x later) i 0
-  header-dropped i h = at (ℕ_discrete i 4)
+  header_dropped : (i : ℕ) → i < header_words → get_or (picture (dropped s front x later)) i 0 ≡ get_or (written s front x later) i 0
+  header_dropped i h = at (ℕ_discrete i 4)
     where
       at : Dec (i ≡ 4) → get_or (picture (dropped s front x later)) i 0 ≡ get_or (written s front x later) i 0
       at (yes e) =
           subst (λ n. get_or (picture (dropped s front x later)) n 0 ≡ get_or (written s front x later) n 0) (sym e)
-          (picture_free (dropped s front x later) ∙ sym (dropFront-first exact pathBefore dropping s.free (picture_free (fronted s front x later))))
+          (picture_free (dropped s front x later) ∙ sym (drop_front-first exact path_before dropping s.free (picture_free (fronted s front x later))))
       at (no ne) = let l : i < 4 = lt_of_le-ne (omega arith) ne in header_settings (dropped s front x later) (fronted s front x later) refl i l
-          ∙ sym (dropFront-header exact pathBefore dropping i l)
+          ∙ sym (drop_front-header exact path_before dropping i l)
 
   position_key_lem : position_key (dropped s front x later) ≡ x.key
   position_key_lem = key_of_other x.cell head_node (x ∷ later) others.0 ∙ key_of_same x.cell x later refl
 
-  path-dropped : (d : ℕ) → d < s.settings.dimensions → get_or (picture (dropped s front x later)) (header_words + d) 0
+  path_dropped : (d : ℕ) → d < s.settings.dimensions → get_or (picture (dropped s front x later)) (header_words + d) 0
       ≡ get_or (written s front x later) (header_words + d) 0
-  path-dropped d h =
+  path_dropped d h =
       picture_path (dropped s front x later) d h
       ∙ ap (λ k. first_with s.settings.base s.settings.dimensions k (suc d) (head_node ∷ x ∷ later)) position_key_lem
       ∙ at (dec_lt d (zeros s x))
     where
       at : Dec (d < zeros s x) → first_with s.settings.base s.settings.dimensions x.key (suc d) (head_node ∷ x ∷ later)
           ≡ get_or (written s front x later) (header_words + d) 0
-      at (yes l) = first-hits s.settings.base s.settings.dimensions x.key (suc d) head_node (x ∷ later) l
-          ∙ sym (dropFront-path-head exact pathBefore dropping d l)
+      at (yes l) = first_hits s.settings.base s.settings.dimensions x.key (suc d) head_node (x ∷ later) l
+          ∙ sym (drop_front-path_head exact path_before dropping d l)
       at (no l) =
-          first-skips s.settings.base s.settings.dimensions x.key (suc d) head_node (x ∷ later) (omega arith)
-          ∙ first-hits s.settings.base s.settings.dimensions x.key (suc d) x later
+          first_skips s.settings.base s.settings.dimensions x.key (suc d) head_node (x ∷ later) (omega arith)
+          ∙ first_hits s.settings.base s.settings.dimensions x.key (suc d) x later
           (omega (arith, shared_same s.settings.base s.settings.dimensions x.key))
-          ∙ sym (dropFront-path-position exact pathBefore dropping d (omega arith) h)
+          ∙ sym (drop_front-path_position exact path_before dropping d (omega arith) h)
 
   -- A cell that is neither the head nor the new position, and is not freed
 
@@ -276,9 +276,9 @@ module _ (s : State) (front : List Node) (x : Node) (later : List Node) (v : Sou
   abbrev Dropped : ℕ → ℕ → Type 0
   Dropped y j = word_in s.settings.dimensions (picture (dropped s front x later)) y j ≡ word_in s.settings.dimensions (written s front x later) y j
 
-  other-dropped : (y j : ℕ) → y < s.settings.cells → j < cell_words s.settings.dimensions → (y ≡ 0 → ⊥) → (y ≡ x.cell → ⊥) →
+  other_dropped : (y j : ℕ) → y < s.settings.cells → j < cell_words s.settings.dimensions → (y ≡ 0 → ⊥) → (y ≡ x.cell → ⊥) →
       All (λ c. y ≡ c → ⊥) (map (λ z. z.cell) front) → Dropped y j
-  other-dropped y j h k not_head not-x a =
+  other_dropped y j h k not_head not-x a =
       let b = s.settings.base in
       let D = s.settings.dimensions in
       let freed = map (λ z. z.cell) front in
@@ -289,13 +289,13 @@ module _ (s : State) (front : List Node) (x : Node) (later : List Node) (v : Sou
       ∙ later_words b D s.free y x (zeros s x) (reached s front x) later (all_at (λ z. z.owes ≡ false) front x later unowing)
       ∙ ap (words_of b D s.free y) (sym (found_before y not_head not-x a)))
       ∙ sym (picture_place (fronted s front x later) y j h k)
-      ∙ sym (dropFront-other exact pathBefore dropping y j k not_head not-x a)
+      ∙ sym (drop_front-other exact path_before dropping y j k not_head not-x a)
 
   -- The freed cells
 
-  freed-dropped : (y j : ℕ) → y < s.settings.cells → j < cell_words s.settings.dimensions → 0 < occurrences y (map (λ z. z.cell) front) → Dropped y j
+  freed_dropped : (y j : ℕ) → y < s.settings.cells → j < cell_words s.settings.dimensions → 0 < occurrences y (map (λ z. z.cell) front) → Dropped y j
   unfolding words_of
-  freed-dropped y j h k within =
+  freed_dropped y j h k within =
       let b = s.settings.base in
       let D = s.settings.dimensions in
       let freed = map (λ z. z.cell) front in
@@ -306,30 +306,30 @@ module _ (s : State) (front : List Node) (x : Node) (later : List Node) (v : Sou
       picture_place (dropped s front x later) y j h k
       ∙ ap (λ o. get_or (words_of b D chain y o) j 0) unfound
       ∙ sym (occurs_has (λ c. (i : ℕ) → i < cell_words D → word_in D (written s front x later) c i ≡ get_or (free_words D (next_free c chain)) i 0) y freed within
-      (dropFront-freed exact pathBefore dropping s.free (picture_free (fronted s front x later))) j k)
+      (drop_front-freed exact path_before dropping s.free (picture_free (fronted s front x later))) j k)
 
   -- The new position
 
-  unowing-later : All (λ y. y.owes ≡ false) (x ∷ later)
-  unowing-later = all_right (λ y. y.owes ≡ false) front (x ∷ later) unowing
+  unowing_later : All (λ y. y.owes ≡ false) (x ∷ later)
+  unowing_later = all_right (λ y. y.owes ≡ false) front (x ∷ later) unowing
 
-  position-before : (j : ℕ) → j < fields_before_links → Dropped x.cell j
-  position-before j h =
-      unowing_word (dropped s front x later) w unowing-later placed-after j (omega arith)
+  position_before : (j : ℕ) → j < fields_before_links → Dropped x.cell j
+  position_before j h =
+      unowing_word (dropped s front x later) w unowing_later placed_after j (omega arith)
       ∙ before_links s.settings.base s.settings.dimensions x.value x.live (place_after s x later) (place_before s front x later) refl j h
-      ∙ sym (unowing_word (fronted s front x later) v unowing placed-before j (omega arith))
-      ∙ sym (dropFront-position exact pathBefore dropping j (omega arith) (λ d l u e. omega arith))
+      ∙ sym (unowing_word (fronted s front x later) v unowing placed_before j (omega arith))
+      ∙ sym (drop_front-position exact path_before dropping j (omega arith) (λ d l u e. omega arith))
 
-  position-link : (d : ℕ) → d < s.settings.dimensions → Dropped x.cell (link_field d)
-  position-link d h =
-      unowing_link (dropped s front x later) w unowing-later placed-after d h ∙ at (dec_lt d (zeros s x)) (dec_lt d (reached s front x))
+  position_link : (d : ℕ) → d < s.settings.dimensions → Dropped x.cell (link_field d)
+  position_link d h =
+      unowing_link (dropped s front x later) w unowing_later placed_after d h ∙ at (dec_lt d (zeros s x)) (dec_lt d (reached s front x))
     where
       kept : ((i : ℕ) → zeros s x ≤ i → i < reached s front x → d ≡ i → ⊥) →
           settled_link s.settings.base s.settings.dimensions (place_before s front x later) d
           ≡ word_in s.settings.dimensions (written s front x later) x.cell (link_field d)
       kept other =
-          sym (unowing_link (fronted s front x later) v unowing placed-before d h)
-          ∙ sym (dropFront-position exact pathBefore dropping (link_field d) (omega arith) (λ i l u e. other i l u (omega arith)))
+          sym (unowing_link (fronted s front x later) v unowing placed_before d h)
+          ∙ sym (drop_front-position exact path_before dropping (link_field d) (omega arith) (λ i l u e. other i l u (omega arith)))
 
       at : Dec (d < zeros s x) → Dec (d < reached s front x) → settled_link s.settings.base s.settings.dimensions (place_after s x later) d
           ≡ word_in s.settings.dimensions (written s front x later) x.cell (link_field d)
@@ -344,7 +344,7 @@ module _ (s : State) (front : List Node) (x : Node) (later : List Node) (v : Sou
           settled_above s.settings.base s.settings.dimensions (place_after s x later) d (omega arith)
           ∙ sym link.leads
           ∙ sym (unowing_link (fronted s front x later) v unowing (record { found = link.found }) d h)
-          ∙ sym (dropFront-taken exact pathBefore dropping d (omega arith) m)
+          ∙ sym (drop_front-taken exact path_before dropping d (omega arith) m)
       at (no l) (no m) =
           settled_above s.settings.base s.settings.dimensions (place_after s x later) d (omega arith)
           ∙ sym (settled_above s.settings.base s.settings.dimensions (place_before s front x later) d (omega arith))
@@ -352,16 +352,16 @@ module _ (s : State) (front : List Node) (x : Node) (later : List Node) (v : Sou
 
   -- The head
 
-  head-before : (j : ℕ) → j < fields_before_links → Dropped 0 j
-  head-before j h =
-      unowing_word (dropped s front x later) w unowing-later (head_placed (dropped s front x later)) j (omega arith)
+  head_before : (j : ℕ) → j < fields_before_links → Dropped 0 j
+  head_before j h =
+      unowing_word (dropped s front x later) w unowing_later (head_placed (dropped s front x later)) j (omega arith)
       ∙ before_links s.settings.base s.settings.dimensions 0 false (head_place (x ∷ later)) (head_place (front ++ x ∷ later)) refl j h
       ∙ sym (unowing_word (fronted s front x later) v unowing (head_placed (fronted s front x later)) j (omega arith))
-      ∙ sym (dropFront-head exact pathBefore dropping j (omega arith))
+      ∙ sym (drop_front-head exact path_before dropping j (omega arith))
 
   head_link : (d : ℕ) → d < s.settings.dimensions → Dropped 0 (link_field d)
   head_link d h =
-      unowing_link (dropped s front x later) w unowing-later (head_placed (dropped s front x later)) d h
+      unowing_link (dropped s front x later) w unowing_later (head_placed (dropped s front x later)) d h
       ∙ settled_above b D (head_place (x ∷ later)) d (omega arith)
       ∙ at (dec_lt d (zeros s x)) (ℕ_discrete d (zeros s x))
     where
@@ -373,28 +373,28 @@ module _ (s : State) (front : List Node) (x : Node) (later : List Node) (v : Sou
 
       at : Dec (d < zeros s x) → Dec (d ≡ zeros s x) → first_sharing b D 0 d (x ∷ later) ≡ word_in D (written s front x later) 0 (link_field d)
       at (yes l) more =
-          head-link-below b D pos front x later v.ascends d l
+          head_link_below b D pos front x later v.ascends d l
           ∙ sym (settled_above b D (head_place (front ++ x ∷ later)) d (omega arith))
           ∙ sym (unowing_link (fronted s front x later) v unowing (head_placed (fronted s front x later)) d h)
-          ∙ sym (dropFront-head exact pathBefore dropping (link_field d) (omega arith))
+          ∙ sym (drop_front-head exact path_before dropping (link_field d) (omega arith))
       at (no l) (yes e) =
           subst (λ i. first_sharing b D 0 i (x ∷ later) ≡ word_in D (written s front x later) 0 (link_field i)) (sym e)
-          (head-link-at b D pos front x later v.ascends ∙ sym (dropFront-head-at exact pathBefore dropping))
+          (head_link_at b D pos front x later v.ascends ∙ sym (drop_front-head_at exact path_before dropping))
       at (no l) (no ne) =
           let above : zeros s x < d = lt_of_le-ne (omega arith) (λ e. ne (sym e)) in
-          head-link-above b D pos front x later v.ascends d above ∙ sym (dropFront-head-above exact pathBefore dropping d above h)
+          head_link_above b D pos front x later v.ascends d above ∙ sym (drop_front-head_above exact path_before dropping d above h)
 
   -- Every cell
 
-  cell-dropped : (y j : ℕ) → y < s.settings.cells → j < cell_words s.settings.dimensions → Dropped y j
-  cell-dropped y j h k = at (ℕ_discrete y 0) (ℕ_discrete y x.cell) (dec_lt 0 (occurrences y (map (λ z. z.cell) front)))
+  cell_dropped : (y j : ℕ) → y < s.settings.cells → j < cell_words s.settings.dimensions → Dropped y j
+  cell_dropped y j h k = at (ℕ_discrete y 0) (ℕ_discrete y x.cell) (dec_lt 0 (occurrences y (map (λ z. z.cell) front)))
     where
       at : Dec (y ≡ 0) → Dec (y ≡ x.cell) → Dec (0 < occurrences y (map (λ z. z.cell) front)) → Dropped y j
-      at (yes e) other freed = subst (λ c. Dropped c j) (sym e) (field_cases (Dropped 0) s.settings.dimensions head-before head_link j k)
-      at (no ne) (yes e) freed = subst (λ c. Dropped c j) (sym e) (field_cases (Dropped x.cell) s.settings.dimensions position-before position-link j k)
-      at (no ne) (no other) (yes freed) = freed-dropped y j h k freed
-      at (no ne) (no other) (no kept) = other-dropped y j h k ne other (occurrences_none y (map (λ z. z.cell) front) (omega arith))
+      at (yes e) other freed = subst (λ c. Dropped c j) (sym e) (field_cases (Dropped 0) s.settings.dimensions head_before head_link j k)
+      at (no ne) (yes e) freed = subst (λ c. Dropped c j) (sym e) (field_cases (Dropped x.cell) s.settings.dimensions position_before position_link j k)
+      at (no ne) (no other) (yes freed) = freed_dropped y j h k freed
+      at (no ne) (no other) (no kept) = other_dropped y j h k ne other (occurrences_none y (map (λ z. z.cell) front) (omega arith))
 
   -- The operations 6: the picture of the state with the front dropped
-  pub dropped-words : picture (dropped s front x later) ≡ written s front x later
-  dropped-words = words_equal (picture_exact (dropped s front x later)) (exact-dropped exact pathBefore dropping) header-dropped path-dropped cell-dropped
+  pub dropped_words : picture (dropped s front x later) ≡ written s front x later
+  dropped_words = words_equal (picture_exact (dropped s front x later)) (exact_dropped exact path_before dropping) header_dropped path_dropped cell_dropped

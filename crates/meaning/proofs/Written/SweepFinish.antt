@@ -24,9 +24,9 @@ use Rattle.meaning.proofs.Rows.Places.{on_cell, on_cell-cases}
 use Rattle.meaning.proofs.Kept.KeepsState.{changed_sound}
 use Rattle.meaning.proofs.Kept.KeepsFinish.{finished_sound}
 use Rattle.meaning.proofs.Kept.KeepsSweep.{paid_all_keeping}
-use Rattle.meaning.proofs.Cells.Placed.{free-cell-rest}
+use Rattle.meaning.proofs.Cells.Placed.{free_cell_rest}
 use Rattle.meaning.proofs.Cells.Stores.{finish_words-none}
-use Rattle.meaning.proofs.Written.FinishWords.{finish-words}
+use Rattle.meaning.proofs.Written.FinishWords.{finish_words_lem}
 
 -- One cell
 
@@ -45,14 +45,14 @@ finish_cell s v x below = at (dec_lt 0 (occurrences x (0 ∷ cells)))
     cells = map (λ y. y.cell) s.row
 
     at : Dec (0 < occurrences x (0 ∷ cells)) → finish_words s.settings.dimensions (picture s) x ≡ picture (with_row s (finished x s.row))
-    at (yes stands) = sym (finish-words s v x stands)
+    at (yes stands) = sym (finish_words_lem s v x stands)
     at (no free) =
         let others = occurrences_none x (0 ∷ cells) (omega arith) in
         let apart = subst (All (λ c. x ≡ c → ⊥)) (sym (places_cells s.settings.base s.settings.dimensions s.row)) others in
         let unfound : place_of x (places_of s s.row) ≡ none =
         place_none x (places_of s s.row) (all_map (λ p ne e. ne (sym e)) (places_of s s.row)
         (all_of_map (λ c. x ≡ c → ⊥) (λ p. p.node.cell) (places_of s s.row) apart)) in
-        finish_words-none s.settings.dimensions (picture s) x (free-cell-rest s x below unfound 3 (omega arith) (omega arith))
+        finish_words-none s.settings.dimensions (picture s) x (free_cell_rest s x below unfound 3 (omega arith) (omega arith))
         ∙ ap (λ row. picture (with_row s row)) (sym (finished_none x s.row (all_of_map (λ c. x ≡ c → ⊥) (λ y. y.cell) s.row others.1)))
 
 -- Cell after cell

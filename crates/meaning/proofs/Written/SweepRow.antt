@@ -13,31 +13,31 @@ use Rattle.meaning.specs.Row.{Node, head_node, first_sharing, Place}
 use Rattle.meaning.proofs.Rows.AscendingRow.{Asc}
 use Rattle.meaning.proofs.Rows.Keys.{ultra}
 use Rattle.meaning.proofs.Rows.Places.{asc_left, asc_smaller, asc_larger, last_from, asc_right}
-use Rattle.meaning.proofs.Rows.Parent.{dimension_after, Apart, ParentPlace, asc_last, last_least, apart_left, sharing-skips, sharing-hits}
-use Rattle.meaning.proofs.Rows.Parent.{sharing-alike, sharing-above}
-use Rattle.meaning.proofs.Paths.Path.{PathLink, path-link, parent-shares}
+use Rattle.meaning.proofs.Rows.Parent.{dimension_after, Apart, ParentPlace, asc_last, last_least, apart_left, sharing_skips, sharing_hits}
+use Rattle.meaning.proofs.Rows.Parent.{sharing_alike, sharing_above}
+use Rattle.meaning.proofs.Paths.Path.{PathLink, path_link, parent_shares}
 use Rattle.meaning.proofs.Paths.PathNext.{last_snoc}
 
 -- Links to what comes after x, and of the head
 
 module _ (b D : ℕ) (pos : 0 < b) (front : List Node) (x : Node) (later : List Node) (asc : Asc 0 (front ++ x ∷ later)) where
-  front-shares : All (λ y. shared b D 0 x.key ≤ shared b D 0 y.key) front
-  front-shares = all_map (λ y h. omega (arith, ultra b D 0 y.key x.key pos (omega arith) (omega arith))) front (asc_smaller 0 front x later asc)
+  front_shares : All (λ y. shared b D 0 x.key ≤ shared b D 0 y.key) front
+  front_shares = all_map (λ y h. omega (arith, ultra b D 0 y.key x.key pos (omega arith) (omega arith))) front (asc_smaller 0 front x later asc)
 
   -- The head's links
 
-  pub head-link-below : (d : ℕ) → d < shared b D 0 x.key → first_sharing b D 0 d (x ∷ later) ≡ first_sharing b D 0 d (front ++ x ∷ later)
-  head-link-below d h = sym (sharing-skips b D 0 d front (x ∷ later) (all_map (λ y g e. omega arith) front front-shares))
+  pub head_link_below : (d : ℕ) → d < shared b D 0 x.key → first_sharing b D 0 d (x ∷ later) ≡ first_sharing b D 0 d (front ++ x ∷ later)
+  head_link_below d h = sym (sharing_skips b D 0 d front (x ∷ later) (all_map (λ y g e. omega arith) front front_shares))
 
-  pub head-link-at : first_sharing b D 0 (shared b D 0 x.key) (x ∷ later) ≡ x.cell
-  head-link-at = sharing-hits b D 0 (shared b D 0 x.key) x later refl
+  pub head_link_at : first_sharing b D 0 (shared b D 0 x.key) (x ∷ later) ≡ x.cell
+  head_link_at = sharing_hits b D 0 (shared b D 0 x.key) x later refl
 
-  pub head-link-above : (d : ℕ) → shared b D 0 x.key < d → first_sharing b D 0 d (x ∷ later) ≡ 0
-  head-link-above d h = sharing-above b D pos 0 d x later (omega arith) (asc_right 0 front (x ∷ later) asc).1 h
+  pub head_link_above : (d : ℕ) → shared b D 0 x.key < d → first_sharing b D 0 d (x ∷ later) ≡ 0
+  head_link_above d h = sharing_above b D pos 0 d x later (omega arith) (asc_right 0 front (x ∷ later) asc).1 h
 
   -- x's dimension becomes what it shares with the head
-  pub dimension-falls : shared b D 0 x.key ≤ dimension_after b D head_node front x.key
-  dimension-falls =
+  pub dimension_falls : shared b D 0 x.key ≤ dimension_after b D head_node front x.key
+  dimension_falls =
       let least = last_least head_node front (asc_left 0 front (x ∷ later) asc) in
       let less = (asc_last head_node front (x ∷ later) asc).0 in
       omega (arith, ultra b D 0 (last_from head_node front).key x.key pos least (omega arith))
@@ -56,11 +56,11 @@ path_shifts b D pos deep front x later d asc apart h =
     let up : Asc 0 up_to = asc_left 0 up_to later (subst (Asc 0) (sym row) asc) in
     let others : Apart (head_node ∷ up_to) = apart_left (head_node ∷ up_to) later (subst (λ r. Apart (head_node ∷ r)) (sym row) apart) in
     subst₂ (λ r y. PathLink b D r y.key d (first_sharing b D x.key d later)) row last
-    (path-link b D pos deep up_to later d (first_sharing b D x.key d later) up others h (λ p at. alike p (subst (λ y. ParentPlace b D d y later p) last at)))
+    (path_link b D pos deep up_to later d (first_sharing b D x.key d later) up others h (λ p at. alike p (subst (λ y. ParentPlace b D d y later p) last at)))
   where
     alike : (p : Place) → ParentPlace b D d x later p → first_sharing b D p.node.key d later ≡ first_sharing b D x.key d later
     alike p at =
-        sharing-alike b D p.node.key x.key d later
-        (all_map (λ y k. let shares = at.shares in let u = parent-shares b D pos deep d x later p at y.key (omega arith) in
+        sharing_alike b D p.node.key x.key d later
+        (all_map (λ y k. let shares = at.shares in let u = parent_shares b D pos deep d x later p at y.key (omega arith) in
         (λ e. omega arith, λ e. omega arith))
         later (asc_larger 0 front x later asc))

@@ -20,7 +20,7 @@ use Rattle.meaning.specs.Layer.Paths.{onward}
 use Rattle.meaning.specs.Layer.Stores.{store}
 use Rattle.meaning.specs.Layer.SweepStores.{take_links, relink_head, free_cell, free_all, drop_front}
 use Rattle.meaning.proofs.Cells.Stores.{Exact, word_in, exact_set, exact_sets, header_set_same, header_set_word, store_same, store_other, store_below}
-use Rattle.meaning.proofs.Cells.Stores.{cell-sets-inside, cell_sets_before, cell_sets_other, cell_sets_below, path_sets_header, path_sets_path}
+use Rattle.meaning.proofs.Cells.Stores.{cell_sets_inside, cell_sets_before, cell_sets_other, cell_sets_below, path_sets_header, path_sets_path}
 use Rattle.meaning.proofs.Cells.Stores.{path_sets_word}
 use Rattle.meaning.proofs.Paths.Path.{onward_length, onward_front, onward_back}
 
@@ -100,13 +100,13 @@ module _ {D C : ℕ} {ws : List ℕ} (exact : Exact D C ws) (some : 0 < C) (x z 
   unfolding relink_head
   relinked k h =
       let size = length-replicate {A = ℕ} (D - suc z) 0 in
-      cell-sets-inside exact 0 (link_field z) (x ∷ replicate (D - suc z) 0) some (omega arith) k (omega arith)
+      cell_sets_inside exact 0 (link_field z) (x ∷ replicate (D - suc z) 0) some (omega arith) k (omega arith)
 
-  pub relinkHead-at : word_in D (relink_head D ws x z) 0 (link_field z) ≡ x
-  relinkHead-at = ap (λ j. word_in D (relink_head D ws x z) 0 j) (sym (add-zero (link_field z))) ∙ relinked 0 (omega arith)
+  pub relink_head-at : word_in D (relink_head D ws x z) 0 (link_field z) ≡ x
+  relink_head-at = ap (λ j. word_in D (relink_head D ws x z) 0 j) (sym (add-zero (link_field z))) ∙ relinked 0 (omega arith)
 
-  pub relinkHead-above : (d : ℕ) → z < d → d < D → word_in D (relink_head D ws x z) 0 (link_field d) ≡ 0
-  relinkHead-above d h k =
+  pub relink_head-above : (d : ℕ) → z < d → d < D → word_in D (relink_head D ws x z) 0 (link_field d) ≡ 0
+  relink_head-above d h k =
       let there : link_field d ≡ link_field z + suc (d - suc z) = omega arith in
       ap (λ j. word_in D (relink_head D ws x z) 0 j) there ∙ relinked (suc (d - suc z)) (omega arith)
       ∙ get_or-replicate {A = ℕ} (D - suc z) (d - suc z) 0 0 (omega arith)
@@ -140,7 +140,7 @@ free_cell-own {D} {C} {ws} exact x h j k =
     let size = free_words-length D (first_free_at ws) in
     header_set_word D (sets ws (word_index D x 0) words) 4 x x j (omega arith)
     ∙ ap (λ i. word_in D (sets ws (word_index D x 0) words) x i) (omega arith)
-    ∙ cell-sets-inside exact x 0 words h (omega arith) j (omega arith)
+    ∙ cell_sets_inside exact x 0 words h (omega arith) j (omega arith)
 
 pub free_cell-cell : (D : ℕ) (ws : List ℕ) (x y j : ℕ) → j < cell_words D → (y ≡ x → ⊥) → word_in D (free_cell D ws x) y j ≡ word_in D ws y j
 unfolding free_cell
@@ -217,122 +217,122 @@ module _ {D C : ℕ} {ws : List ℕ} (exact : Exact D C ws) {x number z : ℕ} {
   abbrev taken : List ℕ
   taken = take_links D ws x path z (number - z)
 
-  abbrev relinkedWords : List ℕ
-  relinkedWords = relink_head D taken x z
+  abbrev relinked_words : List ℕ
+  relinked_words = relink_head D taken x z
 
-  exact-links : Exact D C taken
-  exact-links = exact_taken exact x path z (number - z)
+  exact_links : Exact D C taken
+  exact_links = exact_taken exact x path z (number - z)
 
-  exact-head : Exact D C relinkedWords
-  exact-head = exact_relinked exact-links x z
+  exact_head : Exact D C relinked_words
+  exact_head = exact_relinked exact_links x z
 
-  exact-all : Exact D C (free_all D relinkedWords between)
-  exact-all = exact_freed_all exact-head between
+  exact_all : Exact D C (free_all D relinked_words between)
+  exact_all = exact_freed_all exact_head between
 
-  head-path : length (onward D (replicate D 0) z x) ≡ D
-  head-path = onward_length D (replicate D 0) z x (length-replicate {A = ℕ} D 0) (let h = drop.inside in omega arith)
+  head_path : length (onward D (replicate D 0) z x) ≡ D
+  head_path = onward_length D (replicate D 0) z x (length-replicate {A = ℕ} D 0) (let h = drop.inside in omega arith)
 
-  pub exact-dropped : Exact D C (drop_front D ws x number path z between)
+  pub exact_dropped : Exact D C (drop_front D ws x number path z between)
   unfolding drop_front
-  exact-dropped = exact_sets exact-all header_words (onward D (replicate D 0) z x)
+  exact_dropped = exact_sets exact_all header_words (onward D (replicate D 0) z x)
 
-  pub dropFront-header : (i : ℕ) → i < 4 → get_or (drop_front D ws x number path z between) i 0 ≡ get_or ws i 0
+  pub drop_front-header : (i : ℕ) → i < 4 → get_or (drop_front D ws x number path z between) i 0 ≡ get_or ws i 0
   unfolding drop_front
-  dropFront-header i h =
-      path_sets_header (free_all D relinkedWords between) (onward D (replicate D 0) z x) i (omega arith)
-      ∙ free_all-below D relinkedWords between i (omega arith) (λ e. omega arith)
+  drop_front-header i h =
+      path_sets_header (free_all D relinked_words between) (onward D (replicate D 0) z x) i (omega arith)
+      ∙ free_all-below D relinked_words between i (omega arith) (λ e. omega arith)
       ∙ relink_head-below D taken x z i (omega arith)
       ∙ take_links-below D ws x path z (number - z) i (omega arith)
 
-  pub dropFront-first : (free : List ℕ) → first_free_at ws ≡ first_number free →
+  pub drop_front-first : (free : List ℕ) → first_free_at ws ≡ first_number free →
       get_or (drop_front D ws x number path z between) 4 0 ≡ first_number (reverse_aux between free)
   unfolding drop_front
-  dropFront-first free e =
-      path_sets_header (free_all D relinkedWords between) (onward D (replicate D 0) z x) 4 (omega arith)
-      ∙ free_all-first exact-head between free (relink_head-below D taken x z 4 (omega arith) ∙ take_links-below D ws x path z (number - z) 4 (omega arith) ∙ e)
+  drop_front-first free e =
+      path_sets_header (free_all D relinked_words between) (onward D (replicate D 0) z x) 4 (omega arith)
+      ∙ free_all-first exact_head between free (relink_head-below D taken x z 4 (omega arith) ∙ take_links-below D ws x path z (number - z) 4 (omega arith) ∙ e)
 
   -- the path: the head below z, the new position from there on
-  pub dropFront-path-head : (d : ℕ) → d < z → get_or (drop_front D ws x number path z between) (header_words + d) 0 ≡ 0
+  pub drop_front-path_head : (d : ℕ) → d < z → get_or (drop_front D ws x number path z between) (header_words + d) 0 ≡ 0
   unfolding drop_front
-  dropFront-path-head d h =
+  drop_front-path_head d h =
       let inside = drop.inside in
-      path_sets_path exact-all (onward D (replicate D 0) z x) head-path d (omega arith)
+      path_sets_path exact_all (onward D (replicate D 0) z x) head_path d (omega arith)
       ∙ onward_front D (replicate D 0) z x d (length-replicate {A = ℕ} D 0) (omega arith) h
       ∙ get_or-replicate {A = ℕ} D d 0 0 (omega arith)
 
-  pub dropFront-path-position : (d : ℕ) → z ≤ d → d < D → get_or (drop_front D ws x number path z between) (header_words + d) 0 ≡ x
+  pub drop_front-path_position : (d : ℕ) → z ≤ d → d < D → get_or (drop_front D ws x number path z between) (header_words + d) 0 ≡ x
   unfolding drop_front
-  dropFront-path-position d h k =
-      path_sets_path exact-all (onward D (replicate D 0) z x) head-path d k
+  drop_front-path_position d h k =
+      path_sets_path exact_all (onward D (replicate D 0) z x) head_path d k
       ∙ onward_back D (replicate D 0) z x d (length-replicate {A = ℕ} D 0) h k
 
   -- a cell's words after all, if it is not freed
-  dropped-word : (y j : ℕ) → j < cell_words D → All (λ c. y ≡ c → ⊥) between → word_in D (drop_front D ws x number path z between) y j ≡ word_in D relinkedWords y j
+  dropped_word : (y j : ℕ) → j < cell_words D → All (λ c. y ≡ c → ⊥) between → word_in D (drop_front D ws x number path z between) y j ≡ word_in D relinked_words y j
   unfolding drop_front
-  dropped-word y j h a = path_sets_word D (free_all D relinkedWords between) (onward D (replicate D 0) z x) head-path y j
-      ∙ free_all-cell D relinkedWords between y j h a
+  dropped_word y j h a = path_sets_word D (free_all D relinked_words between) (onward D (replicate D 0) z x) head_path y j
+      ∙ free_all-cell D relinked_words between y j h a
 
   -- every cell but the head, the new position and those freed
-  pub dropFront-other : (y j : ℕ) → j < cell_words D → (y ≡ 0 → ⊥) → (y ≡ x → ⊥) → All (λ c. y ≡ c → ⊥) between →
+  pub drop_front-other : (y j : ℕ) → j < cell_words D → (y ≡ 0 → ⊥) → (y ≡ x → ⊥) → All (λ c. y ≡ c → ⊥) between →
       word_in D (drop_front D ws x number path z between) y j ≡ word_in D ws y j
-  dropFront-other y j h not_head not-x a =
+  drop_front-other y j h not_head not-x a =
       let falls = drop.falls in
       let least = drop.least in
-      dropped-word y j h a
+      dropped_word y j h a
       ∙ relink_head-cell D taken x z drop.inside y j h not_head
       ∙ take_links-other D ws x path z (number - z) (omega arith) y j h (λ e. absurd (not-x e))
 
   -- the new position: links from z up to its old dimension are those of the cells on its path, all else is as before
-  position-word : (j : ℕ) → j < cell_words D → word_in D (drop_front D ws x number path z between) x j ≡ word_in D taken x j
-  position-word j h =
+  position_word : (j : ℕ) → j < cell_words D → word_in D (drop_front D ws x number path z between) x j ≡ word_in D taken x j
+  position_word j h =
       let standing = drop.standing in
-      dropped-word x j h drop.apart ∙ relink_head-cell D taken x z drop.inside x j h (λ e. omega arith)
+      dropped_word x j h drop.apart ∙ relink_head-cell D taken x z drop.inside x j h (λ e. omega arith)
 
-  pub dropFront-taken : (d : ℕ) → z ≤ d → d < number → word_in D (drop_front D ws x number path z between) x (link_field d)
+  pub drop_front-taken : (d : ℕ) → z ≤ d → d < number → word_in D (drop_front D ws x number path z between) x (link_field d)
       ≡ word_in D ws (get_or path d 0) (link_field d)
-  dropFront-taken d h k =
+  drop_front-taken d h k =
       let least = drop.least in
-      position-word (link_field d) (omega arith)
+      position_word (link_field d) (omega arith)
       ∙ take_links-taken exact x path z (number - z) drop.cell (omega arith) d h (omega arith)
 
-  pub dropFront-position : (j : ℕ) → j < cell_words D → ((d : ℕ) → z ≤ d → d < number → j ≡ link_field d → ⊥) →
+  pub drop_front-position : (j : ℕ) → j < cell_words D → ((d : ℕ) → z ≤ d → d < number → j ≡ link_field d → ⊥) →
       word_in D (drop_front D ws x number path z between) x j ≡ word_in D ws x j
-  dropFront-position j h other =
+  drop_front-position j h other =
       let falls = drop.falls in
       let least = drop.least in
-      position-word j h ∙ take_links-other D ws x path z (number - z) (omega arith) x j h (λ e d l u. other d l (omega arith))
+      position_word j h ∙ take_links-other D ws x path z (number - z) (omega arith) x j h (λ e d l u. other d l (omega arith))
 
   -- the head: link z leads to the new position, the higher ones nowhere, all else is as before
-  head-word : (j : ℕ) → j < cell_words D → word_in D (drop_front D ws x number path z between) 0 j ≡ word_in D relinkedWords 0 j
-  head-word j h = dropped-word 0 j h (all_map (λ c r e. let above = r.0 in omega arith) between drop.range)
+  head_word : (j : ℕ) → j < cell_words D → word_in D (drop_front D ws x number path z between) 0 j ≡ word_in D relinked_words 0 j
+  head_word j h = dropped_word 0 j h (all_map (λ c r e. let above = r.0 in omega arith) between drop.range)
 
-  pub dropFront-head : (j : ℕ) → j < link_field z → word_in D (drop_front D ws x number path z between) 0 j ≡ word_in D ws 0 j
-  dropFront-head j h =
+  pub drop_front-head : (j : ℕ) → j < link_field z → word_in D (drop_front D ws x number path z between) 0 j ≡ word_in D ws 0 j
+  drop_front-head j h =
       let inside = drop.inside in
       let falls = drop.falls in
       let least = drop.least in
       let standing = drop.standing in
-      head-word j (omega arith)
+      head_word j (omega arith)
       ∙ relink_head-before D taken x z j h
       ∙ take_links-other D ws x path z (number - z) (omega arith) 0 j (omega arith) (λ e. absurd (omega arith))
 
-  pub dropFront-head-at : word_in D (drop_front D ws x number path z between) 0 (link_field z) ≡ x
-  dropFront-head-at =
+  pub drop_front-head_at : word_in D (drop_front D ws x number path z between) 0 (link_field z) ≡ x
+  drop_front-head_at =
       let inside = drop.inside in
       let cell = drop.cell in
-      head-word (link_field z) (omega arith) ∙ relinkHead-at exact-links (omega arith) x z inside
+      head_word (link_field z) (omega arith) ∙ relink_head-at exact_links (omega arith) x z inside
 
-  pub dropFront-head-above : (d : ℕ) → z < d → d < D → word_in D (drop_front D ws x number path z between) 0 (link_field d) ≡ 0
-  dropFront-head-above d h k =
+  pub drop_front-head_above : (d : ℕ) → z < d → d < D → word_in D (drop_front D ws x number path z between) 0 (link_field d) ≡ 0
+  drop_front-head_above d h k =
       let cell = drop.cell in
-      head-word (link_field d) (omega arith) ∙ relinkHead-above exact-links (omega arith) x z drop.inside d h k
+      head_word (link_field d) (omega arith) ∙ relink_head-above exact_links (omega arith) x z drop.inside d h k
 
   -- each freed cell
-  pub dropFront-freed : (free : List ℕ) → first_free_at ws ≡ first_number free →
+  pub drop_front-freed : (free : List ℕ) → first_free_at ws ≡ first_number free →
       All (λ y. (j : ℕ) → j < cell_words D → word_in D (drop_front D ws x number path z between) y j
       ≡ get_or (free_words D (next_free y (reverse_aux between free))) j 0) between
   unfolding drop_front
-  dropFront-freed free e =
-      all_map (λ y own j h. path_sets_word D (free_all D relinkedWords between) (onward D (replicate D 0) z x) head-path y j ∙ own j h) between
-      (free_all-own exact-head between free drop.distinct (all_map (λ y r. r.1) between drop.range)
+  drop_front-freed free e =
+      all_map (λ y own j h. path_sets_word D (free_all D relinked_words between) (onward D (replicate D 0) z x) head_path y j ∙ own j h) between
+      (free_all-own exact_head between free drop.distinct (all_map (λ y r. r.1) between drop.range)
       (relink_head-below D taken x z 4 (omega arith) ∙ take_links-below D ws x path z (number - z) 4 (omega arith) ∙ e))

@@ -20,10 +20,10 @@ use Rattle.meaning.proofs.Pictures.State.{Sound}
 use Rattle.meaning.proofs.Rows.Places.{Located, cells_changed}
 use Rattle.meaning.proofs.Kept.KeepsState.{position_cases, position_node, last_split, last_alone-is}
 use Rattle.meaning.proofs.Kept.KeepsSweep.{kept_by, swept_split, kept_all, front_all, swept_sound, paid_all_keeping}
-use Rattle.meaning.proofs.Paths.PathNext.{dimension-is}
+use Rattle.meaning.proofs.Paths.PathNext.{dimension_is}
 use Rattle.meaning.proofs.Written.SweepFinish.{paid_unowing, paid_owes_nothing}
 use Rattle.meaning.proofs.Written.SweepStores.{Dropping}
-use Rattle.meaning.proofs.Written.SweepDrop.{fronted, dropped, reached, dropping, dropped-words}
+use Rattle.meaning.proofs.Written.SweepDrop.{fronted, dropped, reached, dropping, dropped_words}
 
 -- The new position
 
@@ -64,34 +64,34 @@ unowing_after s unowing ne =
     }) kept
 
 module _ (s : State) (v : Sound s) (unowing : All (λ x. x.owes ≡ false) s.row) (ne : (last_of (dead_front s.row)).cell ≡ 0 → ⊥) where
-  sound-before : Sound (fronted s (freed_by s.row) (last_of (dead_front s.row)) (from_live s.row))
-  sound-before = subst (λ row. Sound (with_row s row)) (swept_front s.row ne) v
+  sound_before : Sound (fronted s (freed_by s.row) (last_of (dead_front s.row)) (from_live s.row))
+  sound_before = subst (λ row. Sound (with_row s row)) (swept_front s.row ne) v
 
-  sound-after : Sound (dropped s (freed_by s.row) (last_of (dead_front s.row)) (from_live s.row))
-  sound-after = subst Sound (unowing_after s unowing ne) (swept_sound s v)
+  sound_after : Sound (dropped s (freed_by s.row) (last_of (dead_front s.row)) (from_live s.row))
+  sound_after = subst Sound (unowing_after s unowing ne) (swept_sound s v)
 
-  unowing-before : All (λ x. x.owes ≡ false) (freed_by s.row ++ last_of (dead_front s.row) ∷ from_live s.row)
-  unowing-before = subst (All (λ y. y.owes ≡ false)) (swept_front s.row ne) unowing
+  unowing_before : All (λ x. x.owes ≡ false) (freed_by s.row ++ last_of (dead_front s.row) ∷ from_live s.row)
+  unowing_before = subst (All (λ y. y.owes ≡ false)) (swept_front s.row ne) unowing
 
   number_is : swept_number s ≡ reached s (freed_by s.row) (last_of (dead_front s.row))
-  number_is = dimension-is s v (freed_by s.row) (last_of (dead_front s.row)) (from_live s.row) (swept_front s.row ne)
+  number_is = dimension_is s v (freed_by s.row) (last_of (dead_front s.row)) (from_live s.row) (swept_front s.row ne)
 
   -- the numbers fit
-  pub swept-dropping :
+  pub swept_dropping :
       Dropping s.settings.dimensions s.settings.cells (last_of (dead_front s.row)).cell (swept_number s) (swept_zeros s)
       (map (λ x. x.cell) (freed_by s.row))
-  swept-dropping =
-      rw number_is (dropping s (freed_by s.row) (last_of (dead_front s.row)) (from_live s.row) sound-before sound-after unowing-before)
+  swept_dropping =
+      rw number_is (dropping s (freed_by s.row) (last_of (dead_front s.row)) (from_live s.row) sound_before sound_after unowing_before)
 
-  pub unowing-swept :
+  pub unowing_swept :
       picture (swept s)
       ≡ drop_front s.settings.dimensions (picture s) (last_of (dead_front s.row)).cell (swept_number s) (swept_path s) (swept_zeros s)
       (map (λ x. x.cell) (freed_by s.row))
-  unowing-swept =
+  unowing_swept =
       let x = last_of (dead_front s.row) in
       let cells = map (λ y. y.cell) (freed_by s.row) in
       ap picture (unowing_after s unowing ne)
-      ∙ dropped-words s (freed_by s.row) x (from_live s.row) sound-before sound-after unowing-before
+      ∙ dropped_words s (freed_by s.row) x (from_live s.row) sound_before sound_after unowing_before
       ∙ ap₂ (λ row number. drop_front s.settings.dimensions (picture (with_row s row)) x.cell number
       (path_for s.settings.base s.settings.dimensions row x.key) (swept_zeros s) cells)
       (sym (swept_front s.row ne)) (sym number_is)

@@ -18,14 +18,14 @@ use Rattle.meaning.specs.Layer.Stores.{write_path, write_node}
 use Rattle.meaning.proofs.Pictures.State.{Sound}
 use Rattle.meaning.proofs.Pictures.Picture.{path_length}
 use Rattle.meaning.proofs.Rows.Places.{Keeping, on_cell, on_cell-cases, cells_changed, keys_changed}
-use Rattle.meaning.proofs.Cells.Placed.{Placed, placed-cell, occurs_placed, placed_below}
+use Rattle.meaning.proofs.Cells.Placed.{Placed, placed_cell, occurs_placed, placed_below}
 use Rattle.meaning.proofs.Kept.KeepsState.{cell_stands, changed_state, live_split}
 use Rattle.meaning.proofs.Kept.KeepsTake.{dead_keeping}
 use Rattle.meaning.proofs.Rows.Nodes.{node_split}
-use Rattle.meaning.proofs.Kept.KeepsInsert.{revived-keeping}
-use Rattle.meaning.proofs.Cells.Stores.{word_in, picture_exact, words_equal, exact_sets, cell-sets-inside, cell_sets_before, cell_sets_after}
+use Rattle.meaning.proofs.Kept.KeepsInsert.{revived_keeping}
+use Rattle.meaning.proofs.Cells.Stores.{word_in, picture_exact, words_equal, exact_sets, cell_sets_inside, cell_sets_before, cell_sets_after}
 use Rattle.meaning.proofs.Cells.Stores.{cell_sets_other, cell_sets_below, path_sets_header, path_sets_path, path_sets_word, path_sets_same}
-use Rattle.meaning.proofs.Cells.Changed.{path-unmoved, picture_path_word, words_by, placed_word, changed-word, changed-free, changed-header}
+use Rattle.meaning.proofs.Cells.Changed.{path_unmoved, picture_path_word, words_by, placed_word, changed_word, changed_free, changed_header}
 
 -- value and mark stand in words 1 and 2 alone
 values_apart : (b D : ℕ) (value : ℕ) (live : Bool) (other : ℕ) (marked : Bool) (led owes : Bool) (q : Place) (j : ℕ) → 3 ≤ j →
@@ -49,48 +49,48 @@ module _ {s : State} (v : Sound s) {c : ℕ} {p : Place} (here : Placed s c p) (
   abbrev after : State
   after = changed_state s (on_cell c g) position
 
-  owes-kept : (y : Node) → (on_cell c g y).owes ≡ y.owes
-  owes-kept y = on_cell-cases (λ z. z.owes ≡ y.owes) c g y (λ e. debts y) (λ ne. refl)
+  owes_kept : (y : Node) → (on_cell c g y).owes ≡ y.owes
+  owes_kept y = on_cell-cases (λ z. z.owes ≡ y.owes) c g y (λ e. debts y) (λ ne. refl)
 
   -- a standing cell's words afterwards: links stay
-  written-word : {x : ℕ} {q : Place} → Placed s x q → (j : ℕ) → j < cell_words D →
+  written_word : {x : ℕ} {q : Place} → Placed s x q → (j : ℕ) → j < cell_words D →
       word_in D (picture after) x j ≡ get_or (words_by b D (on_cell c g q.node).value (on_cell c g q.node).live q.before.owes q.node.owes q) j 0
-  written-word {x} {q} there j h =
-      changed-word s (on_cell c g) keeping position there j (placed_below v there) h
-      ∙ ap₂ (λ led owes. get_or (words_by b D (on_cell c g q.node).value (on_cell c g q.node).live led owes q) j 0) (owes-kept q.before)
-      (owes-kept q.node)
+  written_word {x} {q} there j h =
+      changed_word s (on_cell c g) keeping position there j (placed_below v there) h
+      ∙ ap₂ (λ led owes. get_or (words_by b D (on_cell c g q.node).value (on_cell c g q.node).live led owes q) j 0) (owes_kept q.before)
+      (owes_kept q.node)
 
   -- another cell's words stay
-  other-kept : (x j : ℕ) → x < s.settings.cells → j < cell_words D → (x ≡ c → ⊥) → word_in D (picture after) x j ≡ word_in D (picture s) x j
-  other-kept x j h k ne = at (place_of x (places_of s s.row)) refl
+  other_kept : (x j : ℕ) → x < s.settings.cells → j < cell_words D → (x ≡ c → ⊥) → word_in D (picture after) x j ≡ word_in D (picture s) x j
+  other_kept x j h k ne = at (place_of x (places_of s s.row)) refl
     where
       at : (o : Option Place) → place_of x (places_of s s.row) ≡ o → word_in D (picture after) x j ≡ word_in D (picture s) x j
-      at none e = changed-free s (on_cell c g) keeping position x e j h k
+      at none e = changed_free s (on_cell c g) keeping position x e j h k
       at (some q) e =
           let there : Placed s x q = record { found = e } in
-          let same : on_cell c g q.node ≡ q.node = on_cell-cases (λ z. z ≡ q.node) c g q.node (λ f. absurd (ne (sym (placed-cell there) ∙ f)))
+          let same : on_cell c g q.node ≡ q.node = on_cell-cases (λ z. z ≡ q.node) c g q.node (λ f. absurd (ne (sym (placed_cell there) ∙ f)))
           (λ f. refl) in
-          written-word there j k
+          written_word there j k
           ∙ ap (λ y. get_or (words_by b D y.value y.live q.before.owes q.node.owes q) j 0) same
           ∙ sym (placed_word s there j h k)
 
   -- the words of c
   own_after : (j : ℕ) → j < cell_words D → word_in D (picture after) c j ≡ get_or (words_by b D value live p.before.owes p.node.owes p) j 0
   own_after j h =
-      let new : on_cell c g p.node ≡ g p.node = on_cell-cases (λ z. z ≡ g p.node) c g p.node (λ e. refl) (λ ne. absurd (ne (placed-cell here))) in
-      written-word here j h
+      let new : on_cell c g p.node ≡ g p.node = on_cell-cases (λ z. z ≡ g p.node) c g p.node (λ e. refl) (λ ne. absurd (ne (placed_cell here))) in
+      written_word here j h
       ∙ ap₂ (λ a m. get_or (words_by b D a m p.before.owes p.node.owes p) j 0) (ap (λ y. y.value) new ∙ values p.node)
       (ap (λ y. y.live) new ∙ marks p.node)
 
-  own-written : (j : ℕ) → j < cell_words D → word_in D (picture after) c j ≡ word_in D (write_node D (picture s) c value (mark live)) c j
+  own_written : (j : ℕ) → j < cell_words D → word_in D (picture after) c j ≡ word_in D (write_node D (picture s) c value (mark live)) c j
   unfolding words_by
-  own-written zero h =
+  own_written zero h =
       own_after 0 h ∙ sym (placed_word s here 0 (placed_below v here) h) ∙ sym (cell_sets_before D (picture s) c 1 (value ∷ mark live ∷ []) 0 (omega arith))
-  own-written (suc zero) h = own_after 1 h ∙ sym (cell-sets-inside (picture_exact s) c 1 (value ∷ mark live ∷ []) (placed_below v here) (omega arith)
+  own_written (suc zero) h = own_after 1 h ∙ sym (cell_sets_inside (picture_exact s) c 1 (value ∷ mark live ∷ []) (placed_below v here) (omega arith)
       0 (omega arith))
-  own-written (suc (suc zero)) h = own_after 2 h ∙ sym (cell-sets-inside (picture_exact s) c 1 (value ∷ mark live ∷ []) (placed_below v here)
+  own_written (suc (suc zero)) h = own_after 2 h ∙ sym (cell_sets_inside (picture_exact s) c 1 (value ∷ mark live ∷ []) (placed_below v here)
       (omega arith) 1 (omega arith))
-  own-written (suc (suc (suc j))) h =
+  own_written (suc (suc (suc j))) h =
       own_after (suc (suc (suc j))) h
       ∙ values_apart b D value live p.node.value p.node.live p.before.owes p.node.owes p (suc (suc (suc j))) (omega arith)
       ∙ sym (placed_word s here (suc (suc (suc j))) (placed_below v here) h)
@@ -102,21 +102,21 @@ module _ {s : State} (v : Sound s) {c : ℕ} {p : Place} (here : Placed s c p) (
       let exact = exact_sets (picture_exact s) (word_index D c 1) (value ∷ mark live ∷ []) in
       words_equal (picture_exact after) (exact_sets exact header_words (path after))
       (λ i h.
-      changed-header s (on_cell c g) keeping position i h
+      changed_header s (on_cell c g) keeping position i h
       ∙ sym (path_sets_header node (path after) i h ∙ cell_sets_below D (picture s) c 1 (value ∷ mark live ∷ []) i (omega arith)))
       (λ d h. picture_path_word after d h ∙ sym (path_sets_path exact (path after) (path_length after) d h))
       (λ x j h k. at x j h k (ℕ_discrete x c) ∙ sym (path_sets_word D node (path after) (path_length after) x j))
     where
       at : (x j : ℕ) → x < s.settings.cells → j < cell_words D → Dec (x ≡ c) →
           word_in D (picture after) x j ≡ word_in D (write_node D (picture s) c value (mark live)) x j
-      at x j h k (yes e) = subst (λ y. word_in D (picture after) y j ≡ word_in D (write_node D (picture s) c value (mark live)) y j) (sym e) (own-written j k)
-      at x j h k (no ne) = other-kept x j h k ne ∙ sym (cell_sets_other D (picture s) c 1 (value ∷ mark live ∷ []) (omega arith) x j k ne)
+      at x j h k (yes e) = subst (λ y. word_in D (picture after) y j ≡ word_in D (write_node D (picture s) c value (mark live)) y j) (sym e) (own_written j k)
+      at x j h k (no ne) = other_kept x j h k ne ∙ sym (cell_sets_other D (picture s) c 1 (value ∷ mark live ∷ []) (omega arith) x j k ne)
 
 -- The operations 5: what a take writes
-pub taken_words : (s : State) (x : Node) (later : List Node) → Sound s → from_live s.row ≡ x ∷ later →
+pub taken_words_lem : (s : State) (x : Node) (later : List Node) → Sound s → from_live s.row ≡ x ∷ later →
     picture (taken s x) ≡ write_path (write_node s.settings.dimensions (picture s) x.cell 0 2) (path (taken s x))
 unfolding taken
-taken_words s x later v e =
+taken_words_lem s x later v e =
     let (p, here) = occurs_placed s x.cell (cell_stands s (dead_front s.row) x later (live_split s.row x later e)) in
     node_written v here dead_node (dead_keeping x.cell) (λ y. refl) 0 false (λ y. refl) (λ y. refl) x.cell
 
@@ -127,7 +127,7 @@ unfolding revived
 revived_words s x value v e =
     let (pre, post, split) = node_split x.key x s.row e in
     let (p, here) = occurs_placed s x.cell (cell_stands s pre x post split) in
-    node_written v here (revived_node value) (revived-keeping s x value v pre post split) (λ y. refl) value true (λ y. refl) (λ y. refl)
+    node_written v here (revived_node value) (revived_keeping s x value v pre post split) (λ y. refl) value true (λ y. refl) (λ y. refl)
     (revived s x value).position
 
 -- above the position, the path stays
@@ -135,8 +135,8 @@ pub revived_path : (s : State) (x : Node) (value : ℕ) → Sound s → node_at 
 unfolding revived position_after
 revived_path s x value v e h =
     let (pre, post, split) = node_split x.key x s.row e in
-    let keeping = revived-keeping s x value v pre post split in
-    path-unmoved (revived s x value) s refl (rw (lt-leb x.key (position_key s) h) refl)
+    let keeping = revived_keeping s x value v pre post split in
+    path_unmoved (revived s x value) s refl (rw (lt-leb x.key (position_key s) h) refl)
     (cells_changed (on_cell x.cell (revived_node value)) keeping s.row) (keys_changed (on_cell x.cell (revived_node value)) keeping s.row)
 
 pub revived_words_above : (s : State) (x : Node) (value : ℕ) → Sound s → node_at x.key s.row ≡ some x → position_key s < x.key →

@@ -1,0 +1,27 @@
+-- `counted_take` meets its contract: what is refused by 3 or 15, and what `take` does, with the record anew.
+use Rattle.answers.specs.declared.Operation.TheVariants.{Take}
+use Rattle.counted.proofs.Kept.{operation_refused, operation_after, operation_renewed}
+use Rattle.counted.proofs.Outcomes.{agree_length}
+use Rattle.counted.proofs.counted_take.Goals as goal
+
+pub returns-then-pass-ne0 : goal.returns-then-pass-ne0
+returns-then-pass-ne0 c =
+    let a = c.args in
+    operation_refused Take a.list.now a.classes.now c.check-pass.ensures c.if-pass-ne0.true c.refused.ensures
+
+pub take-answer-requires : goal.take-answer-requires
+take-answer-requires c =
+    let agreeing = c.check-pass.ensures.agreeing c.if-pass-ne0.false in
+    agreeing.listed
+
+pub renew-requires : goal.renew-requires
+renew-requires c =
+    let a = c.args in
+    let agreeing = c.check-pass.ensures.agreeing c.if-pass-ne0.false in
+    (operation_after Take a.list.now agreeing.listed c.take-answer.ensures, agree_length a.list.now a.classes.now agreeing.agree)
+
+pub returns : goal.returns
+returns c =
+    let a = c.args in
+    let agreeing = c.check-pass.ensures.agreeing c.if-pass-ne0.false in
+    operation_renewed Take a.list.now a.classes.now agreeing c.take-answer.ensures c.renew.ensures

@@ -1,0 +1,8 @@
+-- `counted_step::answer_line` meets its contract: a line that is told of lies within the bytes.
+use Rattle.counted_step.proofs.answer_line.Goals as goal
+
+pub slice_bounds-reply-end : goal.slice_bounds-reply-end
+slice_bounds-reply-end c = c.requires.1.fits _ c.in-Line.is
+
+pub slice_bounds-parse-end : goal.slice_bounds-parse-end
+slice_bounds-parse-end c = c.requires.1.fits _ c.in-Line.is

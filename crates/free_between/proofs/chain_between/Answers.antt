@@ -1,0 +1,31 @@
+-- `free_between::chain_between` meets its contract: the first cell after the head is the new position, or the first to be chained.
+use Rattle.words.proofs.Listed.{listed_shaped}
+use Rattle.paths.proofs.Listed.{listed_walkable}
+use Rattle.paths.proofs.Ways.{head_starts, way_in}
+use Rattle.free_between.proofs.Ways.{between_none, between_first, between_some}
+use Rattle.free_between.proofs.chain_between.Goals as goal
+
+pub head_path-requires : goal.head_path-requires
+head_path-requires c = (listed_shaped c.requires.listed).dimensions_most
+
+pub next-first-requires : goal.next-first-requires
+next-first-requires c =
+    let h = c.requires.listed in
+    let head = c.head_path.ensures in
+    (listed_walkable h, way_in h head.1 (head_starts h head.0))
+
+pub returns-then-first-position : goal.returns-then-first-position
+returns-then-first-position c =
+    between_none c.requires c.head_path.ensures.0
+    c.next-first.ensures c.if-first-position.true
+
+pub chain_from-count-requires : goal.chain_from-count-requires
+chain_from-count-requires c =
+    between_first c.requires c.head_path.ensures.0
+    c.next-first.ensures c.if-first-position.false
+
+pub returns : goal.returns
+returns c = (
+      c.chain_from-count.ensures,
+      between_some c.requires c.head_path.ensures.0 c.next-first.ensures c.if-first-position.false,
+    )

@@ -1,0 +1,19 @@
+-- `logger_step::note_text` meets its contract: the answer put is that of the record that is told of.
+use mathlib.Core.List.{[]}
+use native.Mathlib.Omega.{arith}
+use Rattle.calls.specs.Records.{lent_of}
+use Rattle.logger_step.proofs.Printed.{told_within, no_record_answered, record_answered}
+use Rattle.logger_step.proofs.note_text.Goals as goal
+
+pub returns-in-NoRecord : goal.returns-in-NoRecord
+returns-in-NoRecord c =
+    let a = c.args in
+    no_record_answered (lent_of a.list.now [] a.last.now) a.out.now c.in-NoRecord.is
+
+pub note-requires : goal.note-requires
+note-requires c = let p = c.requires in (p.0, told_within c.in-Record.is p.1.0)
+
+pub returns-in-Record : goal.returns-in-Record
+returns-in-Record c =
+    let put = c.put_answer.ensures in
+    record_answered put.0 (omega (arith, put.1)) c.in-Record.is c.note.ensures

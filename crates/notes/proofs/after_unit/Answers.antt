@@ -1,0 +1,18 @@
+-- `notes::after_unit` meets its contract: the field is a number in its range, or there is no place after it.
+use mathlib.Core.Path.{sym, ◌∙◌, ap}
+use Rattle.text.specs.declared.fields.Begun.TheVariants.{NoDigit}
+use Rattle.notes.specs.Reader.{past, place_after}
+use Rattle.notes.specs.declared.Place.TheVariants.{AtSerial}
+use Rattle.notes.proofs.after_unit.Goals as goal
+
+pub returns-in_default : goal.returns-in_default
+unfolding place_after
+returns-in_default c =
+    let a = c.args in
+    ap (λ n. past n (λ unit. AtSerial a.class unit NoDigit)) (sym c.in_default.is ∙ c.ended_at.ensures)
+
+pub returns : goal.returns
+unfolding place_after
+returns c =
+    let a = c.args in
+    ap (λ n. past n (λ unit. AtSerial a.class unit NoDigit)) (sym c.in-Value.is ∙ c.ended_at.ensures)

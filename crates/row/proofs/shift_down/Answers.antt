@@ -1,0 +1,10 @@
+-- `row::shift_down` meets its contract: the words that are not moved over become 0.
+use Rattle.row.proofs.Moving.{down_cleared}
+use Rattle.row.proofs.shift_down.Goals as goal
+
+pub returns : goal.returns
+returns c =
+    let a = c.args in
+    rw c.clear.ensures
+    (down_cleared a.part.now c.move_down.new.0 a.by
+    c.requires c.move_down.ensures)
