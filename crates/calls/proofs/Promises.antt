@@ -24,7 +24,7 @@ pub one_outcome : OneOutcome
 one_outcome Lent o r s one other m n = (m.answered ∙ sym n.answered, m.left ∙ sym n.left)
 
 pub looked_is_walk : LookedIsWalk
-looked_is_walk ws fresh = lists_count_walks ws (book.lists-stay-lists ws fresh)
+looked_is_walk ws fresh = lists_count_walks ws (book.lists_stay_lists ws fresh)
 
 -- Records
 
@@ -42,64 +42,64 @@ last_is_value lent key number asks z =
 -- Promises whose law is stated elsewhere, of lists already.
 
 pub lists_stay_lists : ListsStayLists
-lists_stay_lists = book.lists-stay-lists
+lists_stay_lists = book.lists_stay_lists
 
 pub calls_keep_lists : CallsKeepLists
-calls_keep_lists = book.calls-keep-lists
+calls_keep_lists = book.calls_keep_lists
 
 pub calls_keep_settings : CallsKeepSettings
-calls_keep_settings = book.calls-keep-settings
+calls_keep_settings = book.calls_keep_settings
 
 pub batch_is_calls : BatchIsCalls
-batch_is_calls = batch.batch-is-calls
+batch_is_calls = batch.batch_is_calls
 
 pub refused_batch_alters_nothing : RefusedBatchAltersNothing
-refused_batch_alters_nothing = batch.refused-batch-alters-nothing
+refused_batch_alters_nothing = batch.refused_batch_alters_nothing
 
 pub batch_refusals : BatchRefusals
-batch_refusals = batch.batch-refusals
+batch_refusals = batch.batch_refusals
 
 pub owed_cells_stand_from_fresh : OwedCellsStandFromFresh
 owed_cells_stand_from_fresh ws from = owed_cells_stand ws (lists_stay_lists ws from)
 
 pub nine_is_retired : NineIsRetired
-nine_is_retired = (λ r. (table r).1, (ends.call-never-nine, batch.batch-never-nine))
+nine_is_retired = (λ r. (table r).1, (ends.call_never_nine, batch.batch_never_nine))
 
 pub run_passes : RunPasses
-run_passes = runs.run-passes
+run_passes = runs.run_passes
 
 pub run_passes_at_most : RunPassesAtMost
-run_passes_at_most = runs.run-passes-at-most
+run_passes_at_most = runs.run_passes_at_most
 
 pub run_with_inserts_passes : RunWithInsertsPasses
-run_with_inserts_passes = runs.run-with-inserts-passes
+run_with_inserts_passes = runs.run_with_inserts_passes
 
 pub read_is_calls : ReadIsCalls
-read_is_calls = saved.read-is-calls
+read_is_calls = saved.read_is_calls
 
 pub read_gives_list : ReadGivesList
-read_gives_list = saved.read-gives-list
+read_gives_list = saved.read_gives_list
 
 pub read_is_fresh : ReadIsFresh
-read_is_fresh = restart.read-is-fresh
+read_is_fresh = restart.read_is_fresh
 
 pub write_then_read : WriteThenRead
-write_then_read = restart.write-then-read
+write_then_read = restart.write_then_read
 
 pub file_is_written : FileIsWritten
-file_is_written = restart.file-is-written
+file_is_written = restart.file_is_written
 
 pub refused_alters_nothing : RefusedAltersNothing
-refused_alters_nothing = ends.refused-alters-nothing
+refused_alters_nothing = ends.refused_alters_nothing
 
 pub takes_in_turn : TakesInTurn
-takes_in_turn = book.takes-in-turn
+takes_in_turn = book.takes_in_turn
 
 pub takes_end : TakesEnd
-takes_end = book.takes-end
+takes_end = book.takes_end
 
 pub calls_are_booked : CallsAreBooked
-calls_are_booked = book.calls-are-booked
+calls_are_booked = book.calls_are_booked
 
 pub answers_are_booked : AnswersAreBooked
-answers_are_booked = book.answers-are-booked
+answers_are_booked = book.answers_are_booked

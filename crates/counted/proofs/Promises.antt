@@ -262,7 +262,7 @@ refused_counted_alters_nothing = (counted_alters_nothing, batch_alters_nothing)
 -- 4. The counts add up
 
 pub classes_total : ClassesTotal
-classes_total = totals.classes-total
+classes_total = totals.classes_total
 
 -- 5. The question about one class
 
@@ -291,7 +291,7 @@ class_answered p from class h =
     class_known class p.classes long h ∙ (λ i. accepted (least i) 0 (count i) p.classes)
 
 pub least_is_least : LeastIsLeast
-least_is_least = leasts.least-is-least
+least_is_least = leasts.least_is_least
 
 -- 6. The class of an entry
 

@@ -60,7 +60,7 @@ unfolding picture
 walk_is_rule =
     on_lists
     (λ ws. (k : ℕ) → 1 ≤ k → k ≤ largest_at ws → map (key_at ws) (walk ws k) ≡ rule (base_at ws) (dimensions_at ws) (standing_keys ws) k)
-    (λ s v k h l. walks.walk-is-rule s v k h l ∙ ap (λ t. rule s.settings.base s.settings.dimensions (map (λ x. x.key) t.row) k)
+    (λ s v k h l. walks.walk_is_rule s v k h l ∙ ap (λ t. rule s.settings.base s.settings.dimensions (map (λ x. x.key) t.row) k)
     (sym (read_of_picture s v)))
 
 pub walk_once : WalkOnce
@@ -68,12 +68,12 @@ unfolding picture
 walk_once =
     on_lists
     (λ ws. (k : ℕ) → 1 ≤ k → k ≤ largest_at ws → (x : ℕ) → occurrences x (walk ws k) ≤ 1)
-    (λ s v k h l x. distinct_once x (walk (picture s) k) (walks.walk-once s v k h l))
+    (λ s v k h l x. distinct_once x (walk (picture s) k) (walks.walk_once s v k h l))
 
 pub walk_bounded : WalkBounded
 unfolding picture
 walk_bounded =
-    on_lists (λ ws. (k : ℕ) → 1 ≤ k → k ≤ largest_at ws → length (walk ws k) ≤ dimensions_at ws * (base_at ws - 1)) (λ s v. walks.walk-bounded s v)
+    on_lists (λ ws. (k : ℕ) → 1 ≤ k → k ≤ largest_at ws → length (walk ws k) ≤ dimensions_at ws * (base_at ws - 1)) (λ s v. walks.walk_bounded s v)
 
 pub walk_ends : WalkEnds
 unfolding picture
@@ -160,14 +160,14 @@ looks s v key o c =
     record {
       walked = c.count ∙ sym n;
       ruled = walk_is_rule (picture s) (picture_is_list s v) key c.least c.most;
-      bounded = subst (λ (t : ℕ). t ≤ s.settings.dimensions * (s.settings.base - 1)) (n ∙ sym c.count) (walks.walk-bounded s v key c.least c.most);
+      bounded = subst (λ (t : ℕ). t ≤ s.settings.dimensions * (s.settings.base - 1)) (n ∙ sym c.count) (walks.walk_bounded s v key c.least c.most);
     }
 
 pub owed_cells_stand : OwedCellsStand
-owed_cells_stand = owed.owed-cells-stand
+owed_cells_stand = owed.owed_cells_stand
 
 pub owed_cells_stand_in_sweep : OwedCellsStandInSweep
-owed_cells_stand_in_sweep = owed.owed-cells-stand-in-sweep
+owed_cells_stand_in_sweep = owed.owed_cells_stand_in_sweep
 
 pub way_to_lower : WayToLower
 unfolding picture
@@ -175,40 +175,40 @@ way_to_lower =
     on_read_lists
     (λ s ws. (k : ℕ) → 1 ≤ k → k ≤ largest_at ws →
     (lower_for ws k ≡ (smaller_than k s.row).cell) × (length (lower_way_for ws k) ≤ dimensions_at ws * (base_at ws - 1)))
-    lower.way-to-lower
+    lower.way_to_lower
 
 pub late_inserts : LateInserts
-late_inserts = back.late-inserts
+late_inserts = back.late_inserts
 
 pub present_means_that_key : PresentMeansThatKey
-present_means_that_key = present.present-means-that-key
+present_means_that_key = present.present_means_that_key
 
 pub find_writes_nothing : FindWritesNothing
-find_writes_nothing = leaves.find-writes
+find_writes_nothing = leaves.find_writes
 
 pub take_writes : TakeWrites
-take_writes = leaves.take-writes
+take_writes = leaves.take_writes
 
 pub revive_writes : ReviveWrites
-revive_writes = leaves.revive-writes
+revive_writes = leaves.revive_writes
 
 pub insert_writes : InsertWrites
-insert_writes = leaves.insert-writes
+insert_writes = leaves.insert_writes
 
 pub finish_writes : FinishWrites
-finish_writes = leaves.finish-writes
+finish_writes = leaves.finish_writes
 
 pub sweep_writes : SweepWrites
-sweep_writes = leaves.sweep-writes
+sweep_writes = leaves.sweep_writes
 
 pub each_cell_once : EachCellOnce
-each_cell_once = serves.each-cell-once
+each_cell_once = serves.each_cell_once
 
 pub swept_cells_first : SweptCellsFirst
-swept_cells_first = serves.swept-cells-first
+swept_cells_first = serves.swept_cells_first
 
 pub insert_uses_first : InsertUsesFirst
-insert_uses_first = serves.insert-uses-first
+insert_uses_first = serves.insert_uses_first
 
 pub lists_count_walks : ListsCountWalks
 lists_count_walks =

@@ -66,7 +66,7 @@ pub record Answers (t : State) (s : Settings) (k key : ℕ) (r : Rest) : Type 0 
 
 -- the node of next larger key, where its cell is the one that has the slot
 next_is :
-    (b D k d : ℕ) (pre post : List Node) {c : ℕ} {to : Place} → Apart (head_node ∷ (pre ++ post)) → 0 < c → slot.cellAfter b D k d post ≡ c →
+    (b D k d : ℕ) (pre post : List Node) {c : ℕ} {to : Place} → Apart (head_node ∷ (pre ++ post)) → 0 < c → slot.cell_after b D k d post ≡ c →
     place_of c (places b D (pre ++ post)) ≡ some to → (first_of post).key ≡ to.node.key
 unfolding places
 next_is b D k d pre [] o nz e found = absurd (omega arith)
@@ -104,12 +104,12 @@ module _ {s : State} (v : Sound s) {k : ℕ} (least : 1 ≤ k) {x : ℕ} {p : Pl
       let sides = sides_absent g in
       let is = hung_at v least sides here h in
       let a : Asc 0 (g.pre ++ g.post) = subst (Asc 0) g.splits v.ascends in
-      let o : Apart (head_node ∷ (g.pre ++ g.post)) = subst (λ r. Apart (head_node ∷ r)) g.splits (slot.sound-apart s v) in
+      let o : Apart (head_node ∷ (g.pre ++ g.post)) = subst (λ r. Apart (head_node ∷ r)) g.splits (slot.sound_apart s v) in
       (slot_at s v k least sides).cell
       ∙ sym
-      (slot.slot-c b D (base_positive s v) (slot.dimensions-positive s v) k g.pre g.post least (asc_left 0 g.pre g.post a)
+      (slot.slot_c b D (base_positive s v) (slot.dimensions_positive s v) k g.pre g.post least (asc_left 0 g.pre g.post a)
       (apart_left (head_node ∷ g.pre) g.post o) g.below
-      (slot.gap-above k (last_from head_node g.pre).key g.post (asc_last head_node g.pre g.post a) g.above))
+      (slot.gap_above k (last_from head_node g.pre).key g.post (asc_last head_node g.pre g.post a) g.above))
       ∙ ap₂ (λ d c. settled_link_at b D d (place_of c (places b D (g.pre ++ g.post)))) is.0 (is.1 ∙ placed_cell here)
       ∙ ap (settled_link_at b D (shared b D p.node.key k)) (subst (λ r. place_of x (places b D r) ≡ some p) g.splits here.found)
       ∙ settled_above b D p (shared b D p.node.key k) h.dimension
@@ -147,10 +147,10 @@ module _ (s : State) (v : Sound s) (k : ℕ) (least : 1 ≤ k) (most : k ≤ s.s
       let other = placed_other v m.to_placed (omega arith) in
       let next : (first_of g.post).key ≡ m.to.node.key =
       next_is b D k (dimension_after b D head_node g.pre k) g.pre g.post
-      (subst (λ r. Apart (head_node ∷ r)) g.splits (slot.sound-apart s v)) other (sym is.cell ∙ held)
+      (subst (λ r. Apart (head_node ∷ r)) g.splits (slot.sound_apart s v)) other (sym is.cell ∙ held)
       (subst (λ row. place_of r.at (places b D row) ≡ some m.to) g.splits m.to_placed.found) in
       let some-c : slot_cell s k ≡ 0 → ⊥ = (λ e. omega arith) in
-      let less = shared_less b D m.to.node.key k (slot.dimensions-positive s v) (omega arith) in
+      let less = shared_less b D m.to.node.key k (slot.dimensions_positive s v) (omega arith) in
       let shares : slot_shared s k ≡ shared b D m.to.node.key k = is.shares ∙ ap (shared b D k) next ∙ shared_sym b D k m.to.node.key in
       let q : r.coordinate ≡ slot_shared s k = (let c = m.coordinate in omega arith) in
       absent_is s k absent t.0 (m.number ∙ t.1) (sym held) (rw (ne_eqb (slot_cell s k) 0 some-c) q) looked_is

@@ -56,7 +56,7 @@ module _ {k : ℕ} {row pre middle post : List Node} (g : Sides k row pre middle
   pub smaller_is : smaller_than k row ≡ last_from head_node pre
   smaller_is =
       ap (smaller_than k) g.splits
-      ∙ smaller.smaller-is k pre (middle ++ post) g.below
+      ∙ smaller.smaller_is k pre (middle ++ post) g.below
       (all_append (λ y. k ≤ y.key) middle post (all_map (λ y h. omega arith) middle g.here) (all_map (λ y h. omega arith) post g.above))
 
   pub larger_is : larger_than k row ≡ first_of post
@@ -77,7 +77,7 @@ pub record SlotAt (s : State) (k : ℕ) (pre post : List Node) : Type 0 where
   pub number : slot_number s k ≡ dimension_after s.settings.base s.settings.dimensions head_node pre k
   pub parent : slot_parent s k ≡ parent_after s.settings.base s.settings.dimensions head_node pre k
   pub shares : slot_shared s k ≡ shared s.settings.base s.settings.dimensions k (first_of post).key
-  pub cell : slot_cell s k ≡ slot.cellAfter s.settings.base s.settings.dimensions k
+  pub cell : slot_cell s k ≡ slot.cell_after s.settings.base s.settings.dimensions k
       (dimension_after s.settings.base s.settings.dimensions head_node pre k) post
 
 -- the last node below k shares less with k than with itself
@@ -96,7 +96,7 @@ slot_at s v k h {pre} {middle} {post} g =
           ap₂ (λ key n. first_with b D key (suc n) (head_node ∷ s.row)) (ap (λ y. y.key) (smaller_is g)) number
           ∙ ap (λ row. first_with b D (last_from head_node pre).key (suc (dimension_after b D head_node pre k)) (head_node ∷ row)) g.splits
           ∙ first_front b D (last_from head_node pre).key (suc (dimension_after b D head_node pre k)) head_node pre (middle ++ post)
-          (last_below_lem b D k pre (slot.dimensions-positive s v) h g.below);
+          (last_below_lem b D k pre (slot.dimensions_positive s v) h g.below);
       shares = ap (λ y. shared b D k y.key) (larger_is g);
       cell = ap₂ (λ n y. cond (leb n (shared b D k y.key)) y.cell 0) number (larger_is g) ∙ held (dimension_after b D head_node pre k) post;
     }
@@ -114,7 +114,7 @@ slot_at s v k h {pre} {middle} {post} g =
     none-held true = refl
     none-held false = refl
 
-    held : (p : ℕ) (post : List Node) → cond (leb p (shared b D k (first_of post).key)) (first_of post).cell 0 ≡ slot.cellAfter b D k p post
+    held : (p : ℕ) (post : List Node) → cond (leb p (shared b D k (first_of post).key)) (first_of post).cell 0 ≡ slot.cell_after b D k p post
     held p [] = none-held (leb p (shared b D k 0))
     held p (x ∷ post) = refl
 
@@ -204,6 +204,6 @@ hung_at {s} v {k} h {pre} {middle} {post} g here = placed_has here Is (subst (λ
 
     all : All Is (places b D (pre ++ (middle ++ post)))
     all =
-        hung b D (base_positive s v) (slot.dimensions-positive s v) k head_node 0 head_node 0 pre (middle ++ post) h
+        hung b D (base_positive s v) (slot.dimensions_positive s v) k head_node 0 head_node 0 pre (middle ++ post) h
         (subst (Asc 0) g.splits v.ascends) g.below
         (all_append (λ z. k ≤ z.key) middle post (all_map (λ z m. omega arith) middle g.here) (all_map (λ z m. omega arith) post g.above))

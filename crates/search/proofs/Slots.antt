@@ -60,7 +60,7 @@ node_placed {s} v k x e =
     let split = node_split k x s.row e in
     let pre = split.0 in
     let post = split.1 in
-    let o = apart_before (head_node ∷ pre) x post (subst (λ r. Apart (head_node ∷ r)) split.2 (slot.sound-apart s v)) in
+    let o = apart_before (head_node ∷ pre) x post (subst (λ r. Apart (head_node ∷ r)) split.2 (slot.sound_apart s v)) in
     let found = place_at b D head_node 0 head_node 0 pre x post o in
     (_, (record { found = ap (λ r. place_of x.cell (places b D r)) split.2 ∙ found }, refl))
 
@@ -107,7 +107,7 @@ module _ (s : State) (v : Sound s) (k : ℕ) (least : 1 ≤ k) where
       let all = all_stand s in
       rw (slot_at s v k least g).parent
       (first_among b D (Stands s) (last_from head_node pre).key (suc (dimension_after b D head_node pre k)) head_node pre
-      (last_below_lem b D k pre (slot.dimensions-positive s v) least g.below) all.0
+      (last_below_lem b D k pre (slot.dimensions_positive s v) least g.below) all.0
       (all_left (λ x. Stands s x.cell) pre (middle ++ post) (subst (All (λ x. Stands s x.cell)) g.splits all.1)))
 
   number_below : {pre middle post : List Node} → Sides k s.row pre middle post → slot_number s k < s.settings.dimensions
@@ -115,19 +115,19 @@ module _ (s : State) (v : Sound s) (k : ℕ) (least : 1 ≤ k) where
       let b = s.settings.base in
       let D = s.settings.dimensions in
       let low : (last_from head_node pre).key < k = all_last (λ z. z.key < k) head_node pre least g.below in
-      omega (arith, (slot_at s v k least g).number, shared_less b D (last_from head_node pre).key k (slot.dimensions-positive s v) (omega arith))
+      omega (arith, (slot_at s v k least g).number, shared_less b D (last_from head_node pre).key k (slot.dimensions_positive s v) (omega arith))
 
   -- what has the slot, where k does not stand: the node of next larger key, if any
   slot_holds : (pre post : List Node) → SlotAt s k pre post → All (λ y. k < y.key) post → All (λ x. Stands s x.cell) post → Dec (slot_cell s k ≡ 0) →
       Stands s (slot_cell s k) × (cond (eqb (slot_cell s k) 0) 0 (slot_shared s k) < s.settings.dimensions)
   slot_holds pre post t above all (yes e) =
-      (subst (Stands s) (sym e) (all_stand s).0, rw (eq-eqb (slot_cell s k) 0 e) (slot.dimensions-positive s v))
+      (subst (Stands s) (sym e) (all_stand s).0, rw (eq-eqb (slot_cell s k) 0 e) (slot.dimensions_positive s v))
   slot_holds pre [] t above all (no ne) = absurd (ne t.cell)
   slot_holds pre (x ∷ post) t above all (no ne) =
       let b = s.settings.base in
       let D = s.settings.dimensions in
       let h = above.0 in
-      let less = shared_less b D k x.key (slot.dimensions-positive s v) (omega arith) in (
+      let less = shared_less b D k x.key (slot.dimensions_positive s v) (omega arith) in (
         subst (Stands s) (sym (t.cell ∙ (slot_first b D k (dimension_after b D head_node pre k) (x ∷ post) (λ e. ne (t.cell ∙ e))).1)) all.0,
         rw (ne_eqb (slot_cell s k) 0 ne, t.shares) less,
       )

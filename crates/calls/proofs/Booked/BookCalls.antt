@@ -194,7 +194,7 @@ nodes_standing c (p ∷ pairs) = ap {B = List StandingKey} (λ r. standing_key p
 
 read_booked : (bytes : List ℕ) (s : State) → Sound s →
     let o = read_out (file_lent (picture s) bytes) in
-    Booking s (file_effect (contents_of bytes) (files.pairsIn bytes) (length (picture s))) o.left.words o.answered (read_reply (contents_of bytes) (length (picture s)))
+    Booking s (file_effect (contents_of bytes) (files.pairs_in bytes) (length (picture s))) o.left.words o.answered (read_reply (contents_of bytes) (length (picture s)))
 unfolding booked_by contents_of read_state
 read_booked bytes s v =
     read_cases lent
@@ -223,7 +223,7 @@ read_booked bytes s v =
     kept = settings_in bytes
 
     pairs : List Pair
-    pairs = files.pairsIn bytes
+    pairs = files.pairs_in bytes
 
 -- Every call
 

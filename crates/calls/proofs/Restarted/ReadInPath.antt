@@ -104,6 +104,6 @@ path_next s pairs p kept base =
     let x = pair_node (suc (length pairs)) p in
     let pos = base_positive (read_state s pairs) (read_state_sound s pairs (keeps_left s pairs (p ∷ []) kept) base) in
     ap (λ r. path_for b D r p.key) n.row_is
-    ∙ path.path-next b D pos row x [] n.ascends
+    ∙ path.path_next b D pos row x [] n.ascends
     ∙ ap (λ words. onward D words (shared b D (last_from head_node row).key p.key) (suc (length pairs))) (path_kept b D row (x ∷ []))
     ∙ ap (λ key. onward D (path_for b D row key) (shared b D key p.key) (suc (length pairs))) (last_is head_node 1 pairs)

@@ -44,17 +44,17 @@ use Rattle.calls.proofs.Restarted.ReadIn.{read_in_is, read_list}
 -- What a list keeps
 
 -- live pairs are no more than the nodes, ..
-pairs_few : (row : List Node) → length (rows.pairsIn row) ≤ length row
+pairs_few : (row : List Node) → length (rows.pairs_in row) ≤ length row
 unfolding those
 pairs_few [] = omega arith
 pairs_few (x ∷ row) = at x.live refl (pairs_few row)
   where
-    at : (t : Bool) → x.live ≡ t → length (rows.pairsIn row) ≤ length row → length (rows.pairsIn (x ∷ row)) ≤ suc (length row)
+    at : (t : Bool) → x.live ≡ t → length (rows.pairs_in row) ≤ length row → length (rows.pairs_in (x ∷ row)) ≤ suc (length row)
     at true e h = rw (pairs_live x row e) (omega arith)
     at false e h = rw (pairs_dead x row e) (omega arith)
 
 -- .. and their keys rise as the nodes' do
-pairs_rise : (K below key : ℕ) (row : List Node) → below ≤ key → Asc key row → All (λ x. x.key ≤ K) row → rising below K (rows.pairsIn row) ≡ true
+pairs_rise : (K below key : ℕ) (row : List Node) → below ≤ key → Asc key row → All (λ x. x.key ≤ K) row → rising below K (rows.pairs_in row) ≡ true
 unfolding rising those
 pairs_rise K below key [] h up all = refl
 pairs_rise K below key (x ∷ row) h up all = at x.live refl (λ low le. pairs_rise K low x.key row le up.1 all.1)
@@ -62,19 +62,19 @@ pairs_rise K below key (x ∷ row) h up all = at x.live refl (λ low le. pairs_r
     above : below < x.key
     above = let l = up.0 in omega arith
 
-    at : (t : Bool) → x.live ≡ t → ((low : ℕ) → low ≤ x.key → rising low K (rows.pairsIn row) ≡ true) → rising below K (rows.pairsIn (x ∷ row)) ≡ true
+    at : (t : Bool) → x.live ≡ t → ((low : ℕ) → low ≤ x.key → rising low K (rows.pairs_in row) ≡ true) → rising below K (rows.pairs_in (x ∷ row)) ≡ true
     at true e more =
         ap (rising below K) (pairs_live x row e)
         ∙ rw (lt-ltb below x.key above, le-leb x.key K all.0) (more x.key (omega arith))
     at false e more = ap (rising below K) (pairs_dead x row e) ∙ more below (omega arith)
 
-pub state_kept : (s : State) → Sound s → keeps s.settings (rows.pairsIn s.row) ≡ true
+pub state_kept : (s : State) → Sound s → keeps s.settings (rows.pairs_in s.row) ≡ true
 unfolding keeps
 state_kept s v =
     let D = s.settings.dimensions in
     let K = s.settings.largest in
     let C = s.settings.cells in
-    let pairs = rows.pairsIn s.row in
+    let pairs = rows.pairs_in s.row in
     let few : length pairs < C = omega (arith, pairs_few s.row, free_length s v, v.ranges.cells_least) in
     and_both (in_range D K C && ltb (length pairs) C) (rising 0 K pairs)
     (and_both (in_range D K C) (ltb (length pairs) C) (in_range_lem D K C v.ranges) (lt-ltb (length pairs) C few))

@@ -256,7 +256,7 @@ pub move_links-given : {D C : ℕ} {ws : List ℕ} → Exact D C ws → (n c d k
 unfolding move_links
 move_links-given exact n c d zero here apart fit i h l = absurd (omega arith)
 move_links-given {D} {C} {ws} exact n c d (suc k) here apart fit i h l =
-    at (ℕ_discrete d i) (move_links-given (exact_link exact n c d) n c (suc d) k here apart (omega arith) i)
+    at (ℕ_discrete d i) (move_links-given {ws = moved_link D ws n c d} (exact_link exact n c d) n c (suc d) k here apart (omega arith) i)
   where
     moved : List ℕ
     moved = moved_link D ws n c d
@@ -278,7 +278,7 @@ pub move_links-cleared : {D C : ℕ} {ws : List ℕ} → Exact D C ws → (n c d
 unfolding move_links
 move_links-cleared exact n c d zero here fit i h l = absurd (omega arith)
 move_links-cleared {D} {C} {ws} exact n c d (suc k) here fit i h l =
-    at (ℕ_discrete d i) (move_links-cleared (exact_link exact n c d) n c (suc d) k here (omega arith) i)
+    at (ℕ_discrete d i) (move_links-cleared {ws = moved_link D ws n c d} (exact_link exact n c d) n c (suc d) k here (omega arith) i)
   where
     moved : List ℕ
     moved = moved_link D ws n c d

@@ -241,7 +241,9 @@ first_is b D c x row pos asc o more = at (ℕ_discrete x.cell c)
         let o' : 0 < occurrences c (map (λ y. y.cell) row) = rw (ne_eqb x.cell c ne) at o in
         let above = key_of_has (λ key. x.key < key) c row o' (all_map (λ y h e. h) row (asc_above x.key row asc)) in
         let less = shared_less b D x.key (key_of c row) pos (λ e. omega arith) in
-        rw (ne_eqb x.cell c ne, lt-ltb (shared b D x.key (key_of c row)) D less) (more o')
+        let first_at : ℕ → Type 0 = λ k. first_with b D k D (x ∷ row) ≡ c in
+        let key : key_of c (x ∷ row) ≡ key_of c row = rw (ne_eqb x.cell c ne) refl in
+        subst first_at (sym key) (rw (lt-ltb (shared b D x.key (key_of c row)) D less) (more o'))
 
 -- the first of the standing cells that shares all coordinates with cell c is c itself
 pub first_in : (b D c : ℕ) (x : Node) (row : List Node) → 0 < D → Asc x.key row → 0 < occurrences c (map (λ y. y.cell) (x ∷ row)) →

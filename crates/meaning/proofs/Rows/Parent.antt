@@ -1,7 +1,7 @@
 -- The parent of a standing cell: of the head and the nodes up to the one before the cell, the first that shares more with that one
 -- than the cell does. All between it and the cell share more with it than the cell does, so its link of the cell's dimension leads to
 -- the cell. What comes before it shares too little, what comes after it has too large a dimension: no other link leads there.
-use mathlib.Core.Path.{◌≡◌, refl, ◌∙◌, sym}
+use mathlib.Core.Path.{◌≡◌, refl, ◌∙◌, sym, subst}
 use mathlib.Core.Bool.{cond}
 use mathlib.Core.List.{List, [], ◌∷◌, ◌++◌}
 use mathlib.Core.Option.{some}
@@ -243,7 +243,8 @@ module _ (b D : ℕ) where
       at (yes g) ih =
           let other : y.cell ≡ first_with b D key n (z ∷ pre) → ⊥ = first_among (λ c. y.cell ≡ c → ⊥) key n z pre h (λ e. o.0.0 (sym e))
           (all_map (λ x k e. k (sym e)) pre o.0.1) in
-          rw (first_skips key n y (z ∷ pre) g, ne_eqb y.cell (first_with b D key n (z ∷ pre)) other) ih
+          let Found : ℕ → Type 0 = λ c. cond (eqb y.cell c) y.key (key_of c (z ∷ (pre ++ later))) ≤ (last_from z pre).key in
+          subst Found (sym (first_skips key n y (z ∷ pre) g)) (rw (ne_eqb y.cell (first_with b D key n (z ∷ pre)) other) ih)
       at (no g) ih =
           let l : n ≤ shared b D y.key key = omega arith in
           let k = last_least y (z ∷ pre) a in
@@ -486,7 +487,8 @@ module _ (b D : ℕ) (pos : 0 < b) (deep : 0 < D) where
           let other : y.cell ≡ first_with b D A.key (suc d) (z ∷ pre) → ⊥ =
           first_among b D (λ c. y.cell ≡ c → ⊥) A.key (suc d) z pre q (λ r. o.0.0 (sym r)) (all_map (λ x n r. n (sym r)) pre o.0.1) in
           let m : shared b D y.key A.key < suc d = omega arith in
-          (t.0, rw (first_skips b D A.key (suc d) y (z ∷ pre) m, ne_eqb y.cell (first_with b D A.key (suc d) (z ∷ pre)) other) t.1, t.2)
+          let Found : ℕ → Type 0 = λ c. place_of c (y_place ∷ places_after b D y e y_place.later) ≡ some t.0 in
+          (t.0, subst Found (sym (first_skips b D A.key (suc d) y (z ∷ pre) m)) (rw (ne_eqb y.cell (first_with b D A.key (suc d) (z ∷ pre)) other) t.1), t.2)
 
   -- what a node shares with the last one is at most that one's dimension
   pub last_dimension : (y : Node) (z : Node) (row : List Node) → Asc y.key (z ∷ row) →

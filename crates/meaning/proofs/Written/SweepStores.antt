@@ -34,7 +34,7 @@ pub exact_taken : {D C : ℕ} {ws : List ℕ} → Exact D C ws → (x : ℕ) (pa
 unfolding take_links
 exact_taken exact x path d zero = exact
 exact_taken {D} {C} {ws} exact x path d (suc k) =
-    exact_taken (exact_set exact (word_index D x (link_field d)) (word_in D ws (get_or path d 0) (link_field d))) x path (suc d) k
+    exact_taken {ws = taken_link D ws x path d} (exact_set exact (word_index D x (link_field d)) (word_in D ws (get_or path d 0) (link_field d))) x path (suc d) k
 
 pub take_links-below : (D : ℕ) (ws : List ℕ) (x : ℕ) (path : List ℕ) (d k i : ℕ) → i < header_words + D → get_or (take_links D ws x path d k) i 0 ≡ get_or ws i 0
 unfolding take_links
@@ -57,7 +57,7 @@ pub take_links-taken : {D C : ℕ} {ws : List ℕ} → Exact D C ws → (x : ℕ
 unfolding take_links
 take_links-taken exact x path d zero here fit i h l = absurd (omega arith)
 take_links-taken {D} {C} {ws} exact x path d (suc k) here fit i h l =
-    at (ℕ_discrete d i) (take_links-taken (exact_set exact (word_index D x (link_field d)) value) x path (suc d) k here (omega arith) i)
+    at (ℕ_discrete d i) (take_links-taken {ws = taken_link D ws x path d} (exact_set exact (word_index D x (link_field d)) value) x path (suc d) k here (omega arith) i)
   where
     value : ℕ
     value = word_in D ws (get_or path d 0) (link_field d)
@@ -154,7 +154,7 @@ free_cell-cell D ws x y j h ne =
 pub exact_freed_all : {D C : ℕ} {ws : List ℕ} → Exact D C ws → (xs : List ℕ) → Exact D C (free_all D ws xs)
 unfolding free_all
 exact_freed_all exact [] = exact
-exact_freed_all exact (x ∷ xs) = exact_freed_all (exact_freed exact x) xs
+exact_freed_all {D} {C} {ws} exact (x ∷ xs) = exact_freed_all {ws = free_cell D ws x} (exact_freed exact x) xs
 
 pub free_all-below : (D : ℕ) (ws xs : List ℕ) (i : ℕ) → i < header_words + D → (i ≡ 4 → ⊥) → get_or (free_all D ws xs) i 0 ≡ get_or ws i 0
 unfolding free_all
@@ -171,7 +171,7 @@ pub free_all-first : {D C : ℕ} {ws : List ℕ} → Exact D C ws → (xs free :
     get_or (free_all D ws xs) 4 0 ≡ first_number (reverse_aux xs free)
 unfolding free_all
 free_all-first exact [] free e = e
-free_all-first exact (x ∷ xs) free e = free_all-first (exact_freed exact x) xs (x ∷ free) (free_cell-first exact x)
+free_all-first {D} {C} {ws} exact (x ∷ xs) free e = free_all-first {ws = free_cell D ws x} (exact_freed exact x) xs (x ∷ free) (free_cell-first exact x)
 
 -- the cell that follows one in a chain: what is put in front of it does not matter
 next_free-here : (c : ℕ) (free : List ℕ) → next_free c (c ∷ free) ≡ first_number free
@@ -196,7 +196,7 @@ free_all-own {D} {C} {ws} exact (x ∷ xs) free apart below e = (
       free_all-cell D (free_cell D ws x) xs x j h apart.0
       ∙ free_cell-own exact x below.0 j h
       ∙ ap (λ next. get_or (free_words D next) j 0) (e ∙ sym (next_free-here x free) ∙ sym (next_free-behind x xs (x ∷ free) apart.0)),
-  free_all-own (exact_freed exact x) xs (x ∷ free) apart.1 below.1 (free_cell-first exact x),
+  free_all-own {ws = free_cell D ws x} (exact_freed exact x) xs (x ∷ free) apart.1 below.1 (free_cell-first exact x),
 )
 
 -- All of it
