@@ -1,5 +1,5 @@
 -- What the words of the picture of a state in order say of each standing cell.
-use mathlib.Core.Path.{◌≡◌, refl, sym}
+use mathlib.Core.Path.{◌≡◌, refl, sym, subst}
 use mathlib.Core.Bool.{true, false}
 use mathlib.Core.List.{List, [], ◌∷◌, map}
 use mathlib.Core.Logic.{inl, inr}
@@ -30,7 +30,7 @@ occurs_stands c (x ∷ row) h = at (ℕ_discrete x.cell c) (occurs_stands c row)
   where
     at : Dec (x.cell ≡ c) → (0 < occurrences c (map (λ y. y.cell) row) → Stands (key_of c row) row) → Stands (key_of c (x ∷ row)) (x ∷ row)
     at (yes e) more = inl (sym (key_of_same c x row e))
-    at (no ne) more = inr (rw (key_of_other c x row ne) (more (rw (occurrences_past c x.cell (map (λ y. y.cell) row) ne) at h)))
+    at (no ne) more = inr (subst (λ k. Stands k row) (sym (key_of_other c x row ne)) (more (rw (occurrences_past c x.cell (map (λ y. y.cell) row) ne) at h)))
 
 pub position_stands : (s : State) → Sound s → Stands (position_key s) (head_node ∷ s.row)
 position_stands s v = occurs_stands s.position (head_node ∷ s.row) v.position

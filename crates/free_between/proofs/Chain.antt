@@ -72,7 +72,8 @@ alike_taken : {D : ℕ} {cells us ws : List ℕ} → Alike D cells us ws → (x 
 unfolding take_links
 alike_taken a x path d zero h = a
 alike_taken {D} {cells} {us} {ws} a x path d (suc k) h =
-    alike_taken
+    alike_taken {us = store D us x (link_field d) (word_in D us (get_or path d 0) (link_field d))}
+    {ws = store D ws x (link_field d) (word_in D ws (get_or path d 0) (link_field d))}
     (subst (λ v. Alike D cells (store D us x (link_field d) (word_in D us (get_or path d 0) (link_field d))) (store D ws x (link_field d) v))
     (alike_word a (get_or path d 0) (link_field d) (omega arith) (λ e. omega arith))
     (alike_set a (word_index D x (link_field d)) (word_in D us (get_or path d 0) (link_field d))))
@@ -105,7 +106,8 @@ free_all-alike : {D C : ℕ} {us ws : List ℕ} → Exact D C us → Exact D C w
     free_all D us cells ≡ free_all D ws cells
 unfolding free_all
 free_all-alike {us = us} {ws = ws} u w [] below a = ext_get_or 0 us ws a.size (λ i h. a.same i tt)
-free_all-alike u w (x ∷ cells) below a = free_all-alike (exact_freed u x) (exact_freed w x) cells below.1 (alike_freed u w below.0 a)
+free_all-alike {D} {C} {us} {ws} u w (x ∷ cells) below a =
+    free_all-alike {us = free_cell D us x} {ws = free_cell D ws x} (exact_freed u x) (exact_freed w x) cells below.1 (alike_freed u w below.0 a)
 
 -- The chain
 
@@ -113,7 +115,7 @@ exact_chained : {D C : ℕ} {ws : List ℕ} → Exact D C ws → (cells : List �
 unfolding chain_values
 exact_chained exact [] = exact
 exact_chained exact (x ∷ []) = exact
-exact_chained {D} exact (x ∷ y ∷ cells) = exact_chained (exact_set exact (word_index D x 1) y) (y ∷ cells)
+exact_chained {D} {C} {ws} exact (x ∷ y ∷ cells) = exact_chained {ws = store D ws x 1 y} (exact_set exact (word_index D x 1) y) (y ∷ cells)
 
 -- only value words of those cells change
 chain_alike : (D : ℕ) (ws cells : List ℕ) → Alike D cells (chain_values D ws cells) ws
@@ -144,7 +146,7 @@ chain_chained {D} {C} {ws} exact (x ∷ y ∷ cells) apart below = (
   (chain_alike D (store D ws x 1 y) (y ∷ cells)).same (word_index D x 1)
       (all_map (λ c ne e. ne (index_apart D x c 1 1 (omega arith) (omega arith) e).0) (y ∷ cells) apart.0)
       ∙ store_same exact x 1 y below.0 (omega arith),
-  chain_chained (exact_set exact (word_index D x 1) y) (y ∷ cells) apart.1 below.1,
+  chain_chained {ws = store D ws x 1 y} (exact_set exact (word_index D x 1) y) (y ∷ cells) apart.1 below.1,
 )
 
 -- once the first is free, the others are still chained

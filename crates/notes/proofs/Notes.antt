@@ -53,6 +53,7 @@ SomeField no_record = Unit {0}
 some_field : (adds : Adds) (byte : ℕ) (said : Said) → SomeField said → SomeField (added adds byte said)
 some_field NoPart byte said some = some
 some_field ItsByte byte no_record some = tt
+some_field ItsByte byte (fields []) some = elim some [ ]
 some_field ItsByte byte (fields (field ∷ values)) some = tt
 some_field AField byte no_record some = tt
 some_field AField byte (fields values) some = tt
@@ -73,9 +74,11 @@ byte_on :
 unfolding note_from after_all
 byte_on NoPart place byte said some = refl
 byte_on ItsByte place byte no_record some = refl
+byte_on ItsByte place byte (fields []) some = elim some [ ]
 byte_on ItsByte place byte (fields (field ∷ [])) some = refl
 byte_on ItsByte place byte (fields (field ∷ next ∷ values)) some = refl
 byte_on AField place byte no_record some = refl
+byte_on AField place byte (fields []) some = elim some [ ]
 byte_on AField place byte (fields (field ∷ values)) some = refl
 
 reader_says : (bytes : List ℕ) (reader : Reader) → note_at (reader_after reader bytes) ≡ said_from_place reader.place (said_from reader.stand bytes)

@@ -17,12 +17,12 @@ use Rattle.records.specs.declared.Adds.TheVariants.{ItsByte, AField}
 -- what follows a field: nothing, CRLF, or a comma and further fields
 data Rest : List ℕ → List (List ℕ) → Type 0 where
   no_more : Rest [] []
-  line_end : Rest line_end []
+  by_line_end : Rest line_end []
   comma_on : {bytes : List ℕ} {values : List (List ℕ)} → Record bytes values → Rest (comma ∷ bytes) values
 
 record_of : {bytes value rest : List ℕ} {values : List (List ℕ)} → Field bytes value → Rest rest values → Record (bytes ++ rest) (value ∷ values)
 record_of {bytes} field no_more = rw (append-nil bytes) (unclosed (last field))
-record_of field line_end = closed (last field)
+record_of field by_line_end = closed (last field)
 record_of field (comma_on (unclosed on)) = unclosed (more field on)
 record_of {bytes} field (comma_on (closed {bytes = others} on)) = rw (sym (append_assoc bytes (comma ∷ others) line_end)) (closed (more field on))
 
@@ -41,7 +41,7 @@ data AtQuoteOn : List ℕ → List (List ℕ) → Type 0 where
       {bytes value : List ℕ} {values : List (List ℕ)} → QuotedOn bytes (value ∷ values) → AtQuoteOn (quote ∷ bytes) ((quote ∷ value) ∷ values)
 
 data AtReturnOn : List ℕ → List (List ℕ) → Type 0 where
-  line_feed : AtReturnOn (line_feed ∷ []) ([] ∷ [])
+  by_line_feed : AtReturnOn (line_feed ∷ []) ([] ∷ [])
 
 data ClosedOn : List ℕ → List (List ℕ) → Type 0 where
   ended : ClosedOn [] ([] ∷ [])
@@ -100,7 +100,7 @@ byte_in_quotes byte b bytes (fields values) (quoted_on q r) = quoted_on (itself 
 -- the second byte of CRLF
 feed_at_return : (bytes : List ℕ) (said : Said) → Says Closed bytes said → Says AtReturn (line_feed ∷ bytes) said
 feed_at_return bytes no_record s = tt
-feed_at_return bytes (fields values) ended = line_feed
+feed_at_return bytes (fields values) ended = by_line_feed
 
 -- a byte right after a field
 module _ (stand : Stand) (embed : (rest : List ℕ) (values : List (List ℕ)) → Rest rest values → On stand rest ([] ∷ values)) where
@@ -110,7 +110,7 @@ module _ (stand : Stand) (embed : (rest : List ℕ) (values : List (List ℕ)) �
 
   return_says : (bytes : List ℕ) (said : Said) → Says AtReturn bytes said → Says stand (carriage_return ∷ bytes) said
   return_says bytes no_record s = tt
-  return_says bytes (fields values) line_feed = embed _ _ line_end
+  return_says bytes (fields values) by_line_feed = embed _ _ by_line_end
 
   after_says :
       (byte : ℕ) (bytes : List ℕ) → ((s : Stand) → Says s bytes (said_from s bytes)) →

@@ -57,7 +57,7 @@ pub record Spelled (n : ℕ) (bytes : List ℕ) : Type 0 where
 
 -- What `io::decimal` ensures of the bytes that it writes to: the first of them, so many as it answers, are the number's digits.
 pub decimal_spelled :
-    {n k : ℕ} (bytes : List ℕ) → n < 2 ^ 64 → IsPrefixLen k bytes × (IsDigitCount 10 1 n k × (take k bytes ≡ last_digits 10 k n)) → Spelled n (take k bytes)
-decimal_spelled {n} {k} bytes small (counts, (few, are)) =
+    {n k : ℕ} (bytes : List ℕ) → n < 2 ^ 64 → IsPrefixLen k bytes → IsDigitCount 10 1 n k → take k bytes ≡ last_digits 10 k n → Spelled n (take k bytes)
+decimal_spelled {n} {k} bytes small counts few are =
     let most = few_digits small few in
     record { is = are ∙ fewest_spelled most_digits n k few most; most = omega (arith, counts.1, most) }

@@ -10,12 +10,12 @@ put_number_at-requires c =
 
 pub put_number_at-requires-2 : goal.put_number_at-requires-2
 put_number_at-requires-2 c =
-    omega (arith, c.requires, length-set c.args.file.now c.args.i c.args.tag, c.put_number_at.auto.0)
+    omega (arith, c.requires, length-set c.args.file.now c.args.i c.args.tag, c.put_number_at.auto.file)
 
 pub shape_of-file : goal.shape_of-file
 shape_of-file c =
     let a = c.args in
-    omega (arith, length-set a.file.now a.i a.tag, c.put_number_at.auto.0, c.put_number_at-2.auto.0)
+    omega (arith, length-set a.file.now a.i a.tag, c.put_number_at.auto.file, c.put_number_at-2.auto.file)
 
 pub returns : goal.returns
 returns c =

@@ -10,12 +10,12 @@ put_body-requires c =
 
 pub put_body-requires-2 : goal.put_body-requires-2
 put_body-requires-2 c =
-    omega (arith, c.requires.1, length-set c.args.file.now 0 2, c.put_body.auto.0)
+    omega (arith, c.requires.1, length-set c.args.file.now 0 2, c.put_body.auto.file)
 
 pub shape_of-file : goal.shape_of-file
 shape_of-file c =
     let a = c.args in
-    omega (arith, length-set a.file.now 0 2, c.put_body.auto.0, c.put_body-2.auto.0)
+    omega (arith, length-set a.file.now 0 2, c.put_body.auto.file, c.put_body-2.auto.file)
 
 pub returns : goal.returns
 returns c =

@@ -11,6 +11,6 @@ returns c =
     let n = c.args.n in
     let table = c.put_table in
     let settings = c.put_settings in
-    part_written settings.new.0 31 (count_width (tag_for n)) n refl c.before-2.ensures.0
-    (omega (arith, c.requires.1, table.auto.0, settings.auto.0)) c.put_number.ensures
+    part_written settings.new.file 31 (count_width (tag_for n)) n refl c.before-2.ensures.0
+    (omega (arith, c.requires.1, table.auto.file, settings.auto.file)) c.put_number.ensures
     ∙ rw (settings.ensures, table.ensures) (front_written c.args.file.now c.args.s n)

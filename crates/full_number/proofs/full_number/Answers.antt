@@ -10,10 +10,10 @@ pub returns-then-ahead-lt-HALF_A_ROUND : goal.returns-then-ahead-lt-HALF_A_ROUND
 returns-then-ahead-lt-HALF_A_ROUND c =
     let a = c.args in
     let d = c.wrapping_sub_u16-ahead in
-    c.forward.ensures ∙ full_back a.last a.own _ (search rules) (ahead_full a.last a.own d.result d.ensures (search rules))
+    c.forward.ensures ∙ full_back a.last a.own _ (search rules) (ahead_full a.last a.own d.result d.ensures.value (search rules))
 
 pub returns : goal.returns
 returns c =
     let a = c.args in
     let d = c.wrapping_sub_u16-ahead in
-    c.backward.ensures ∙ full_back a.last a.own _ (search rules) (behind_full a.last a.own d.result d.ensures (search rules) (search rules))
+    c.backward.ensures ∙ full_back a.last a.own _ (search rules) (behind_full a.last a.own d.result d.ensures.value (search rules) (search rules))

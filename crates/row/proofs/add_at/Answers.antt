@@ -43,9 +43,6 @@ put_at-requires c =
     let room = shape.room in
     omega arith
 
-pub overflow_add-row : goal.overflow_add-row
-overflow_add-row c = omega (arith, c.type_inv.row 2)
-
 pub bounds-row-3-2 : goal.bounds-row-3-2
 bounds-row-3-2 c =
     let shape =
@@ -56,7 +53,7 @@ bounds-row-3-2 c =
     omega arith
 
 pub shape_of-row : goal.shape_of-row
-shape_of-row c = simp length-set (omega (arith, c.put_at.auto.0))
+shape_of-row c = simp length-set (omega (arith, c.put_at.auto.row))
 
 pub returns : goal.returns
 returns c =

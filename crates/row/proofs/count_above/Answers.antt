@@ -1,6 +1,5 @@
 -- `row::count_above` meets its contract: the count is that of the keys before place i.
 use mathlib.Core.Path.{◌≡◌, refl, ap, ◌∙◌}
-use mathlib.Core.Logic.{⊎_elim}
 use Prim.Native.Nat.{◌-◌}
 use native.Mathlib.Omega.{arith}
 use lib.ListN.{take}
@@ -9,6 +8,7 @@ use Rattle.book.specs.Book.{standing_above}
 use Rattle.row.specs.Row.{book_in}
 use Rattle.row.proofs.Turns.{above_one, above_none}
 use Rattle.row.proofs.count_above.Goals as goal
+use Rattle.row.proofs.count_above.Goals.{then-low-key_at, else-low-key_at}
 
 pub loop-i-init : goal.loop-i-init
 unfolding those
@@ -21,14 +21,14 @@ pub loop-i-preserved : goal.loop-i-preserved
 loop-i-preserved c =
     let v = c.loop-i in
     let a = c.args in
-    ⊎_elim
-    (λ w.
-    let one = above_one a.row.now v.i (omega arith) a.low (omega arith) in
-    (omega arith, (omega arith, omega arith)))
-    (λ w.
-    let none = above_none a.row.now v.i (omega arith) a.low (omega arith) in
-    (omega arith, (omega arith, omega arith)))
-    c.if-low-key_at.branch
+    elim c.if-low-key_at.branch [
+      then-low-key_at w ↦
+        let one = above_one a.row.now v.i (omega arith) a.low (omega arith) in
+        (omega arith, (omega arith, omega arith))
+    | else-low-key_at w ↦
+        let none = above_none a.row.now v.i (omega arith) a.low (omega arith) in
+        (omega arith, (omega arith, omega arith))
+    ]
 
 pub returns : goal.returns
 returns c =

@@ -24,9 +24,6 @@ slice_bounds-shift_down-end c =
     let room = shape.room in
     omega arith
 
-pub overflow_cast-row : goal.overflow_cast-row
-overflow_cast-row c = omega (arith, c.type_inv.row 3)
-
 pub bounds-row-3-2 : goal.bounds-row-3-2
 bounds-row-3-2 c =
     let shape =

@@ -80,10 +80,6 @@ value_at-value-requires c =
     let shape = row_shaped ws yes in
     omega arith
 
-pub overflow_add-i : goal.overflow_add-i
-overflow_add-i c =
-    omega (arith, c.type_inv.row 3)
-
 pub count_above-passed-requires : goal.count_above-passed-requires
 count_above-passed-requires c =
     let a = c.args in

@@ -6,5 +6,5 @@ pub returns : goal.returns
 returns c =
     let a = c.args in
     rw c.clear.ensures
-    (down_cleared a.part.now c.move_down.new.0 a.by
+    (down_cleared a.part.now c.move_down.new.part a.by
     c.requires c.move_down.ensures)

@@ -7,7 +7,7 @@ use Rattle.search.proofs.rest_of.Given as goal
 
 abbrev pub invariant-loop-y : goal.invariant-loop-y
 invariant-loop-y l =
-    Searching l.list l.s l.k (record { l.from = l.from; l.number = l.number; l.at = l.at; coordinate = l.d; l.looked = l.looked })
+    Searching l.list l.s l.k (record { from = l.from; number = l.number; at = l.at; coordinate = l.d; looked = l.looked })
 
 abbrev pub decreases-loop-y : goal.decreases-loop-y
 decreases-loop-y l = length (trail_at l.list l.k l.at l.d)

@@ -21,15 +21,13 @@ pub returns-then-list-length : goal.returns-then-list-length
 returns-then-list-length c =
     let a = c.args in
     let n = c.new-checked in
-    let s = c.checked-1.given in
-    wrong_length_meets a.d a.k a.c n.result n.ensures a.list.now c.refused-then-list-length.result s.1 (λ e. omega arith)
+    wrong_length_meets a.d a.k a.c n.result n.ensures a.list.now c.refused-then-list-length.result c.in-Accepted.is (λ e. omega arith)
     c.refused-then-list-length.ensures
 
 pub returns : goal.returns
 returns c =
     let a = c.args in
     let n = c.new-checked in
-    let s = c.checked-1.given in
     let w = c.draw in
-    fresh_meets a.d a.k a.c n.result n.ensures a.list.now c.accepted.result w.new.0 s.1 (omega arith)
+    fresh_meets a.d a.k a.c n.result n.ensures a.list.now c.accepted.result w.new.list c.in-Accepted.is (omega arith)
     c.accepted.ensures w.ensures

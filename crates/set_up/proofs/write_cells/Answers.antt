@@ -11,39 +11,37 @@ use Rattle.settings.specs.Numbers.{cell_words}
 use Rattle.set_up.proofs.Drawing.{cell_inside, cells_start, cells_more, cells_all, next_cell, fresh_cell_written}
 use Rattle.set_up.proofs.write_cells.Goals as goal
 
--- cell x lies inside the list
-inside : (c : tie.In-loop invariant-loop decreases-loop) → c.before.loop.at + cell_words c.before.before.before.before.args.d ≤ length c.before.loop.list
-inside c =
-    let s = c.before.before.before.before in
-    omega (arith, cell_inside s.args.list.now s.args.d s.args.c s.requires c.before.loop.x (search rules))
-
 pub loop-x-init : goal.loop-x-init
 loop-x-init c =
     let a = c.args in
     (search rules, (omega (arith, zero-mul (cell_words a.d)), (refl, cells_start a.list.now a.d a.c)))
 
 pub overflow_add-end : goal.overflow_add-end
-overflow_add-end c = omega (arith, inside c, c.cell_words-cell_words.ensures)
+overflow_add-end c =
+    omega (arith, cell_inside c.args.list.now c.args.d c.args.c c.requires c.loop-x.x (search rules), c.cell_words-cell_words.ensures)
 
 pub offset_bounds-list-at : goal.offset_bounds-list-at
-offset_bounds-list-at c = omega (arith, inside c, c.cell_words-cell_words.ensures)
+offset_bounds-list-at c =
+    omega (arith, cell_inside c.args.list.now c.args.d c.args.c c.requires c.loop-x.x (search rules), c.cell_words-cell_words.ensures)
 
 pub slice_bounds-write_cell-end : goal.slice_bounds-write_cell-end
-slice_bounds-write_cell-end c = omega (arith, inside c, c.cell_words-cell_words.ensures)
+slice_bounds-write_cell-end c =
+    omega (arith, cell_inside c.args.list.now c.args.d c.args.c c.requires c.loop-x.x (search rules), c.cell_words-cell_words.ensures)
 
 pub write_cell-requires : goal.write_cell-requires
 write_cell-requires c =
     let v = c.loop-x in
     let d = c.args.d in
     let words = c.cell_words-cell_words.ensures in
-    rw words (omega (arith, mid_len v.at (v.at + cell_words d) v.list (inside c)))
+    let inside : v.at + cell_words d ≤ length v.list = omega (arith, cell_inside c.args.list.now c.args.d c.args.c c.requires c.loop-x.x (search rules)) in
+    rw words (omega (arith, mid_len v.at (v.at + cell_words d) v.list inside))
 
 pub loop-x-preserved : goal.loop-x-preserved
 loop-x-preserved c =
     let v = c.loop-x in
     let words = c.cell_words-cell_words.ensures in
     let w = c.write_cell in
-    let i = inside c in
+    let i : v.at + cell_words c.args.d ≤ length v.list = omega (arith, cell_inside c.args.list.now c.args.d c.args.c c.requires c.loop-x.x (search rules)) in
     let first = c.first_word.ensures in
     let mark = c.mark_of.ensures in
     let cell = fresh_cell_written c.args.d c.args.c v.x v.at v.list i (rw words at w.ensures) first mark in (
