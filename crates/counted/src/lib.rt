@@ -108,8 +108,7 @@ fn no_read(file: &[u8], list: &[u32]) -> Answer
 }
 
 // Makes the lent words a fresh list with D dimensions, largest key K and C cells, and its record 0.
-#[unsafe(no_mangle)]
-pub extern "C" fn counted_set_up(
+pub fn counted_set_up(
     d: u32,
     k: u32,
     c: u32,
@@ -131,8 +130,7 @@ pub extern "C" fn counted_set_up(
 }
 
 // Puts a key with its value into the list.
-#[unsafe(no_mangle)]
-pub extern "C" fn counted_insert(
+pub fn counted_insert(
     list: &mut [u32],
     classes: &mut [u32],
     key: u32,
@@ -150,8 +148,7 @@ pub extern "C" fn counted_insert(
 }
 
 // Finds a live key's value; writes nothing.
-#[unsafe(no_mangle)]
-pub extern "C" fn counted_find(list: &[u32], classes: &[u32], key: u32) -> Answer
+pub fn counted_find(list: &[u32], classes: &[u32], key: u32) -> Answer
     ensures { Meets (counted_out (call.Operate (operation.Find key)) (words_beside list.now classes.now)) result (words_beside list.now classes.now) }
 {
     let pass = check(list, classes);
@@ -163,8 +160,7 @@ pub extern "C" fn counted_find(list: &[u32], classes: &[u32], key: u32) -> Answe
 }
 
 // Moves the links that a key's cell still owes; no key lives or dies by it.
-#[unsafe(no_mangle)]
-pub extern "C" fn counted_finish(list: &mut [u32], classes: &[u32], key: u32) -> Answer
+pub fn counted_finish(list: &mut [u32], classes: &[u32], key: u32) -> Answer
     ensures { Meets (counted_out (call.Operate (operation.Finish key)) (words_beside list.old classes.now)) result (words_beside list.new classes.now) }
 {
     let pass = check(list, classes);
@@ -176,8 +172,7 @@ pub extern "C" fn counted_finish(list: &mut [u32], classes: &[u32], key: u32) ->
 }
 
 // Takes the least live key.
-#[unsafe(no_mangle)]
-pub extern "C" fn counted_take(list: &mut [u32], classes: &mut [u32]) -> Answer
+pub fn counted_take(list: &mut [u32], classes: &mut [u32]) -> Answer
     ensures { Meets (counted_out (call.Operate operation.Take) (words_beside list.old classes.old)) result (words_beside list.new classes.new) }
 {
     let pass = check(list, classes);
@@ -189,8 +184,7 @@ pub extern "C" fn counted_take(list: &mut [u32], classes: &mut [u32]) -> Answer
 }
 
 // Finishes all that is owed, moves the position and frees the cells before it; they are dead, so the record stays.
-#[unsafe(no_mangle)]
-pub extern "C" fn counted_sweep(list: &mut [u32], classes: &[u32]) -> Answer
+pub fn counted_sweep(list: &mut [u32], classes: &[u32]) -> Answer
     ensures { Meets (counted_out (call.Operate operation.Sweep) (words_beside list.old classes.now)) result (words_beside list.new classes.now) }
 {
     let pass = check(list, classes);
@@ -202,8 +196,7 @@ pub extern "C" fn counted_sweep(list: &mut [u32], classes: &[u32]) -> Answer
 }
 
 // Puts what a record of the logger's export notes into the list, with its full number as the value; `last` is the last full number.
-#[unsafe(no_mangle)]
-pub extern "C" fn counted_record(
+pub fn counted_record(
     list: &mut [u32],
     classes: &mut [u32],
     record: &[u8],
@@ -222,8 +215,7 @@ pub extern "C" fn counted_record(
 }
 
 // Writes what waits in the list into the bytes of a file; list and record stay as they are.
-#[unsafe(no_mangle)]
-pub extern "C" fn counted_write(list: &[u32], classes: &[u32], file: &mut [u8]) -> Answer
+pub fn counted_write(list: &[u32], classes: &[u32], file: &mut [u8]) -> Answer
     ensures { Meets (counted_out call.Write (beside (lent_of list.now file.old 0) classes.now)) result (beside (lent_of list.now file.new 0) classes.now) }
 {
     let pass = check(list, classes);
@@ -234,8 +226,7 @@ pub extern "C" fn counted_write(list: &[u32], classes: &[u32], file: &mut [u8]) 
 }
 
 // Makes the lent words the list that a file keeps, and the record its full reading, whatever they held.
-#[unsafe(no_mangle)]
-pub extern "C" fn counted_read(file: &[u8], list: &mut [u32], classes: &mut [u32]) -> Answer
+pub fn counted_read(file: &[u8], list: &mut [u32], classes: &mut [u32]) -> Answer
     ensures { Meets (counted_out call.Read (beside (lent_of list.old file.now 0) classes.old)) result (beside (lent_of list.new file.now 0) classes.new) }
 {
     if classes.len() != classes::RECORD_WORDS {
@@ -250,8 +241,7 @@ pub extern "C" fn counted_read(file: &[u8], list: &mut [u32], classes: &mut [u32
 }
 
 // Makes many calls on the list after one check and one comparison, and puts four words of answer for each; the record is written once.
-#[unsafe(no_mangle)]
-pub extern "C" fn counted_batch(
+pub fn counted_batch(
     list: &mut [u32],
     classes: &mut [u32],
     calls: &[u32],
@@ -273,8 +263,7 @@ pub extern "C" fn counted_batch(
 }
 
 // The question about one class: its least live key and its live count as the record has them. It takes the record alone.
-#[unsafe(no_mangle)]
-pub extern "C" fn counted_class(classes: &[u32], class: u32) -> Answer
+pub fn counted_class(classes: &[u32], class: u32) -> Answer
     ensures { Meets (class_out class classes.now) result classes.now }
 {
     classes::class_of(classes, class)

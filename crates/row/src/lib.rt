@@ -338,8 +338,7 @@ fn free_first(row: &mut [u32], freed: usize)
 }
 
 // Makes the lent words a fresh row for dimensions D, largest key K and C cells.
-#[unsafe(no_mangle)]
-pub extern "C" fn row_set_up(d: u32, k: u32, c: u32, row: &mut [u32]) -> Answer
+pub fn row_set_up(d: u32, k: u32, c: u32, row: &mut [u32]) -> Answer
     ensures { Meets (row_set_up_out d k c row.old) result row.new }
 {
     if !Settings::in_range(d, k, c) {
@@ -356,8 +355,7 @@ pub extern "C" fn row_set_up(d: u32, k: u32, c: u32, row: &mut [u32]) -> Answer
 }
 
 // Puts a key with its value into the row.
-#[unsafe(no_mangle)]
-pub extern "C" fn row_insert(row: &mut [u32], key: u32, value: u32) -> Answer
+pub fn row_insert(row: &mut [u32], key: u32, value: u32) -> Answer
     ensures { Meets (row_out (Insert key value) row.old) result row.new }
 {
     if !is_row(row) {
@@ -385,8 +383,7 @@ pub extern "C" fn row_insert(row: &mut [u32], key: u32, value: u32) -> Answer
 }
 
 // Finds a live key's value; writes nothing.
-#[unsafe(no_mangle)]
-pub extern "C" fn row_find(row: &[u32], key: u32) -> Answer
+pub fn row_find(row: &[u32], key: u32) -> Answer
     ensures { Meets (row_out (Find key) row.now) result row.now }
 {
     if !is_row(row) {
@@ -406,8 +403,7 @@ pub extern "C" fn row_find(row: &[u32], key: u32) -> Answer
 }
 
 // Tells whether a key stands: a row owes nothing.
-#[unsafe(no_mangle)]
-pub extern "C" fn row_finish(row: &[u32], key: u32) -> Answer
+pub fn row_finish(row: &[u32], key: u32) -> Answer
     ensures { Meets (row_out (Finish key) row.now) result row.now }
 {
     if !is_row(row) {
@@ -424,8 +420,7 @@ pub extern "C" fn row_finish(row: &[u32], key: u32) -> Answer
 }
 
 // Takes the least live key.
-#[unsafe(no_mangle)]
-pub extern "C" fn row_take(row: &mut [u32]) -> Answer
+pub fn row_take(row: &mut [u32]) -> Answer
     ensures { Meets (row_out Take row.old) result row.new }
 {
     if !is_row(row) {
@@ -445,8 +440,7 @@ pub extern "C" fn row_take(row: &mut [u32]) -> Answer
 }
 
 // Frees the dead keys before the first live one, but for the last of them: it is kept and becomes the position.
-#[unsafe(no_mangle)]
-pub extern "C" fn row_sweep(row: &mut [u32]) -> Answer
+pub fn row_sweep(row: &mut [u32]) -> Answer
     ensures { Meets (row_out Sweep row.old) result row.new }
 {
     if !is_row(row) {
