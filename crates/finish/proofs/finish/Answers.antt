@@ -1,5 +1,4 @@
 -- `finish::finish` meets its contract: the key and what the search found decide the way out, and each has the outcome of the definition.
--- the key's cell, where it stands
 use mathlib.Core.Path.{◌∙◌, sym, ap₂}
 use Prim.Native.Nat.{◌-◌, ◌<◌}
 use native.Mathlib.Omega.{arith}
@@ -13,9 +12,6 @@ use Rattle.search.proofs.Slots.{standing_cell}
 use Rattle.finish.proofs.Debts.{listed_payable, listed_low}
 use Rattle.finish.proofs.Call.{absent_meets, standing_meets}
 use Rattle.finish.proofs.finish.Goals as goal
-
-cell : (c : tie.Else2) → c.before.before.search.result.c < c.before.before.before.before.before.before.before.before.args.s.cells
-cell c = let f = c.before.before.search in standing_cell f.ensures.sought (not-false f.result.standing c.if2.false)
 
 pub returns-then-not-has_key : goal.returns-then-not-has_key
 unfolding finish_out
@@ -35,21 +31,21 @@ returns-then-not-f c =
     absent_meets f.ensures.sought (not-true f.result.standing c.if-not-f.true) c.refused_at.ensures
 
 pub word-requires : goal.word-requires
-word-requires c = (listed_shaped c.search-f.ensures.sought.list, field_within (cell c) (omega arith))
+word-requires c = (listed_shaped c.search-f.ensures.sought.list, field_within (standing_cell c.search-f.ensures.sought (not-false c.search-f.result.standing c.if-not-f.false)) (omega arith))
 
 pub word-requires-2 : goal.word-requires-2
-word-requires-2 c = (listed_shaped c.search-f.ensures.sought.list, field_within (cell c) (omega arith))
+word-requires-2 c = (listed_shaped c.search-f.ensures.sought.list, field_within (standing_cell c.search-f.ensures.sought (not-false c.search-f.result.standing c.if-not-f.false)) (omega arith))
 
 pub overflow_sub-moved : goal.overflow_sub-moved
 overflow_sub-moved c =
     let f = c.search-f in
-    omega (arith, listed_low f.ensures.sought.list f.result.c (cell c))
+    omega (arith, listed_low f.ensures.sought.list f.result.c (standing_cell c.search-f.ensures.sought (not-false c.search-f.result.standing c.if-not-f.false)))
 
 pub finish_cell-requires : goal.finish_cell-requires
 finish_cell-requires c =
     let f = c.search-f in
     let h = f.ensures.sought.list in
-    (listed_shaped h, listed_payable h f.result.c (cell c))
+    (listed_shaped h, listed_payable h f.result.c (standing_cell c.search-f.ensures.sought (not-false c.search-f.result.standing c.if-not-f.false)))
 
 pub returns : goal.returns
 returns c =

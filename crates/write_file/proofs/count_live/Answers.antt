@@ -1,11 +1,11 @@
 -- `write_file::count_live` meets its contract: at each turn the live cells before x are counted, and those from x on are still to be.
-use mathlib.Core.Logic.{⊎_elim}
 use Prim.Native.Nat.{◌-◌}
 use native.Mathlib.Omega.{arith}
 use Rattle.words.proofs.Shaped.{field_within}
 use Rattle.words.proofs.Listed.{listed_shaped}
 use Rattle.write_file.proofs.Counting.{counted_start, counted_live, counted_other, counted_all}
 use Rattle.write_file.proofs.count_live.Goals as goal
+use Rattle.write_file.proofs.count_live.Goals.{then-word-eq-LIVE, else-word-eq-LIVE}
 
 pub loop-x-init : goal.loop-x-init
 loop-x-init c = counted_start c.requires
@@ -26,8 +26,10 @@ loop-x-smaller c = omega (arith, c.loop-x-test.true)
 
 pub loop-x-preserved : goal.loop-x-preserved
 loop-x-preserved c =
-    ⊎_elim (λ w. rw w.1 (counted_live c.loop-x.invariant c.loop-x-test.true c.word.ensures w.0.taken))
-    (λ w. rw w.1 (counted_other c.loop-x.invariant c.loop-x-test.true c.word.ensures w.0.left)) c.if-word-eq-LIVE.branch
+    elim c.if-word-eq-LIVE.branch [
+      then-word-eq-LIVE w ↦ rw w.n-is (counted_live c.loop-x.invariant c.loop-x-test.true c.word.ensures w.if-word-eq-LIVE.true)
+    | else-word-eq-LIVE w ↦ rw w.n-is (counted_other c.loop-x.invariant c.loop-x-test.true c.word.ensures w.if-word-eq-LIVE.false)
+    ]
 
 pub returns : goal.returns
 returns c = counted_all c.loop-x.invariant c.loop-x-test.false

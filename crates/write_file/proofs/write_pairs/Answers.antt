@@ -11,6 +11,7 @@ use Rattle.paths.proofs.Listed.{listed_walkable}
 use Rattle.write_file.proofs.Writing.{writing_start, writing_length, writing_end, writing_less, writing_past}
 use Rattle.write_file.proofs.Writing.{writing_room, writing_here}
 use Rattle.write_file.proofs.write_pairs.Goals as goal
+use Rattle.write_file.proofs.write_pairs.Goals.{then-word-eq-LIVE, else-word-eq-LIVE}
 
 pub loop-s-init : goal.loop-s-init
 loop-s-init c =
@@ -64,9 +65,10 @@ loop-s-preserved c =
     let listed = c.requires.0 in
     let next = found_held c.loop-s.invariant.path_in c.next_from-next.ensures in
     rw c.put_onward.ensures
-    (⊎_elim
-    (λ w.
-    rw (w.7, w.8)
-    (writing_here listed c.loop-s.invariant next c.if-next-eq0.false c.word.ensures w.0.taken w.1.ensures w.2.ensures w.4.ensures))
-    (λ w. rw (w.1, w.2) (writing_past listed c.loop-s.invariant next c.if-next-eq0.false c.word.ensures w.0.left))
-    c.if-word-eq-LIVE.branch)
+    (elim c.if-word-eq-LIVE.branch [
+      then-word-eq-LIVE w ↦
+        rw (w.file-is, w.i-is)
+        (writing_here listed c.loop-s.invariant next c.if-next-eq0.false c.word.ensures w.if-word-eq-LIVE.true w.word-key.ensures w.word-value.ensures w.write_pair.ensures)
+    | else-word-eq-LIVE w ↦
+        rw (w.file-is, w.i-is) (writing_past listed c.loop-s.invariant next c.if-next-eq0.false c.word.ensures w.if-word-eq-LIVE.false)
+    ])

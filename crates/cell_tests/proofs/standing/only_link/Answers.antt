@@ -1,7 +1,6 @@
 -- `cell_tests::standing::only_link` meets its contract: the links from d on that are still to be tested decide as all of them do.
 use mathlib.Core.Path.{◌≡◌, sym, ◌∙◌}
 use mathlib.Core.Bool.{cond}
-use mathlib.Core.Logic.{⊎_elim}
 use Prim.Native.Nat.{◌-◌}
 use native.Mathlib.Omega.{arith}
 use lib.Dec.{eqb}
@@ -13,15 +12,7 @@ use Rattle.words.proofs.Shaped.{shaped_dimensions}
 use Rattle.cell_tests.specs.Tests.{link_is}
 use Rattle.cell_tests.proofs.Tests.{all_start, all_next, all_fails, all_done}
 use Rattle.cell_tests.proofs.standing.only_link.Goals as goal
-
--- the link that is expected
-expected-is :
-    (c : tie.Joined2 invariant-loop decreases-loop) → let a = c.before.before.before.before.before.args in
-    c.if2.expected ≡ cond (eqb c.before.before.before.loop.d a.high) a.c 0
-expected-is c =
-    let d = c.before.before.before.loop.d in
-    let high = c.before.before.before.before.before.args.high in
-    ⊎_elim (λ w. rw (eq-eqb d high w.0.taken) w.1) (λ w. rw (ne_eqb d high w.0.left) w.1) c.if2.branch
+use Rattle.cell_tests.proofs.standing.only_link.Goals.{then-d-high, else-d-high}
 
 pub loop-d-init : goal.loop-d-init
 loop-d-init c =
@@ -32,7 +23,10 @@ pub returns-then-link-expected : goal.returns-then-link-expected
 returns-then-link-expected c =
     let v = c.loop-d in
     let a = c.args in
-    let k = expected-is c in
+    let expected : c.if-d-high.expected ≡ cond (eqb v.d a.high) a.c 0 = elim c.if-d-high.branch [
+      then-d-high w ↦ rw (eq-eqb v.d a.high w.if-d-high.true) w.expected-is
+    | else-d-high w ↦ rw (ne_eqb v.d a.high w.if-d-high.false) w.expected-is
+    ] in
     let t = ne_eqb (link_at a.list.now a.y v.d) (cond (eqb v.d a.high) a.c 0) (λ e. omega arith) in
     sym (v.invariant.1 ∙ all_fails (link_is a.list.now a.y a.high a.c) (omega (arith, shaped_dimensions c.requires.0)) t)
 
@@ -40,7 +34,10 @@ pub loop-d-preserved : goal.loop-d-preserved
 loop-d-preserved c =
     let v = c.loop-d in
     let a = c.args in
-    let k = expected-is c in
+    let expected : c.if-d-high.expected ≡ cond (eqb v.d a.high) a.c 0 = elim c.if-d-high.branch [
+      then-d-high w ↦ rw (eq-eqb v.d a.high w.if-d-high.true) w.expected-is
+    | else-d-high w ↦ rw (ne_eqb v.d a.high w.if-d-high.false) w.expected-is
+    ] in
     let t = eq-eqb (link_at a.list.now a.y v.d) (cond (eqb v.d a.high) a.c 0) (omega arith) in
     (search rules, v.invariant.1 ∙ all_next (link_is a.list.now a.y a.high a.c) (omega (arith, shaped_dimensions c.requires.0)) t)
 
