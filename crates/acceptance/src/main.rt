@@ -23,6 +23,8 @@ ghost use Rattle.acceptance_step.specs.Lines.{most_row_words};
 ghost use Rattle.acceptance.specs.Kept.{Kept};
 
 use acceptance_step::{Sizes, State, Tally};
+use std::io::Read;
+use std::rt::Stdin;
 use text::feed::Feed;
 
 // What is kept from one byte to the next, beside the arrays and the bytes of the line begun.
@@ -62,7 +64,7 @@ fn feed_part(words: &mut [u32], keys: &mut [u32], line: &mut [u8], before: Fed, 
 
 // The input, in parts, to its end or to a read that fails, and the verdict. Nothing says that an input ends, so the turns are counted down from a
 // number that no run uses up.
-fn read_all(words: &mut [u32], keys: &mut [u32], line: &mut [u8])
+fn read_all(input: &mut Stdin, words: &mut [u32], keys: &mut [u32], line: &mut [u8])
     requires { (length words.old ≡ most_words) × ((length keys.old ≡ most_row_words) × (length line.old ≡ most_bytes)) }
 {
     let mut s = Fed {
@@ -75,11 +77,12 @@ fn read_all(words: &mut [u32], keys: &mut [u32], line: &mut [u8])
     let mut part = io::large_buffer();
     let mut turns = u64::MAX;
     while 0 < turns {
-        let got = libc::read(0, &mut part);
-        if got <= 0 {
+        let Ok(n) = input.read(&mut part) else {
+            break;
+        };
+        if n == 0 {
             break;
         }
-        let n = io::count(got, &part);
         s = feed_part(words, keys, line, s, &part[..n]);
         turns -= 1;
     }
@@ -89,9 +92,10 @@ fn read_all(words: &mut [u32], keys: &mut [u32], line: &mut [u8])
     acceptance_step::say_verdict(state.tally);
 }
 
-fn main() {
+fn main(rt: HostRuntime) {
+    let mut input = rt.stdin();
     let mut words = [0u32; trace::MOST_WORDS];
     let mut keys = [0u32; acceptance_step::MOST_ROW_WORDS];
     let mut line = [0u8; text::feed::MOST_BYTES];
-    read_all(&mut words, &mut keys, &mut line);
+    read_all(&mut input, &mut words, &mut keys, &mut line);
 }

@@ -18,6 +18,8 @@ ghost use Rattle.counted_step.specs.Lines.{most_classes};
 ghost use Rattle.counted_replay.specs.Kept.{Kept};
 
 use counted_step::Sizes;
+use std::io::Read;
+use std::rt::Stdin;
 use text::feed::Feed;
 
 // What is kept from one byte to the next, beside the arrays, the last number and the bytes of the line begun: how much is held.
@@ -74,6 +76,7 @@ fn feed_part(
 // The input, in parts, to its end or to a read that fails. Nothing says that an input ends, so the turns are counted down from a number
 // that no run uses up.
 fn read_all(
+    input: &mut Stdin,
     words: &mut [u32],
     bytes: &mut [u8],
     last: &mut u64,
@@ -93,11 +96,12 @@ fn read_all(
     let mut part = io::large_buffer();
     let mut turns = u64::MAX;
     while 0 < turns {
-        let got = libc::read(0, &mut part);
-        if got <= 0 {
+        let Ok(n) = input.read(&mut part) else {
+            break;
+        };
+        if n == 0 {
             break;
         }
-        let n = io::count(got, &part);
         s = feed_part(words, bytes, last, classes, line, s, &part[..n]);
         turns -= 1;
     }
@@ -106,11 +110,19 @@ fn read_all(
     counted_step::answer_line(words, bytes, last, classes, sizes, line, ended);
 }
 
-fn main() {
+fn main(rt: HostRuntime) {
+    let mut input = rt.stdin();
     let mut words = [0u32; trace::MOST_WORDS];
     let mut bytes = [0u8; trace::MOST_HELD];
     let mut last = full_number::NO_NUMBER;
     let mut classes = [0u32; counted_step::MOST_CLASSES];
     let mut line = [0u8; text::feed::MOST_BYTES];
-    read_all(&mut words, &mut bytes, &mut last, &mut classes, &mut line);
+    read_all(
+        &mut input,
+        &mut words,
+        &mut bytes,
+        &mut last,
+        &mut classes,
+        &mut line,
+    );
 }

@@ -23,6 +23,8 @@ ghost use Rattle.logger.specs.Input.{kept, TextOfTake, Took, Drained};
 
 use notes::feed::{Feed, Told};
 use settings::Settings;
+use std::io::Read;
+use std::rt::Stdin;
 
 // What is kept from one byte to the next, beside the words and the last number: whether every answer has been written.
 #[derive(Clone, Copy)]
@@ -129,7 +131,7 @@ fn feed_end(words: &mut [u32], settings: Settings, last: &mut u64, feed: Feed) -
 
 // The export, in parts, to its end, on a fresh list. Nothing says that an input ends, so the turns are counted down from a number that no
 // run uses up.
-fn read_all(words: &mut [u32], settings: Settings, last: &mut u64) -> End
+fn read_all(input: &mut Stdin, words: &mut [u32], settings: Settings, last: &mut u64) -> End
     requires { (words.old ≡ fresh_words) × Listed words.old settings }
     ensures { Listed words.new settings }
 {
@@ -137,14 +139,12 @@ fn read_all(words: &mut [u32], settings: Settings, last: &mut u64) -> End
     let mut part = io::large_buffer();
     let mut turns = u64::MAX;
     while 0 < turns {
-        let got = libc::read(0, &mut part);
-        if got < 0 {
+        let Ok(n) = input.read(&mut part) else {
             return End::NotRead;
-        }
-        if got == 0 {
+        };
+        if n == 0 {
             return feed_end(words, settings, last, feed);
         }
-        let n = io::count(got, &part);
         let s = feed_part(words, settings, last, feed, &part[..n]);
         if !s.written {
             return End::NotWritten;
@@ -191,11 +191,11 @@ fn drain(words: &mut [u32], settings: Settings) -> End
 }
 
 // The export, an empty line, and what is taken.
-fn run(words: &mut [u32], settings: Settings, last: &mut u64) -> End
+fn run(input: &mut Stdin, words: &mut [u32], settings: Settings, last: &mut u64) -> End
     requires { (words.old ≡ fresh_words) × Listed words.old settings }
     ensures { Drained words.new result }
 {
-    let end = read_all(words, settings, last);
+    let end = read_all(input, words, settings, last);
     match end {
         End::AllAnswered => {
             if io::write_all(1, b"\n") {
@@ -208,11 +208,12 @@ fn run(words: &mut [u32], settings: Settings, last: &mut u64) -> End
     }
 }
 
-fn main() {
+fn main(rt: HostRuntime) {
     let mut words = [0u32; entry_list::WORDS];
     let mut last = full_number::NO_NUMBER;
     let settings = entry_list::set_up(&mut words);
-    let end = run(&mut words, settings, &mut last);
+    let mut input = rt.stdin();
+    let end = run(&mut input, &mut words, settings, &mut last);
     match end {
         End::AllAnswered => return,
         End::NotRead => {

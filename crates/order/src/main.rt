@@ -24,6 +24,8 @@ ghost use Rattle.order_step.specs.Step.{line_outcome};
 ghost use Rattle.entry_list.specs.EntryList.{fresh_words};
 
 use settings::Settings;
+use std::io::Read;
+use std::rt::Stdin;
 use text::feed::{Feed, Told};
 
 // What is kept from one byte to the next, beside the words and the bytes of the line begun: whether every answer has been written.
@@ -114,21 +116,19 @@ fn feed_end(words: &mut [u32], settings: Settings, line: &[u8], feed: Feed) -> E
 
 // The input, in parts, to its end, on a fresh list. Nothing says that an input ends, so the turns are counted down from a number that no
 // run uses up.
-fn read_all(words: &mut [u32], settings: Settings, line: &mut [u8]) -> End
+fn read_all(input: &mut Stdin, words: &mut [u32], settings: Settings, line: &mut [u8]) -> End
     requires { (length line.old ≡ most_bytes) × ((words.old ≡ fresh_words) × Listed words.old settings) }
 {
     let mut feed = text::feed::start();
     let mut part = io::large_buffer();
     let mut turns = u64::MAX;
     while 0 < turns {
-        let got = libc::read(0, &mut part);
-        if got < 0 {
+        let Ok(n) = input.read(&mut part) else {
             return End::NotRead;
-        }
-        if got == 0 {
+        };
+        if n == 0 {
             return feed_end(words, settings, line, feed);
         }
-        let n = io::count(got, &part);
         let s = feed_part(words, settings, line, feed, &part[..n]);
         if !s.written {
             return End::NotWritten;
@@ -139,11 +139,12 @@ fn read_all(words: &mut [u32], settings: Settings, line: &mut [u8]) -> End
     End::NotRead
 }
 
-fn main() {
+fn main(rt: HostRuntime) {
     let mut words = [0u32; entry_list::WORDS];
     let mut line = [0u8; text::feed::MOST_BYTES];
     let settings = entry_list::set_up(&mut words);
-    let end = read_all(&mut words, settings, &mut line);
+    let mut input = rt.stdin();
+    let end = read_all(&mut input, &mut words, settings, &mut line);
     match end {
         End::AllAnswered => return,
         End::NotRead => {

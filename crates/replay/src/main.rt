@@ -34,6 +34,8 @@ ghost use Rattle.text.specs.Lines.{most_bytes};
 ghost use Rattle.trace.specs.Lines.{most_words, most_held};
 ghost use Rattle.replay.specs.Kept.{Kept};
 
+use std::io::Read;
+use std::rt::Stdin;
 use text::feed::Feed;
 use trace_step::Sizes;
 
@@ -87,7 +89,7 @@ fn feed_part(
 
 // The input, in parts, to its end or to a read that fails. Nothing says that an input ends, so the turns are counted down from a number
 // that no run uses up.
-fn read_all(words: &mut [u32], bytes: &mut [u8], last: &mut u64, line: &mut [u8])
+fn read_all(input: &mut Stdin, words: &mut [u32], bytes: &mut [u8], last: &mut u64, line: &mut [u8])
     requires { (length words.old ≡ most_words) × ((length bytes.old ≡ most_held) × (length line.old ≡ most_bytes)) }
 {
     let mut s = State {
@@ -97,11 +99,12 @@ fn read_all(words: &mut [u32], bytes: &mut [u8], last: &mut u64, line: &mut [u8]
     let mut part = io::large_buffer();
     let mut turns = u64::MAX;
     while 0 < turns {
-        let got = libc::read(0, &mut part);
-        if got <= 0 {
+        let Ok(n) = input.read(&mut part) else {
+            break;
+        };
+        if n == 0 {
             break;
         }
-        let n = io::count(got, &part);
         s = feed_part(words, bytes, last, line, s, &part[..n]);
         turns -= 1;
     }
@@ -110,10 +113,11 @@ fn read_all(words: &mut [u32], bytes: &mut [u8], last: &mut u64, line: &mut [u8]
     trace_step::answer_line(words, bytes, last, sizes, line, ended);
 }
 
-fn main() {
+fn main(rt: HostRuntime) {
+    let mut input = rt.stdin();
     let mut words = [0u32; trace::MOST_WORDS];
     let mut bytes = [0u8; trace::MOST_HELD];
     let mut last = full_number::NO_NUMBER;
     let mut line = [0u8; text::feed::MOST_BYTES];
-    read_all(&mut words, &mut bytes, &mut last, &mut line);
+    read_all(&mut input, &mut words, &mut bytes, &mut last, &mut line);
 }

@@ -9,6 +9,8 @@ ghost use Rattle.text.specs.Lines.{most_bytes};
 ghost use Rattle.trace.specs.Lines.{most_words};
 ghost use Rattle.row_replay.specs.Kept.{Kept};
 
+use std::io::Read;
+use std::rt::Stdin;
 use text::feed::Feed;
 
 // What is kept from one byte to the next, beside the words and the bytes of the line begun: how many words are held.
@@ -47,7 +49,7 @@ fn feed_part(words: &mut [u32], line: &mut [u8], state: State, part: &[u8]) -> S
 
 // The input, in parts, to its end or to a read that fails. Nothing says that an input ends, so the turns are counted down from a number
 // that no run uses up.
-fn read_all(words: &mut [u32], line: &mut [u8])
+fn read_all(input: &mut Stdin, words: &mut [u32], line: &mut [u8])
     requires { (length words.old ≡ most_words) × (length line.old ≡ most_bytes) }
 {
     let mut s = State {
@@ -57,11 +59,12 @@ fn read_all(words: &mut [u32], line: &mut [u8])
     let mut part = io::large_buffer();
     let mut turns = u64::MAX;
     while 0 < turns {
-        let got = libc::read(0, &mut part);
-        if got <= 0 {
+        let Ok(n) = input.read(&mut part) else {
+            break;
+        };
+        if n == 0 {
             break;
         }
-        let n = io::count(got, &part);
         s = feed_part(words, line, s, &part[..n]);
         turns -= 1;
     }
@@ -69,8 +72,9 @@ fn read_all(words: &mut [u32], line: &mut [u8])
     row_step::answer_line(words, s.used, line, ended);
 }
 
-fn main() {
+fn main(rt: HostRuntime) {
+    let mut input = rt.stdin();
     let mut words = [0u32; trace::MOST_WORDS];
     let mut line = [0u8; text::feed::MOST_BYTES];
-    read_all(&mut words, &mut line);
+    read_all(&mut input, &mut words, &mut line);
 }

@@ -11,7 +11,7 @@ returns-then-t-eq0 c =
 pub drop_front-count-requires : goal.drop_front-count-requires
 drop_front-count-requires c =
     let paid = c.finish_all.ensures.1 in
-    (record { paid = paid; target = c.seek_target-t.ensures; c = c.if-t-eq0.false }, c.requires.1)
+    (record { paid = paid; target = c.seek_target-t.ensures; other = c.if-t-eq0.false }, c.requires.1)
 
 pub returns : goal.returns
 returns c =

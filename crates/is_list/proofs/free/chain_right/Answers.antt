@@ -9,12 +9,6 @@ use Rattle.cell_tests.proofs.Tests.{holds, lacks}
 use Rattle.is_list.proofs.Ends.{chain_more, chain_broken, chain_end}
 use Rattle.is_list.proofs.free.chain_right.Goals as goal
 
--- the cell that was found free
-free_is :
-    (c : tie.Else1 invariant-loop decreases-loop) → let v = c.before.before.before in
-    free_right v.before.before.args.list.now v.loop.c ≡ true
-free_is c = holds c.before.free-right.ensures c.if1.false
-
 pub loop-left-init : goal.loop-left-init
 loop-left-init c = refl
 
@@ -27,14 +21,14 @@ returns-then-not-free_right c =
 
 pub word-c-requires : goal.word-c-requires
 word-c-requires c =
-    let f = free_right_lem c.args.list.now c.loop-left.c (free_is c) in
+    let f = free_right_lem c.args.list.now c.loop-left.c (holds c.free_right.ensures c.if-not-free_right.false-raw) in
     (c.requires, field_within (omega (arith, shaped_cells c.requires)) (omega arith))
 
 pub loop-left-preserved : goal.loop-left-preserved
 loop-left-preserved c =
     let v = c.loop-left in
     let l = c.args.list.now in
-    v.invariant ∙ chain_more l v.c v.left c.loop-left-test.true (free_is c) c.word-c.ensures
+    v.invariant ∙ chain_more l v.c v.left c.loop-left-test.true (holds c.free_right.ensures c.if-not-free_right.false-raw) c.word-c.ensures
 
 pub returns : goal.returns
 returns c =

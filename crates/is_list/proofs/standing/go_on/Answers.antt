@@ -29,8 +29,8 @@ pub returns-then-n-eq0 : goal.returns-then-n-eq0
 returns-then-n-eq0 c =
     let a = c.args in
     let l = c.put_links-n in
-    next_ends c.requires.0 a.x a.e a.from c.requires.1.1.0 (pending_of a.cells.now a.numbers.now a.count) l.new.1.1.1.1.0
-    l.new.1.1.1.1.1.0 (holds c.links_none.ensures c.if-not-links_none.false-raw) (holds c.owes_nothing.ensures c.if-not-owes_nothing.false-raw) l.ensures.0
+    next_ends c.requires.0 a.x a.e a.from c.requires.1.1.0 (pending_of a.cells.now a.numbers.now a.count) l.new.cells
+    l.new.numbers (holds c.links_none.ensures c.if-not-links_none.false-raw) (holds c.owes_nothing.ensures c.if-not-owes_nothing.false-raw) l.ensures.0
     l.ensures.1 c.if-n-eq0.true
 
 pub bounds-numbers-top : goal.bounds-numbers-top
@@ -47,6 +47,6 @@ pub returns : goal.returns
 returns c =
     let a = c.args in
     let l = c.put_links-n in
-    next_goes c.requires.0 a.x a.e a.from c.requires.1.1.0 (pending_of a.cells.now a.numbers.now a.count) l.new.1.1.1.1.0
-    l.new.1.1.1.1.1.0 (holds c.links_none.ensures c.if-not-links_none.false-raw) (holds c.owes_nothing.ensures c.if-not-owes_nothing.false-raw) l.ensures.0
+    next_goes c.requires.0 a.x a.e a.from c.requires.1.1.0 (pending_of a.cells.now a.numbers.now a.count) l.new.cells
+    l.new.numbers (holds c.links_none.ensures c.if-not-links_none.false-raw) (holds c.owes_nothing.ensures c.if-not-owes_nothing.false-raw) l.ensures.0
     l.ensures.1 (omega arith)

@@ -9,10 +9,6 @@ use Rattle.is_list.specs.Standing.{pending_of}
 use Rattle.is_list.proofs.InOrder.{put_ends, put_passes, put_goes, ranked_goes}
 use Rattle.is_list.proofs.standing.put_links.Goals as goal
 
--- there is room for one link more
-room : (c : tie.Else2 invariant-loop decreases-loop) → c.before.before.before.before.loop.n < 16
-room c = let v = c.before.before.before.before.loop in omega (arith, v.invariant.1.0.few, c.before.before.before.before.before.before.before.before.requires.0.dimensions_most)
-
 pub loop-d-init : goal.loop-d-init
 loop-d-init c = let pre = c.requires in (pre.1.1.0, (pre.1.1.1, refl))
 
@@ -30,13 +26,13 @@ loop-d-preserved-then-y-eq0 c =
     )
 
 pub bounds-cells-n : goal.bounds-cells-n
-bounds-cells-n c = omega (arith, room c, c.loop-d.invariant.1.0.cells_long)
+bounds-cells-n c = omega (arith, c.loop-d.invariant.1.0.few, c.requires.0.dimensions_most, c.loop-d.invariant.1.0.cells_long)
 
 pub bounds-numbers-n : goal.bounds-numbers-n
-bounds-numbers-n c = omega (arith, room c, c.loop-d.invariant.1.0.numbers_long)
+bounds-numbers-n c = omega (arith, c.loop-d.invariant.1.0.few, c.requires.0.dimensions_most, c.loop-d.invariant.1.0.numbers_long)
 
 pub overflow_add-n : goal.overflow_add-n
-overflow_add-n c = omega (arith, room c)
+overflow_add-n c = omega (arith, c.loop-d.invariant.1.0.few, c.requires.0.dimensions_most)
 
 pub loop-d-preserved : goal.loop-d-preserved
 loop-d-preserved c =
@@ -44,7 +40,7 @@ loop-d-preserved c =
     let a = c.args in
     let p = v.invariant.1.0 in
     let y = c.link-y in
-    let fits = room c in (
+    let fits : c.loop-d.n < 16 = omega (arith, c.loop-d.invariant.1.0.few, c.requires.0.dimensions_most) in (
       omega arith,
       (
         record {

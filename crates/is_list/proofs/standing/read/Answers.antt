@@ -3,13 +3,8 @@
 use mathlib.Core.Path.{refl}
 use borrow.Author.Tests.{not-true, not-false}
 use Rattle.account.proofs.Loop.{hung_least}
-use Rattle.is_list.specs.declared.standing.Way.{Way}
 use Rattle.is_list.proofs.InOrder.{reading_starts, reading_wrong, reading_ends, reading_refused, reading_goes}
 use Rattle.is_list.proofs.standing.read.Goals as goal
-
--- where the next cell is
-abbrev at-way : tie.After-known-told invariant-loop decreases-loop → Way
-at-way c = c.before.goes.given.0.0
 
 pub loop-seen-init : goal.loop-seen-init
 loop-seen-init c = reading_starts c.requires _ _ refl refl
@@ -29,15 +24,15 @@ pub enter-seen-requires : goal.enter-seen-requires
 enter-seen-requires c =
     let pre = c.requires in
     let k = c.loop-seen.invariant in
-    (pre.shaped, (pre.levels, ((c.go_on-goes.ensures.goes (at-way c) c.in-Goes.is).number, k.within)))
+    (pre.shaped, (pre.levels, ((c.go_on-goes.ensures.goes c.in-Goes.w c.in-Goes.is).number, k.within)))
 
 pub returns-then-not-seen : goal.returns-then-not-seen
 returns-then-not-seen c =
-    reading_refused c.loop-seen.invariant c.go_on-goes.ensures (at-way c) c.in-Goes.is c.enter-seen.ensures (not-true c.enter-seen.result.right c.if-not-seen.true)
+    reading_refused c.loop-seen.invariant c.go_on-goes.ensures c.in-Goes.w c.in-Goes.is c.enter-seen.ensures (not-true c.enter-seen.result.right c.if-not-seen.true)
 
 pub loop-seen-smaller : goal.loop-seen-smaller
 loop-seen-smaller c = c.enter-seen.ensures.falls (not-false c.enter-seen.result.right c.if-not-seen.false)
 
 pub loop-seen-preserved : goal.loop-seen-preserved
 loop-seen-preserved c =
-    reading_goes c.loop-seen.invariant c.go_on-goes.ensures (at-way c) c.in-Goes.is c.enter-seen.ensures (not-false c.enter-seen.result.right c.if-not-seen.false)
+    reading_goes c.loop-seen.invariant c.go_on-goes.ensures c.in-Goes.w c.in-Goes.is c.enter-seen.ensures (not-false c.enter-seen.result.right c.if-not-seen.false)
