@@ -1,5 +1,5 @@
-//! Links the archives that `rt staticlib mdlist`, `rt staticlib counted` and `rt staticlib row` write: from the folder that the environment
-//! variable `MDLIST_LIB_DIR` names, or else from this repository's target folder.
+//! Links the archives that `host/archives` writes: from the folder that the environment variable `MDLIST_LIB_DIR` names, or else from this
+//! repository's target folder.
 
 use std::env;
 use std::path::PathBuf;
@@ -23,7 +23,7 @@ fn main() {
         let archive = folder.join(format!("lib{name}.a"));
         if !archive.exists() {
             // no failure: `cargo check` and `cargo doc` need no archive
-            println!("cargo:warning={} is not there: `rt staticlib {name}` writes it, {FOLDER} names its folder", archive.display());
+            println!("cargo:warning={} is not there: `host/archives` writes it, {FOLDER} names its folder", archive.display());
         }
         println!("cargo:rustc-link-lib=static={name}");
         println!("cargo:rerun-if-changed={}", archive.display());

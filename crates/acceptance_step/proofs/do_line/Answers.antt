@@ -24,8 +24,8 @@ returns c =
     let keys = c.resized-m in
     let sizes = c.sizes_for-next.ensures in
     let room = c.requires.0 in
-    let long : length called.new.0 ≡ words.result = search rules in
-    let long-keys : length called.new.1.0 ≡ keys.result = search rules in
+    let long : length called.new.list ≡ words.result = search rules in
+    let long-keys : length called.new.keys ≡ keys.result = search rules in
     line_done c.args.kind room sizes.0 sizes.1 words.ensures keys.ensures called.ensures
-    (record { room = search rules; within = omega (arith, words.ensures.held.within, room.words_held.room) }) (take_at called.new.0 _ words.result long)
-    (record { room = search rules; within = omega (arith, keys.ensures.held.within, room.keys_held.room) }) (take_at called.new.1.0 _ keys.result long-keys)
+    (record { room = search rules; within = omega (arith, words.ensures.held.within, room.words_held.room) }) (take_at called.new.list _ words.result long)
+    (record { room = search rules; within = omega (arith, keys.ensures.held.within, room.keys_held.room) }) (take_at called.new.keys _ keys.result long-keys)

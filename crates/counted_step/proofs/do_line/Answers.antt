@@ -15,11 +15,11 @@ returns c =
     let bytes = c.altered-m in
     let classes = c.classes_altered-h in
     let kind = c.kind_in-kind.ensures.0 in
-    let long : length called.new.0 ≡ words.result = search rules in
-    let long-classes : length called.new.1.0 ≡ classes.result = search rules in
-    let long-bytes : length called.new.1.1.0 ≡ bytes.result = search rules in
+    let long : length called.new.list ≡ words.result = search rules in
+    let long-classes : length called.new.classes ≡ classes.result = search rules in
+    let long-bytes : length called.new.bytes ≡ bytes.result = search rules in
     line_done a.line a.text.now (held_in a.words.now a.bytes.now a.last.now a.classes.now a.sizes)
     (rw (← kind) words.ensures) (rw (← kind) bytes.ensures) classes.ensures (rw (← kind) c.last_after.ensures) called.ensures
-    (record { room = search rules; within = words.ensures.held.within }) (take_at called.new.0 _ words.result long)
-    (record { room = search rules; within = bytes.ensures.held.within }) (take_at called.new.1.1.0 _ bytes.result long-bytes)
-    (record { room = search rules; within = classes.ensures.held.within }) (take_at called.new.1.0 _ classes.result long-classes)
+    (record { room = search rules; within = words.ensures.held.within }) (take_at called.new.list _ words.result long)
+    (record { room = search rules; within = bytes.ensures.held.within }) (take_at called.new.bytes _ bytes.result long-bytes)
+    (record { room = search rules; within = classes.ensures.held.within }) (take_at called.new.classes _ classes.result long-classes)

@@ -62,7 +62,8 @@ write-requires c =
 pub returns : goal.returns
 returns c =
     let a = c.args in
-    let done = c.do_line-done.ensures in (
-      record { words_held = done.words_are.held; bytes_held = done.bytes_are.held; classes_held = done.classes_are.held },
-      line_leaves_lem {before = held_in a.words.now a.bytes.now a.last.now a.classes.now a.sizes} done,
-    )
+    let done = c.do_line-done.ensures in
+    record {
+      held = record { words_held = done.words_are.held; bytes_held = done.bytes_are.held; classes_held = done.classes_are.held };
+      left = line_leaves_lem {before = held_in a.words.now a.bytes.now a.last.now a.classes.now a.sizes} done;
+    }

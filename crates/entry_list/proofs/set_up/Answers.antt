@@ -8,4 +8,4 @@ pub settings_of-requires : goal.settings_of-requires
 settings_of-requires c = ap is_list (set_up_fresh c.args.words.now c.requires c.mdlist_set_up.ensures) ∙ fresh_is_list
 
 pub returns : goal.returns
-returns c = (set_up_fresh c.args.words.now c.requires c.mdlist_set_up.ensures, c.settings_of.ensures)
+returns c = record { fresh = set_up_fresh c.args.words.now c.requires c.mdlist_set_up.ensures; listed = c.settings_of.ensures }

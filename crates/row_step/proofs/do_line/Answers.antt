@@ -14,13 +14,13 @@ returns c =
     let kind = c.args.kind in
     let called = c.line_call-reply in
     let words = c.altered-n in
-    let long : length called.new.0 ≡ words.result = search rules in
-    let there = ap (λ (k : ℕ). take k words.new.0) (sub-zero words.result) ∙ words.ensures.is in
+    let long : length called.new.keys ≡ words.result = search rules in
+    let there = ap (λ (k : ℕ). take k words.new.words) (sub-zero words.result) ∙ words.ensures.is in
     record {
       words_are =
           record {
             held = record { room = search rules; within = words.ensures.held.within };
-            is = take_at called.new.0 _ words.result long ∙ called.ensures.left ∙ ap (row_leaves kind) there;
+            is = take_at called.new.keys _ words.result long ∙ called.ensures.left ∙ ap (row_leaves kind) there;
           };
       reply_is = called.ensures.reply ∙ ap (row_reply kind) there;
     }

@@ -26,7 +26,7 @@ pub write-requires : goal.write-requires
 write-requires c =
     let a = c.args in
     let done = c.do_line-done in
-    let after = take done.result.used done.new.0 in
+    let after = take done.result.used done.new.words in
     record {
       before = take a.used a.words.now;
       left = done.ensures.words_are.is;

@@ -16,6 +16,6 @@ pub write-requires : goal.write-requires
 unfolding row_text
 write-requires c =
     let a = c.args in
-    let row = a.t2 in
+    let row = a.row in
     c.edge_text-end.ensures.0
     ∙ ap (edge_text (get_or row 0 0) (get_or row 1 0) (get_or row 2 0)) (lent_length a.words.now (get_or row 3 0) (search rules))

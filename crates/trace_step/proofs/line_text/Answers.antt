@@ -18,10 +18,10 @@ returns c =
     let m = c.altered-m.result in
     let held = c.altered-n.ensures.held in
     let held_bytes = c.altered-m.ensures.held in
-    let long : length called.new.0 ≡ n = search rules in
-    let long-bytes : length called.new.1.0 ≡ m = search rules in
+    let long : length called.new.list ≡ n = search rules in
+    let long-bytes : length called.new.bytes ≡ m = search rules in
     line_answered a.kind a.line.now (held_in a.words.now a.bytes.now a.last.now a.sizes) c.altered-n.ensures
     c.altered-m.ensures c.last_after.ensures called.ensures
-    (record { room = search rules; within = held.within }) (take_at called.new.0 _ n long)
-    (record { room = search rules; within = held_bytes.within }) (take_at called.new.1.0 _ m long-bytes)
+    (record { room = search rules; within = held.within }) (take_at called.new.list _ n long)
+    (record { room = search rules; within = held_bytes.within }) (take_at called.new.bytes _ m long-bytes)
     c.kind_tells.ensures head.0 tail.0 (omega (arith, tail.1, head.1, c.requires.1))
