@@ -8,14 +8,14 @@ use Rattle.logger.proofs.read_all.Goals as goal
 pub loop-turns-init : goal.loop-turns-init
 loop-turns-init c = (c.large_buffer-part.ensures, (refl, (c.requires.1, record { begun = []; is = c.start-feed.ensures })))
 
-pub returns-then-got-lt0 : goal.returns-then-got-lt0
-returns-then-got-lt0 c = c.loop-turns.invariant.1.1.0
+pub returns-in_default : goal.returns-in_default
+returns-in_default c = c.loop-turns.invariant.1.1.0
 
 pub feed_end-requires : goal.feed_end-requires
 feed_end-requires c = c.loop-turns.invariant.1.1
 
-pub returns-then-got-eq0 : goal.returns-then-got-eq0
-returns-then-got-eq0 c = end_listed c.loop-turns.invariant.1.1 c.feed_end.ensures
+pub returns-then-n-eq0 : goal.returns-then-n-eq0
+returns-then-n-eq0 c = end_listed c.loop-turns.invariant.1.1 c.feed_end.ensures
 
 pub feed_part-s-requires : goal.feed_part-s-requires
 feed_part-s-requires c = c.loop-turns.invariant.1.1
