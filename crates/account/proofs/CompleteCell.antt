@@ -4,7 +4,7 @@ use mathlib.Core.Path.{◌≡◌, refl, sym, ◌∙◌, ap, ap₂, subst}
 use mathlib.Core.Bool.{Bool, true, false, cond, ◌&&◌, ◌||◌, not}
 use mathlib.Core.List.{List, [], ◌∷◌}
 use mathlib.Core.Logic.{◌⊎◌, inl, inr}
-use Prim.Native.Nat.{ℕ, zero, suc, ◌+◌, ◌-◌, ◌^◌, ◌≤◌, ◌<◌}
+use Prim.Native.Nat.{ℕ, suc, ◌+◌, ◌-◌, ◌^◌, ◌≤◌, ◌<◌}
 use native.Mathlib.Decide.{dec_lt, dec_le, ℕ_discrete}
 use native.Mathlib.Omega.{arith}
 use lib.Dec.{eqb, leb, ltb}
@@ -22,7 +22,7 @@ use Rattle.meaning.proofs.Rows.Blocks.{shared_by_blocks}
 use Rattle.meaning.proofs.Pictures.State.{Debt}
 use Rattle.meaning.proofs.Cells.WalkRead.{Held, between_is, between_not, link_owing, link_tested}
 use Rattle.meaning.proofs.Rows.Parent.{sharing_hits, sharing_above}
-use Rattle.account.specs.Tree.{all_from, follows, node_right, due_to, links_below, debt_right, agreed_at, agreed_after, path_right, cell_right, entered}
+use Rattle.account.specs.Tree.{follows, node_right, due_to, links_below, debt_right, agreed_at, agreed_after, path_right, cell_right, entered}
 use Rattle.account.proofs.AcceptedTests.{all_true}
 use Rattle.account.proofs.CompleteOrder.{place_after, agreed_with, agreed_up_to, seen_at, seen_before}
 use Rattle.account.proofs.CompletePath.{PlaceOnPath, agreed_is, position_here, position_apart}

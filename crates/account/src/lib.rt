@@ -2,7 +2,6 @@
 // has the account of it on the words (specs/Tree.antt) and the proof that it accepts exactly the lists; the code is crate is_list.
 #![tactic(auto)]
 
-
 // What the check knows when it has read some cells.
 #[derive(Clone, Copy)]
 pub struct Seen {

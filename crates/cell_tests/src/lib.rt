@@ -2,7 +2,6 @@
 // those of crate account's account on the words.
 #![tactic(auto)]
 
-
 pub mod head; // head.rt: cell 0
 pub mod standing; // standing.rt: a standing cell, after the one read before it
 pub mod free; // free.rt: a free cell

@@ -5,7 +5,7 @@ use mathlib.Core.List.{List, [], ◌∷◌, ◌++◌, append_assoc}
 use Prim.Native.Nat.{ℕ, ◌+◌, ◌*◌, ◌≤◌, ◌<◌}
 use native.Mathlib.Omega.{arith}
 use lib.Dec.{leb, ltb}
-use lib.ListN.{length, get_or, take, drop, length-drop, take-append-drop}
+use lib.ListN.{length, take, drop, length-drop, take-append-drop}
 use lib.Seq.{take_at, drop_at}
 use borrow.Author.Tests.{ltb-true, leb-true, lt-ltb}
 use Rattle.lists.specs.Lists.{same}
@@ -21,7 +21,7 @@ use Rattle.files.specs.Promises.{Kept}
 use Rattle.files.specs.declared.Contents.TheVariants.{IsFile, NotAFile}
 use Rattle.files.proofs.Numbers.{Bytes, bytes_drop, bytes_all, big_endian_bytes}
 use Rattle.files.proofs.Parts.{number_there, next_there, number_first}
-use Rattle.files.proofs.Tags.{width_most, tag_byte, count_fits}
+use Rattle.files.proofs.Tags.{tag_byte, count_fits}
 use Rattle.files.proofs.Table.{body_bytes, table_length, table_tag}
 use Rattle.files.proofs.Written.{count_of, file_length_lem}
 use Rattle.files.proofs.Pairs.{pairs_in_length, pairs_are}

@@ -1,14 +1,14 @@
 -- Writing: runs of bytes stored one behind the other are one run, and so the bytes before the pairs, a pair, and the whole file.
 use mathlib.Core.Path.{◌≡◌, refl, sym, ap, ◌∙◌}
 use mathlib.Core.List.{List, [], ◌∷◌, ◌++◌, append_assoc, append-nil}
-use Prim.Native.Nat.{ℕ, suc, ◌+◌, ◌*◌, ◌≤◌}
+use Prim.Native.Nat.{ℕ, suc, ◌+◌, ◌*◌}
 use native.Mathlib.Numerals.{add-one}
 use native.Mathlib.Omega.{arith}
 use lib.ListN.{length, set, length-append}
 use lib.Seq.{sets}
 use Rattle.lists.proofs.Sets.{sets_append}
 use Rattle.settings.specs.declared.Settings.{Settings}
-use Rattle.files.specs.Files.{Pair, big_endian, body_at, settings_body, pair_bytes, tag_for, count_width, entries_start, before, place, file_length, table_of, front_of, file_of}
+use Rattle.files.specs.Files.{Pair, big_endian, body_at, settings_body, pair_bytes, tag_for, count_width, entries_start, before, file_length, table_of, front_of, file_of}
 use Rattle.files.proofs.Numbers.{big_endian_length}
 use Rattle.files.proofs.Table.{body_length, table_length}
 

@@ -9,7 +9,7 @@ use Rattle.meaning.specs.State.{State}
 use Rattle.meaning.specs.Picture.{picture}
 use Rattle.answers.specs.Refusals.{answer, key_not_live, answer_of, Meets}
 use Rattle.answers.specs.declared.Answer.{Answer}
-use Rattle.meaning.specs.Operations.{looked, find_out}
+use Rattle.meaning.specs.Operations.{find_out}
 use Rattle.meaning.specs.Words.{value_at, mark_at}
 use Rattle.meaning.proofs.Pictures.State.{Sound}
 use Rattle.meaning.proofs.Cells.Placed.{place_value}

@@ -2,7 +2,6 @@
 use mathlib.Core.Path.{◌≡◌, refl, sym, ap, subst}
 use mathlib.Core.Bool.{Bool, true}
 use mathlib.Core.List.{List, [], ◌∷◌, ◌++◌, map, reverse_aux, Memᴰ}
-use Prim.Native.Nat.{◌+◌, ◌-◌}
 use Rattle.lists.specs.Lists.{every}
 use Rattle.lists.proofs.Tests.{both, and_both}
 

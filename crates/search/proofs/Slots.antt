@@ -24,7 +24,7 @@ use Rattle.meaning.specs.declared.Slot.{Slot}
 use Rattle.meaning.proofs.Rows.Keys.{shared_less}
 use Rattle.meaning.proofs.Pictures.State.{Sound}
 use Rattle.meaning.proofs.Rows.Places.{last_from}
-use Rattle.meaning.proofs.Rows.Parent.{dimension_after, Apart, all_last, apart_before, place_at, first_among, parent_is}
+use Rattle.meaning.proofs.Rows.Parent.{dimension_after, Apart, all_last, apart_before, place_at, first_among}
 use Rattle.meaning.proofs.Kept.Slot as slot
 use Rattle.meaning.proofs.Rows.Nodes.{node_split}
 use Rattle.meaning.proofs.Kept.KeepsInsert.{slot_first}

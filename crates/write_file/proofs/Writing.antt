@@ -33,7 +33,7 @@ use Rattle.meaning.proofs.Pictures.ReadBack.{first_in}
 use Rattle.meaning.proofs.Paths.Path.{path_for-at}
 use Rattle.meaning.proofs.Paths.PathNext.{way_key}
 use Rattle.meaning.proofs.Paths.PathTake.{above_later}
-use Rattle.words.proofs.Listed.{listed_shaped, on_listed}
+use Rattle.words.proofs.Listed.{on_listed}
 use Rattle.paths.specs.declared.Path.{Path}
 use Rattle.paths.specs.declared.Reached.{Reached}
 use Rattle.paths.specs.Paths.{path_of, Formed, PathIn, NextIs}

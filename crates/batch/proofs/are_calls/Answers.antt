@@ -1,7 +1,7 @@
 -- `batch::are_calls` meets its contract: each turn tests the kind of one call more.
 use mathlib.Core.Path.{refl, sym, ◌∙◌, ap}
 use mathlib.Core.Bool.{◌&&◌}
-use Prim.Native.Nat.{◌*◌, ◌+◌, ◌-◌}
+use Prim.Native.Nat.{◌*◌, ◌+◌}
 use lib.ListN.{drop}
 use borrow.Author.Rules.{rules}
 use Rattle.calls.specs.Batch.{are_calls}

@@ -1,7 +1,6 @@
 -- `batch::batch` meets its contract: each turn makes one call more, and what is still to be done leads to where the whole batch leads.
 use mathlib.Core.Path.{refl, subst}
 use mathlib.Core.List.{List}
-use Prim.Native.Nat.{◌-◌}
 use native.Mathlib.Omega.{arith}
 use borrow.Author.Rules.{rules}
 use Rattle.calls.specs.Batch.{calls_in, batch_lent}

@@ -2,7 +2,6 @@
 use mathlib.Core.Path.{◌≡◌, refl, ap, ap₂, ◌∙◌}
 use mathlib.Core.Bool.{Bool, true, false, cond, false≢true}
 use mathlib.Core.List.{List, [], ◌∷◌, ◌++◌, map}
-use Prim.Native.Nat.{ℕ}
 use Rattle.lists.specs.Lists.{those}
 use Rattle.lists.proofs.All.{All}
 use Rattle.lists.proofs.Those.{those_none, those_append}

@@ -1,6 +1,5 @@
 -- `classes::same_words` meets its contract: what is left to compare from i on says whether all words are the same.
 use mathlib.Core.Path.{refl, sym, ◌∙◌}
-use Prim.Native.Nat.{◌-◌}
 use borrow.Author.Rules.{rules}
 use Rattle.classes.proofs.SameWords.{words_differ, words_agree, words_end}
 use Rattle.classes.proofs.same_words.Goals as goal

@@ -1,6 +1,5 @@
 -- `classes::tally` meets its contract: at each turn the record is that of the cells from x on.
 use mathlib.Core.Path.{◌∙◌, sym, ap}
-use Prim.Native.Nat.{◌-◌}
 use native.Mathlib.Omega.{arith}
 use lib.ListN.{replicate}
 use Rattle.classes.proofs.Tallying.{tallied_start, tallied_length, tallied_roomy, tallied_more, tallied_all}

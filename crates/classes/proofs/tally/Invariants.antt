@@ -1,5 +1,4 @@
 -- `classes::tally` meets its contract: at each turn the record is that of the cells from x on.
-use Prim.Native.Nat.{◌-◌}
 use Rattle.classes.proofs.Tallying.{Tallied}
 use Rattle.classes.proofs.tally.Given as goal
 

@@ -1,13 +1,8 @@
 -- `files::body_at` meets its contract: the body is compared by its tag, its offset and its length.
-use mathlib.Core.Path.{◌≡◌, refl, sym, ◌∙◌}
-use mathlib.Core.Bool.{◌&&◌}
-use Prim.Native.Nat.{◌+◌}
+use mathlib.Core.Path.{refl, sym, ◌∙◌}
 use native.Mathlib.Omega.{arith}
-use lib.Dec.{eqb}
-use lib.ListN.{get_or, take, drop}
+use lib.ListN.{get_or}
 use borrow.Author.Tests.{eq-eqb, ne_eqb}
-use Rattle.lists.specs.Lists.{same}
-use Rattle.files.specs.Files.{body_at, number_at}
 use Rattle.files.proofs.Table.{body_same}
 use Rattle.files.proofs.body_at.Goals as goal
 

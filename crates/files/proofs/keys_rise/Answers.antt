@@ -1,6 +1,5 @@
 -- `files::keys_rise` meets its contract: the keys of all pairs rise from 0 as those from pair i on do from the key before.
 use mathlib.Core.Path.{sym, ◌∙◌}
-use Prim.Native.Nat.{◌-◌}
 use native.Mathlib.Omega.{arith}
 use borrow.Author.Rules.{rules}
 use Rattle.files.specs.Files.{before}

@@ -1,6 +1,5 @@
 -- `files::number` meets its contract: after i turns v is the number that the first i bytes are.
 use mathlib.Core.Path.{refl}
-use Prim.Native.Nat.{◌-◌}
 use native.Mathlib.Omega.{arith}
 use lib.ListN.{get_or}
 use borrow.Author.Rules.{rules}

@@ -1,8 +1,7 @@
 -- `files::read_contents` meets its contract: each test is one of those of a file, and past the last the bytes are one.
-use mathlib.Core.Path.{◌≡◌, sym}
+use mathlib.Core.Path.{sym}
 use native.Mathlib.Omega.{arith}
 use borrow.Author.Tests.{not-true, not-false}
-use Rattle.files.specs.Files.{count_in}
 use Rattle.files.proofs.Reading.{too_short, no_number, number_in, out_of_range, number_small, too_many, wrong_length, wrong_table, not_rising, all_right}
 use Rattle.files.proofs.read_contents.Goals as goal
 
@@ -26,9 +25,9 @@ returns-then-file-file_length c =
 
 pub table_right-requires : goal.table_right-requires
 table_right-requires c = (
-      number_small c.args.file.now c.settings_in.ensures c.in-Accepted.is (omega (arith, c.if-s-n.false)),
-      omega (arith, c.if-file.false),
-    )
+  number_small c.args.file.now c.settings_in.ensures c.in-Accepted.is (omega (arith, c.if-s-n.false)),
+  omega (arith, c.if-file.false),
+)
 
 pub returns-then-not-table_right : goal.returns-then-not-table_right
 returns-then-not-table_right c =

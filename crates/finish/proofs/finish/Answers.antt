@@ -1,6 +1,6 @@
 -- `finish::finish` meets its contract: the key and what the search found decide the way out, and each has the outcome of the definition.
 use mathlib.Core.Path.{◌∙◌, sym, ap₂}
-use Prim.Native.Nat.{◌-◌, ◌<◌}
+use Prim.Native.Nat.{◌-◌}
 use native.Mathlib.Omega.{arith}
 use borrow.Author.Tests.{not-true, not-false}
 use Rattle.settings.proofs.Numbers.{key_within}

@@ -1,7 +1,6 @@
 -- `finish::move_links` meets its contract: what is left to move from link d on, in the list as it stands, gives the same words as the whole
 -- move in the list of the call.
 use mathlib.Core.Path.{refl, sym, ◌∙◌}
-use Prim.Native.Nat.{◌-◌}
 use native.Mathlib.Omega.{arith}
 use borrow.Author.Rules.{rules}
 use Rattle.finish.proofs.Finishing.{move_more, move_all}

@@ -26,6 +26,6 @@ chain_from-count-requires c =
 
 pub returns : goal.returns
 returns c = (
-      c.chain_from-count.ensures,
-      between_some c.requires c.head_path.ensures.0 c.next-first.ensures c.if-first-position.false,
-    )
+  c.chain_from-count.ensures,
+  between_some c.requires c.head_path.ensures.0 c.next-first.ensures c.if-first-position.false,
+)

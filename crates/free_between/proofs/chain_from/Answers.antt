@@ -1,6 +1,5 @@
 -- `free_between::chain_from` meets its contract: what is left to chain from the last cell on, in the list as it stands, gives the same words as all
 -- of it in the list of the call; those chained are fewer than C.
-use Prim.Native.Nat.{◌-◌}
 use native.Mathlib.Omega.{arith}
 use Rattle.words.proofs.Shaped.{field_within}
 use Rattle.words.proofs.Listed.{listed_shaped}

@@ -1,5 +1,4 @@
 -- `free_between::leading_zeros` meets its contract: the coordinates before d are 0, so that cell x shares d of them with the head, or more.
-use Prim.Native.Nat.{◌-◌}
 use native.Mathlib.Omega.{arith}
 use Rattle.words.proofs.Shaped.{field_within}
 use Rattle.free_between.proofs.Between.{zero_more, zero_last, zero_all}

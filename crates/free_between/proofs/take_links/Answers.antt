@@ -1,7 +1,6 @@
 -- `free_between::take_links` meets its contract: what is left to take from link d on, in the list as it stands, gives the same words as all of it in
 -- the list of the call.
 use mathlib.Core.Path.{refl, sym, ◌∙◌}
-use Prim.Native.Nat.{◌-◌}
 use native.Mathlib.Omega.{arith}
 use borrow.Author.Rules.{rules}
 use Rattle.paths.specs.Paths.{path_of}

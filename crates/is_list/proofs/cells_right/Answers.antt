@@ -1,12 +1,11 @@
 -- `is_list::cells_right` meets its contract: where a test refuses, the account does not accept the words, and so they are no list; past the
 -- tests the chain of free cells decides.
-use mathlib.Core.Bool.{true}
 use mathlib.Core.Path.{◌≡◌, refl, ap, ◌∙◌}
 use native.Mathlib.Omega.{arith}
 use lib.ListN.{get_or}
 use borrow.Author.Tests.{not-false}
 use Rattle.account.specs.declared.Seen.{Seen}
-use Rattle.account.specs.Tree.{head_right, chain_right, seen_all}
+use Rattle.account.specs.Tree.{chain_right, seen_all}
 use Rattle.account.specs.Loop.{verdict}
 use Rattle.account.proofs.AcceptedTests.{head_right_lem}
 use Rattle.cell_tests.proofs.Tests.{fails, holds}

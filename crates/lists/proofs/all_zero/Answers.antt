@@ -1,5 +1,4 @@
 -- `lists::all_zero` meets its contract: the bits are those of the first i words and of the last eight, and in the end of all.
-use Prim.Native.Nat.{◌-◌}
 use native.Mathlib.Omega.{arith}
 use borrow.Author.Rules.{rules}
 use Rattle.lists.proofs.AllZero.{zero_start, zero_join, zero_or, or_left, zero_decides}

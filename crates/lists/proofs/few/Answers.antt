@@ -1,6 +1,5 @@
 -- `lists::few` meets its contract: after i turns the bits are those of the first i words.
 use mathlib.Core.Path.{refl}
-use Prim.Native.Nat.{◌-◌}
 use native.Mathlib.Omega.{arith}
 use borrow.Author.Rules.{rules}
 use Rattle.lists.proofs.AllZero.{zero_start, zero_join, zero_next}

@@ -1,19 +1,19 @@
 -- The row, read off the cells in memory order. A row of standing cells is made of its cells from the last to the first, each put in its place; so what is
 -- told of a row, and takes a node put in by a step, is told cell by cell with no regard to the order of keys.
-use mathlib.Core.Path.{◌≡◌, refl, sym, ap, ap₂, ◌∙◌}
+use mathlib.Core.Path.{◌≡◌, refl, sym, ap, ◌∙◌}
 use mathlib.Core.Bool.{Bool, true, false, cond, not}
 use mathlib.Core.List.{List, [], ◌∷◌}
 use Prim.Native.Nat.{ℕ, zero, suc, ◌+◌, ◌-◌, ◌<◌}
 use native.Mathlib.Nat.{suc-mul}
 use native.Mathlib.Omega.{arith}
 use lib.Dec.{eqb, leb}
-use lib.ListN.{length, get_or, take, drop}
+use lib.ListN.{get_or, take, drop}
 use lib.Seq.{get_or-take, get_or-drop, drop-drop}
 use borrow.Author.Tests.{eqb-true}
 use Rattle.settings.specs.Numbers.{header_words, cell_words}
 use Rattle.lists.specs.Lists.{blocks}
 use Rattle.meaning.specs.Row.{Node, put}
-use Rattle.meaning.specs.Reading.{node_of, standing, read}
+use Rattle.meaning.specs.Reading.{standing, read}
 use Rattle.meaning.specs.Words.{dimensions_at, cells_at, word_index, key_at, value_at, mark_at, owed_at, key_field, value_field, mark_field, owed_field}
 use Rattle.meaning.specs.Words.{free_mark, live_mark}
 

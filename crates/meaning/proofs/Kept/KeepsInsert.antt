@@ -30,7 +30,7 @@ use Rattle.meaning.proofs.Rows.Places.{asc_left, last_from, dimension_from, Keep
 use Rattle.meaning.proofs.Rows.Places.{asc_smaller, asc_larger, on_cell, on_cell-cases, on_cell-keeping, key_of_same, key_of_other, key_of_put}
 use Rattle.meaning.proofs.Kept.KeepsState.{changed_sound}
 use Rattle.meaning.proofs.Kept.KeepsFinish.{paid_keeping, finished_sound}
-use Rattle.meaning.proofs.Rows.Parent.{dimension_after, parent_after, places_from, Without, Apart, all_last, asc_last, apart_at, last_first, parent_is}
+use Rattle.meaning.proofs.Rows.Parent.{dimension_after, parent_after, places_from, Without, Apart, all_last, asc_last, apart_at, last_first}
 use Rattle.meaning.proofs.Walks.Smaller.{smaller_is}
 use Rattle.meaning.proofs.Kept.Slot.{Gap, gap, put_gap, asc_put, apart_put, sound_apart, first_free, dimensions_positive, cell_after, SlotIs}
 use Rattle.meaning.proofs.Kept.Slot.{slot_is, without_changed, apart_changed, gap_changed, last_changed, gap_last, first_free_apart}

@@ -17,7 +17,7 @@ use Rattle.meaning.specs.State.{State, key_of, position_key}
 use Rattle.meaning.specs.Picture.{picture}
 use Rattle.answers.specs.Refusals.{Outcome, answer, refused, bad_key, key_live}
 use Rattle.meaning.specs.Words.{key_at, position_at}
-use Rattle.meaning.specs.Operations.{looked, insert_out, from_live, parent_in, keys_passed, taken, revived, revived_node, slot_for, slot_owes, new_node, finished, added}
+use Rattle.meaning.specs.Operations.{looked, insert_out, from_live, parent_in, keys_passed, revived, revived_node, slot_for, slot_owes, new_node, finished, added}
 use Rattle.meaning.specs.Promises.{FellBack, LateInserts}
 use Rattle.meaning.proofs.Rows.AscendingRow.{Asc}
 use Rattle.meaning.proofs.Pictures.State.{Sound, base_positive}

@@ -19,7 +19,7 @@ use Rattle.lists.proofs.Numbers.{made_at, made_length}
 use Rattle.lists.proofs.All.{All, all_left}
 use Rattle.lists.proofs.Tests.{both}
 use Rattle.meaning.specs.Keys.{shared}
-use Rattle.meaning.specs.Row.{Node, head_node, first_of, Place, places, owed, low, high, link, place_of}
+use Rattle.meaning.specs.Row.{Node, head_node, first_of, Place, places, link, place_of}
 use Rattle.meaning.specs.State.{State, places_of}
 use Rattle.meaning.specs.Picture.{mark, standing_words, next_free, free_words, words_of, path, picture}
 use Rattle.meaning.specs.Words.{word_index, word_at, link_at, link_field}

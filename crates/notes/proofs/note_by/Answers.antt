@@ -1,6 +1,6 @@
 -- `notes::note_by` meets its contract: reading the record from its start is reading what is left of it after the bytes so far.
 use mathlib.Core.Path.{sym, ◌∙◌, ap}
-use Prim.Native.Nat.{◌+◌, ◌-◌}
+use Prim.Native.Nat.{◌+◌}
 use lib.ListN.{drop}
 use borrow.Author.Rules.{rules}
 use Rattle.text.proofs.Parts.{after_more, after_none}

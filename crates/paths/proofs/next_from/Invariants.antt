@@ -1,6 +1,5 @@
 -- `paths::next_from` meets its contract: the links are looked at from the highest down, as in the definition, and the first that leads
 -- somewhere leads to the next cell.
-use Prim.Native.Nat.{◌-◌}
 use Rattle.paths.specs.Paths.{held}
 use Rattle.paths.proofs.Paths.{Seeking}
 use Rattle.paths.proofs.next_from.Given as goal

@@ -1,5 +1,4 @@
 -- `paths::read_path` meets its contract: before word i is read, the words before it are.
-use Prim.Native.Nat.{◌-◌}
 use native.Mathlib.Omega.{arith}
 use Rattle.paths.proofs.Paths.{path_inside, read_start, read_more, read_end}
 use Rattle.paths.proofs.read_path.Goals as goal

@@ -1,6 +1,5 @@
 -- `paths::write_path` meets its contract: before word i is written, the words before it are, and the shape stays.
 use native.Mathlib.Omega.{arith}
-use Prim.Native.Nat.{◌-◌}
 use Rattle.paths.proofs.Paths.{path_inside, write_start, write_more, write_end}
 use Rattle.paths.proofs.write_path.Goals as goal
 

@@ -1,6 +1,5 @@
 -- `read_file::put_pairs` meets its contract: the words have been given the pairs of the file before pair i.
 use mathlib.Core.Path.{refl, sym}
-use Prim.Native.Nat.{◌-◌}
 use native.Mathlib.Omega.{arith}
 use borrow.Author.Rules.{rules}
 use Rattle.words.proofs.Listed.{listed_base, listed_power}

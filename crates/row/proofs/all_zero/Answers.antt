@@ -1,6 +1,5 @@
 -- `row::all_zero` meets its contract: the words before i are 0, so all are if those from i on are.
 use mathlib.Core.Path.{refl, sym, ◌∙◌}
-use Prim.Native.Nat.{◌-◌}
 use native.Mathlib.Omega.{arith}
 use Rattle.row.proofs.Checking.{zero_here, zero_on, zero_end}
 use Rattle.row.proofs.all_zero.Goals as goal

@@ -1,6 +1,5 @@
 -- `row::clear` meets its contract: after i turns the part is i times 0 and what stood after them.
 use mathlib.Core.Path.{refl}
-use Prim.Native.Nat.{◌-◌}
 use native.Mathlib.Omega.{arith}
 use borrow.Author.Rules.{rules}
 use Rattle.lists.proofs.Filled.{filled_more, filled_all}

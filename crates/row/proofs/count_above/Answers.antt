@@ -1,6 +1,5 @@
 -- `row::count_above` meets its contract: the count is that of the keys before place i.
 use mathlib.Core.Path.{◌≡◌, refl, ap, ◌∙◌}
-use Prim.Native.Nat.{◌-◌}
 use native.Mathlib.Omega.{arith}
 use lib.ListN.{take}
 use Rattle.lists.specs.Lists.{those}
@@ -22,12 +21,12 @@ loop-i-preserved c =
     let v = c.loop-i in
     let a = c.args in
     elim c.if-low-key_at.branch [
-      then-low-key_at w ↦
-        let one = above_one a.row.now v.i (omega arith) a.low (omega arith) in
-        (omega arith, (omega arith, omega arith))
-    | else-low-key_at w ↦
-        let none = above_none a.row.now v.i (omega arith) a.low (omega arith) in
-        (omega arith, (omega arith, omega arith))
+      | then-low-key_at w ↦
+          let one = above_one a.row.now v.i (omega arith) a.low (omega arith) in
+          (omega arith, (omega arith, omega arith))
+      | else-low-key_at w ↦
+          let none = above_none a.row.now v.i (omega arith) a.low (omega arith) in
+          (omega arith, (omega arith, omega arith))
     ]
 
 pub returns : goal.returns

@@ -1,5 +1,4 @@
 -- `row::first_live` meets its contract: the keys before place i are dead.
-use Prim.Native.Nat.{◌-◌}
 use native.Mathlib.Omega.{arith}
 use Rattle.row.proofs.Turns.{live_here, live_on_lem, live_end}
 use borrow.Author.Rules.{rules}

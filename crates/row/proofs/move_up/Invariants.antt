@@ -1,6 +1,6 @@
 -- `row::move_up` meets its contract: from place i on each word is the one three places before.
 use mathlib.Core.Path.{◌≡◌}
-use Prim.Native.Nat.{◌-◌, ◌≤◌}
+use Prim.Native.Nat.{◌≤◌}
 use lib.ListN.{length}
 use Rattle.row.proofs.Moving.{moved_up}
 use Rattle.row.proofs.move_up.Given as goal

@@ -1,5 +1,4 @@
 -- `row::place_of` meets its contract: the keys before place i are below the key.
-use Prim.Native.Nat.{◌-◌}
 use native.Mathlib.Omega.{arith}
 use Rattle.row.proofs.Turns.{place_here, place_on_lem, place_end}
 use borrow.Author.Rules.{rules}

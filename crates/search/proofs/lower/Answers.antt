@@ -1,7 +1,7 @@
 -- `search::lower` meets its contract and ends: each turn goes one step of the way, and raises the number of the link at hand or the cell's digit
 -- there.
 use mathlib.Core.Path.{sym, ◌∙◌}
-use Prim.Native.Nat.{◌+◌, ◌-◌, ◌≤◌}
+use Prim.Native.Nat.{◌+◌, ◌≤◌}
 use native.Mathlib.Nat.{mul-le-mul_right}
 use native.Mathlib.Numerals.{add-one}
 use native.Mathlib.Omega.{arith}

@@ -17,9 +17,9 @@ rest_of-r-requires c =
 
 pub word-key-requires : goal.word-key-requires
 word-key-requires c = (
-      listed_shaped c.requires.0,
-      field_within (answers c.requires.0 c.args.k c.requires.1.1.0 c.requires.1.1.1 c.rest_of-r.ensures refl).cell (omega arith),
-    )
+  listed_shaped c.requires.0,
+  field_within (answers c.requires.0 c.args.k c.requires.1.1.0 c.requires.1.1.1 c.rest_of-r.ensures refl).cell (omega arith),
+)
 
 pub returns-then-key-k : goal.returns-then-key-k
 returns-then-key-k c =

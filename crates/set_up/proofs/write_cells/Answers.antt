@@ -1,7 +1,7 @@
 -- `set_up::write_cells` meets its contract: before cell x is written the list is what stood before the cells, the cells before x, and
 -- what stood after them.
 use mathlib.Core.Path.{refl}
-use Prim.Native.Nat.{◌+◌, ◌-◌, ◌≤◌}
+use Prim.Native.Nat.{◌+◌, ◌≤◌}
 use native.Mathlib.Nat.{zero-mul}
 use native.Mathlib.Omega.{arith}
 use lib.ListN.{length}

@@ -1,5 +1,4 @@
 -- `words::shared` meets its contract: x lies in the block of y of each level up to d, so the two share d coordinates or more.
-use Prim.Native.Nat.{◌-◌}
 use native.Mathlib.Omega.{arith}
 use Rattle.settings.proofs.Levels.{power_some}
 use Rattle.steps.proofs.Sharing.{shared_not_all, shared_more, shared_ends}

@@ -1,7 +1,6 @@
 -- `sweep::finish_all` meets its contract: what is left to finish from cell n on, in the list as it stands, gives the same words as all of it
 -- in the list of the call; each debt finished leaves a list.
 use mathlib.Core.Path.{refl, sym, ◌∙◌}
-use Prim.Native.Nat.{◌-◌}
 use native.Mathlib.Omega.{arith}
 use borrow.Author.Rules.{rules}
 use Rattle.finish.proofs.Debts.{listed_payable}

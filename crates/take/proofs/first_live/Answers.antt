@@ -1,6 +1,5 @@
 -- `take::first_live` meets its contract: at each turn the path has come past dead nodes, and the keys passed and those still to come are
 -- fewer than C.
-use Prim.Native.Nat.{◌-◌}
 use native.Mathlib.Omega.{arith}
 use Rattle.words.proofs.Shaped.{field_within}
 use Rattle.words.proofs.Listed.{listed_shaped}

@@ -1,5 +1,4 @@
 -- `write_file::count_live` meets its contract: at each turn the live cells before x are counted, and those from x on are still to be.
-use Prim.Native.Nat.{◌-◌}
 use native.Mathlib.Omega.{arith}
 use Rattle.words.proofs.Shaped.{field_within}
 use Rattle.words.proofs.Listed.{listed_shaped}
@@ -27,8 +26,8 @@ loop-x-smaller c = omega (arith, c.loop-x-test.true)
 pub loop-x-preserved : goal.loop-x-preserved
 loop-x-preserved c =
     elim c.if-word-eq-LIVE.branch [
-      then-word-eq-LIVE w ↦ rw w.n-is (counted_live c.loop-x.invariant c.loop-x-test.true c.word.ensures w.if-word-eq-LIVE.true)
-    | else-word-eq-LIVE w ↦ rw w.n-is (counted_other c.loop-x.invariant c.loop-x-test.true c.word.ensures w.if-word-eq-LIVE.false)
+      | then-word-eq-LIVE w ↦ rw w.n-is (counted_live c.loop-x.invariant c.loop-x-test.true c.word.ensures w.if-word-eq-LIVE.true)
+      | else-word-eq-LIVE w ↦ rw w.n-is (counted_other c.loop-x.invariant c.loop-x-test.true c.word.ensures w.if-word-eq-LIVE.false)
     ]
 
 pub returns : goal.returns

@@ -14,9 +14,9 @@ returns-then-file-length c =
 
 pub write_front-requires : goal.write_front-requires
 write_front-requires c = (
-      omega (arith, c.count_live-n.ensures.1, (listed_shaped c.requires).cells_most),
-      omega (arith, c.if-file-length.false, c.file_length-length.ensures),
-    )
+  omega (arith, c.count_live-n.ensures.1, (listed_shaped c.requires).cells_most),
+  omega (arith, c.if-file-length.false, c.file_length-length.ensures),
+)
 
 pub overflow_cast-length : goal.overflow_cast-length
 overflow_cast-length c =

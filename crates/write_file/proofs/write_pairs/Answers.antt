@@ -1,6 +1,5 @@
 -- `write_file::write_pairs` meets its contract: at each turn the pairs of the live nodes in front of the path's cell are written, and a key
 -- less lies ahead.
-use mathlib.Core.Logic.{⊎_elim}
 use native.Mathlib.Omega.{arith}
 use Rattle.settings.specs.Numbers.{most_dimensions}
 use Rattle.files.specs.Files.{before}
@@ -66,9 +65,9 @@ loop-s-preserved c =
     let next = found_held c.loop-s.invariant.path_in c.next_from-next.ensures in
     rw c.put_onward.ensures
     (elim c.if-word-eq-LIVE.branch [
-      then-word-eq-LIVE w ↦
-        rw (w.file-is, w.i-is)
-        (writing_here listed c.loop-s.invariant next c.if-next-eq0.false c.word.ensures w.if-word-eq-LIVE.true w.word-key.ensures w.word-value.ensures w.write_pair.ensures)
-    | else-word-eq-LIVE w ↦
-        rw (w.file-is, w.i-is) (writing_past listed c.loop-s.invariant next c.if-next-eq0.false c.word.ensures w.if-word-eq-LIVE.false)
+      | then-word-eq-LIVE w ↦
+          rw (w.file-is, w.i-is)
+          (writing_here listed c.loop-s.invariant next c.if-next-eq0.false c.word.ensures w.if-word-eq-LIVE.true w.word-key.ensures w.word-value.ensures w.write_pair.ensures)
+      | else-word-eq-LIVE w ↦
+          rw (w.file-is, w.i-is) (writing_past listed c.loop-s.invariant next c.if-next-eq0.false c.word.ensures w.if-word-eq-LIVE.false)
     ])

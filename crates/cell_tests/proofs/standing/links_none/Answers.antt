@@ -1,6 +1,5 @@
 -- `cell_tests::standing::links_none` meets its contract: the links from d on that are still to be tested decide as all of them do.
 use mathlib.Core.Path.{sym, ◌∙◌}
-use Prim.Native.Nat.{◌-◌}
 use native.Mathlib.Omega.{arith}
 use lib.Dec.{eqb}
 use borrow.Author.Rules.{rules}

@@ -1,7 +1,6 @@
 -- `cell_tests::standing::only_link` meets its contract: the links from d on that are still to be tested decide as all of them do.
 use mathlib.Core.Path.{◌≡◌, sym, ◌∙◌}
 use mathlib.Core.Bool.{cond}
-use Prim.Native.Nat.{◌-◌}
 use native.Mathlib.Omega.{arith}
 use lib.Dec.{eqb}
 use lib.ListN.{get_or}
@@ -24,8 +23,8 @@ returns-then-link-expected c =
     let v = c.loop-d in
     let a = c.args in
     let expected : c.if-d-high.expected ≡ cond (eqb v.d a.high) a.c 0 = elim c.if-d-high.branch [
-      then-d-high w ↦ rw (eq-eqb v.d a.high w.if-d-high.true) w.expected-is
-    | else-d-high w ↦ rw (ne_eqb v.d a.high w.if-d-high.false) w.expected-is
+      | then-d-high w ↦ rw (eq-eqb v.d a.high w.if-d-high.true) w.expected-is
+      | else-d-high w ↦ rw (ne_eqb v.d a.high w.if-d-high.false) w.expected-is
     ] in
     let t = ne_eqb (link_at a.list.now a.y v.d) (cond (eqb v.d a.high) a.c 0) (λ e. omega arith) in
     sym (v.invariant.1 ∙ all_fails (link_is a.list.now a.y a.high a.c) (omega (arith, shaped_dimensions c.requires.0)) t)
@@ -35,8 +34,8 @@ loop-d-preserved c =
     let v = c.loop-d in
     let a = c.args in
     let expected : c.if-d-high.expected ≡ cond (eqb v.d a.high) a.c 0 = elim c.if-d-high.branch [
-      then-d-high w ↦ rw (eq-eqb v.d a.high w.if-d-high.true) w.expected-is
-    | else-d-high w ↦ rw (ne_eqb v.d a.high w.if-d-high.false) w.expected-is
+      | then-d-high w ↦ rw (eq-eqb v.d a.high w.if-d-high.true) w.expected-is
+      | else-d-high w ↦ rw (ne_eqb v.d a.high w.if-d-high.false) w.expected-is
     ] in
     let t = eq-eqb (link_at a.list.now a.y v.d) (cond (eqb v.d a.high) a.c 0) (omega arith) in
     (search rules, v.invariant.1 ∙ all_next (link_is a.list.now a.y a.high a.c) (omega (arith, shaped_dimensions c.requires.0)) t)

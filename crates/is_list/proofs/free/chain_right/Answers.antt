@@ -1,9 +1,7 @@
 -- `is_list::free::chain_right` meets its contract: the chain from cell c on with the cells that are left decides as the whole does.
-use mathlib.Core.Path.{◌≡◌, refl, sym, ◌∙◌}
-use mathlib.Core.Bool.{true}
+use mathlib.Core.Path.{refl, sym, ◌∙◌}
 use native.Mathlib.Omega.{arith}
 use Rattle.words.proofs.Shaped.{shaped_cells, field_within}
-use Rattle.account.specs.Tree.{free_right}
 use Rattle.account.proofs.AcceptedTests.{free_right_lem}
 use Rattle.cell_tests.proofs.Tests.{holds, lacks}
 use Rattle.is_list.proofs.Ends.{chain_more, chain_broken, chain_end}

@@ -1,6 +1,5 @@
 -- `is_list::path::path_run` meets its contract: the run from path word i on ends where the run from d on does.
 use mathlib.Core.Path.{refl, sym, ◌∙◌}
-use Prim.Native.Nat.{◌-◌}
 use borrow.Author.Rules.{rules}
 use Rattle.is_list.proofs.InOrder.{run_next, run_ends, run_all}
 use Rattle.is_list.proofs.path.path_run.Goals as goal

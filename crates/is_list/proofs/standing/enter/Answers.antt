@@ -1,10 +1,7 @@
 -- `is_list::standing::enter` meets its contract: the tests of the cell, and of the path where it is the position,
 -- are those of the definition.
-use mathlib.Core.Bool.{true}
-use mathlib.Core.Path.{◌≡◌}
 use native.Mathlib.Omega.{arith}
 use Rattle.words.proofs.Shaped.{shaped_dimensions}
-use Rattle.account.specs.Loop.{alone_right}
 use Rattle.cell_tests.proofs.Tests.{holds, lacks}
 use Rattle.cell_tests.proofs.OneCell.{alone}
 use Rattle.is_list.proofs.InOrder.{enter_not, enter_past, enter_lost, enter_position, enter_other}

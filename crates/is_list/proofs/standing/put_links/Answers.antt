@@ -1,7 +1,7 @@
 -- `is_list::standing::put_links` meets its contract: at each turn the links that are still to be put, put after those that are pending then, come to
 -- the same as all of them.
 use mathlib.Core.Path.{refl, sym, ◌∙◌}
-use Prim.Native.Nat.{◌-◌, ◌<◌}
+use Prim.Native.Nat.{◌<◌}
 use native.Mathlib.Omega.{arith}
 use lib.ListN.{length-set}
 use Rattle.meaning.specs.Words.{link_at}

@@ -1,6 +1,6 @@
 -- `Settings::powers` meets its contract: from level d up to level D the words hold the powers.
 use mathlib.Core.Path.{◌≡◌}
-use Prim.Native.Nat.{◌-◌, ◌≤◌}
+use Prim.Native.Nat.{◌≤◌}
 use lib.ListN.{length}
 use Rattle.settings.proofs.Levels.{Levels}
 use Rattle.settings.proofs.Settings.powers.Given as goal

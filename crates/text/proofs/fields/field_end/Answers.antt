@@ -1,5 +1,4 @@
 -- `text::fields::field_end` meets its contract: no byte from `at` to before `i` is a space.
-use Prim.Native.Nat.{◌-◌}
 use borrow.Author.Count.{below_more}
 use borrow.Author.Rules.{rules}
 use Rattle.text.proofs.fields.field_end.Goals as goal

@@ -1,6 +1,6 @@
 -- `text::fields::number` meets its contract: reading the field from its start is reading what is left of it after the digits so far.
 use mathlib.Core.Path.{refl, sym, ◌∙◌, ap}
-use Prim.Native.Nat.{◌+◌, ◌-◌}
+use Prim.Native.Nat.{◌+◌}
 use lib.ListN.{drop}
 use borrow.Author.Rules.{rules}
 use Rattle.text.specs.Answers.{digit_on, digits_on, ended_at}
