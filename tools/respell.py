@@ -30,13 +30,19 @@ def files(*ends):
 def snake(word):
     if not word[:1].islower():
         return word
-    return re.sub(r"(?<=[a-z0-9])([A-Z])", lambda m: "_" + m.group(1).lower(), word)
+    return re.sub(r"(?<!_)([A-Z])", lambda m: "_" + m.group(1).lower(), word)
+
+
+def is_of_a_function(path):
+    """Whether a file is the proof of a function, whose names rattle makes, and no file of lemmas."""
+    folder = os.path.basename(os.path.dirname(path))
+    return path.endswith(("/Proof.antt", "/Answers.antt", "/Invariants.antt")) and folder not in ("proofs", "specs")
 
 
 def declared():
     defs, lemmas, fields = set(), set(), set()
     for path in files(".antt"):
-        if path.endswith(("/Proof.antt", "/Answers.antt", "/Invariants.antt")):
+        if is_of_a_function(path):
             continue
         inside = module = False
         for line in open(path, encoding="utf-8"):

@@ -1,8 +1,8 @@
 -- The words of both engines fit what is held, and a line is done on them.
-use mathlib.Core.Path.{◌≡◌, refl, sym, ap, ap₂, ◌∙◌}
+use mathlib.Core.Path.{◌≡◌, refl, sym, ap, ◌∙◌}
 use mathlib.Core.Bool.{Bool, true, false, cond}
 use mathlib.Core.List.{List}
-use Prim.Native.Nat.{ℕ, ◌+◌, ◌*◌, ◌-◌, ◌≤◌}
+use Prim.Native.Nat.{ℕ, ◌*◌, ◌-◌, ◌≤◌}
 use native.Mathlib.Nat.{sub-zero, mul-le-mul, le_refl}
 use native.Mathlib.Omega.{arith}
 use lib.ListN.{length, take}
@@ -16,7 +16,6 @@ use Rattle.settings.proofs.Numbers.{ranges}
 use Rattle.settings.proofs.Ranges.{checked_in}
 use Rattle.trace.specs.Lines.{most_words}
 use Rattle.trace_held.specs.Held.{cut_to, Held, Holds}
-use Rattle.trace_held.proofs.Held.{as_long}
 use Rattle.row.specs.Row.{row_length}
 use Rattle.acceptance_step.specs.Lines.{Engines, engines_of, most_row_words, KindFits, list_length, row_length_for, altered_by, kind_reply, kind_leaves, KindMade}
 use Rattle.acceptance_step.specs.Printed.{Room, held_in, answers_to, left_by, LineDone}

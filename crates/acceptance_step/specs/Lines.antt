@@ -3,7 +3,6 @@
 use Rattle.std.specs.Prelude.{◌≡◌, Bool, true, cond, List, ℕ, ◌≤◌, length}
 use Rattle.settings.specs.Numbers.{in_range, length_of}
 use Rattle.answers.specs.Refusals.{line_not_readable, answer_of}
-use Rattle.answers.specs.declared.Operation.{Operation}
 use Rattle.meaning.specs.Operations.{set_up_out, operation_out}
 use Rattle.trace.specs.Lines.{most_words}
 use Rattle.trace_held.specs.Held.{cut_to}

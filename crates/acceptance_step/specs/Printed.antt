@@ -1,5 +1,5 @@
 -- What is printed: for a line the list's four numbers and the row's four; at the end how many lines there were, or the first on which they differ.
-use Rattle.std.specs.Prelude.{Bool, cond, ◌&&◌, not, List, [], ◌∷◌, ◌++◌, ◌≡◌, ℕ, suc, ◌+◌, ◌*◌, eqb, ltb, take}
+use Rattle.std.specs.Prelude.{Bool, cond, ◌&&◌, not, List, [], ◌∷◌, ◌++◌, ◌≡◌, ℕ, suc, ◌*◌, eqb, ltb, take}
 use Rattle.text.specs.Fields.{space}
 use Rattle.text.specs.Lines.{line_feed}
 use Rattle.report.specs.Report.{decimal, answer_text, answer_bytes}

@@ -108,13 +108,7 @@ fn no_read(file: &[u8], list: &[u32]) -> Answer
 }
 
 // Makes the lent words a fresh list with D dimensions, largest key K and C cells, and its record 0.
-pub fn counted_set_up(
-    d: u32,
-    k: u32,
-    c: u32,
-    list: &mut [u32],
-    classes: &mut [u32],
-) -> Answer
+pub fn counted_set_up(d: u32, k: u32, c: u32, list: &mut [u32], classes: &mut [u32]) -> Answer
     ensures { Meets (counted_out (call.SetUp d k c) (words_beside list.old classes.old)) result (words_beside list.new classes.new) }
 {
     if classes.len() != classes::RECORD_WORDS {
@@ -130,12 +124,7 @@ pub fn counted_set_up(
 }
 
 // Puts a key with its value into the list.
-pub fn counted_insert(
-    list: &mut [u32],
-    classes: &mut [u32],
-    key: u32,
-    value: u32,
-) -> Answer
+pub fn counted_insert(list: &mut [u32], classes: &mut [u32], key: u32, value: u32) -> Answer
     ensures { Meets (counted_out (call.Operate (operation.Insert key value)) (words_beside list.old classes.old)) result (words_beside list.new classes.new) }
 {
     let pass = check(list, classes);

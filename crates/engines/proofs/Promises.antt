@@ -21,7 +21,7 @@ use Rattle.calls.proofs.Booked.Book.{calls_keep_lists, operation_booked, set_up_
 use Rattle.row.specs.Row.{row_length, book_in, is_row, row_set_up_out, row_out}
 use Rattle.row.proofs.Promises.{rows_stay_rows, row_is_book}
 use Rattle.engines.specs.Alike.{is_counted, alike}
-use Rattle.engines.specs.Promises.{list_after, row_after, RowAnswersAsList, EnginesAlike, Same, AlikeMeansSame}
+use Rattle.engines.specs.Promises.{list_after, row_after, RowAnswersAsList, EnginesAlike, AlikeMeansSame}
 
 -- a list and a row with one book
 record Pair (ws rs : List ℕ) : Type 0 where

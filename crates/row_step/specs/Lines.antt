@@ -1,5 +1,5 @@
 -- What a line of a trace does to a plain row: the replay's lines for words and calls; those for bytes, records and files are not readable here.
-use Rattle.std.specs.Prelude.{◌≡◌, List, ◌++◌, ℕ, ◌+◌, ◌≤◌, length, take}
+use Rattle.std.specs.Prelude.{◌≡◌, List, ◌++◌, ℕ, ◌+◌}
 use Rattle.answers.specs.Refusals.{Outcome, refused, line_not_readable, answer_of}
 use Rattle.calls.specs.declared.Call.{Call}
 use Rattle.calls.specs.declared.Call.TheVariants.{SetUp, Operate, Record, Write, Read}

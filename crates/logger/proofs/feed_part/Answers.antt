@@ -1,7 +1,7 @@
 -- `logger::feed_part` meets its contract and ends: each turn takes one byte more of the part.
 use mathlib.Core.Path.{refl, sym, ◌∙◌, ap}
 use mathlib.Core.Bool.{not, true≢false}
-use Prim.Native.Nat.{◌+◌, ◌-◌}
+use Prim.Native.Nat.{◌+◌}
 use borrow.Author.Rules.{rules}
 use Rattle.text.proofs.Parts.{none_fed, one_more_fed}
 use Rattle.notes.specs.Feeding.{record_handing}

@@ -1,5 +1,4 @@
 -- `report::checksum` meets its contract: each word is summed once, in order.
-use Prim.Native.Nat.{◌-◌}
 use native.Mathlib.Omega.{arith}
 use Rattle.report.proofs.Sums.{summed_start, summed_next, summed_all}
 use Rattle.report.proofs.checksum.Goals as goal

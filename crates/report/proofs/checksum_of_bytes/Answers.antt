@@ -1,5 +1,4 @@
 -- `report::checksum_of_bytes` meets its contract: each byte is summed once, in order.
-use Prim.Native.Nat.{◌-◌}
 use native.Mathlib.Omega.{arith}
 use Rattle.report.proofs.Sums.{summed_start, summed_next, summed_all}
 use Rattle.report.proofs.checksum_of_bytes.Goals as goal

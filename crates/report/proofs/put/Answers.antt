@@ -1,6 +1,5 @@
 -- `report::put` meets its contract: after i turns the first i of the bytes are put.
 use mathlib.Core.Path.{refl}
-use Prim.Native.Nat.{◌-◌}
 use native.Mathlib.Omega.{arith}
 use borrow.Author.Rules.{rules}
 use Rattle.report.proofs.Puts.{put_next, put_all}

@@ -1,8 +1,7 @@
 -- `report::put_number` meets its contract: the digits made are those of the number, and the byte goes to the index after them.
 use native.Mathlib.Omega.{arith}
-use lib.ListN.{take}
 use Rattle.report.proofs.Puts.{put_length, put_byte, put_more}
-use Rattle.report.proofs.Digits.{Spelled, decimal_spelled}
+use Rattle.report.proofs.Digits.{decimal_spelled}
 use Rattle.report.proofs.put_number.Goals as goal
 
 pub put-end-requires : goal.put-end-requires

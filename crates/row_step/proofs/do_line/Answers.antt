@@ -1,6 +1,6 @@
 -- `row_step::do_line` meets its contract: the call is made on what the line leaves it, and the rest of the array stays.
 use mathlib.Core.Path.{◌≡◌, ap, ◌∙◌}
-use Prim.Native.Nat.{ℕ, ◌-◌}
+use Prim.Native.Nat.{ℕ}
 use native.Mathlib.Nat.{sub-zero}
 use lib.ListN.{length, take}
 use lib.Seq.{take_at}

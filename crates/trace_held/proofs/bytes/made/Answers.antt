@@ -1,6 +1,5 @@
 -- `trace_held::bytes::made` meets its contract: after i turns the array is i bytes of the one value and what stood after them.
 use mathlib.Core.Path.{◌≡◌, refl, ap, ◌∙◌}
-use Prim.Native.Nat.{◌-◌}
 use native.Mathlib.Omega.{arith}
 use lib.ListN.{take}
 use borrow.Author.Rules.{rules}
