@@ -13,7 +13,13 @@ use answers::Answer;
 
 // Makes the lent words a fresh list with D dimensions, largest key K and C cells, and its record 0.
 #[unsafe(no_mangle)]
-pub extern "C" fn counted_set_up(d: u32, k: u32, c: u32, list: &mut [u32], classes: &mut [u32]) -> Answer
+pub extern "C" fn counted_set_up(
+    d: u32,
+    k: u32,
+    c: u32,
+    list: &mut [u32],
+    classes: &mut [u32],
+) -> Answer
     ensures { Meets (counted_out (call.SetUp d k c) (words_beside list.old classes.old)) result (words_beside list.new classes.new) }
 {
     counted::counted_set_up(d, k, c, list, classes)
@@ -21,7 +27,12 @@ pub extern "C" fn counted_set_up(d: u32, k: u32, c: u32, list: &mut [u32], class
 
 // Puts a key with its value into the list.
 #[unsafe(no_mangle)]
-pub extern "C" fn counted_insert(list: &mut [u32], classes: &mut [u32], key: u32, value: u32) -> Answer
+pub extern "C" fn counted_insert(
+    list: &mut [u32],
+    classes: &mut [u32],
+    key: u32,
+    value: u32,
+) -> Answer
     ensures { Meets (counted_out (call.Operate (operation.Insert key value)) (words_beside list.old classes.old)) result (words_beside list.new classes.new) }
 {
     counted::counted_insert(list, classes, key, value)
@@ -61,7 +72,12 @@ pub extern "C" fn counted_sweep(list: &mut [u32], classes: &[u32]) -> Answer
 
 // Puts what a record of the logger's export notes into the list, with its full number as the value; `last` is the last full number.
 #[unsafe(no_mangle)]
-pub extern "C" fn counted_record(list: &mut [u32], classes: &mut [u32], record: &[u8], last: &mut u64) -> Answer
+pub extern "C" fn counted_record(
+    list: &mut [u32],
+    classes: &mut [u32],
+    record: &[u8],
+    last: &mut u64,
+) -> Answer
     ensures { Meets (counted_out call.Record (beside (lent_of list.old «record».now last.old) classes.old)) result (beside (lent_of list.new «record».now last.new) classes.new) }
 {
     counted::counted_record(list, classes, record, last)
@@ -85,7 +101,12 @@ pub extern "C" fn counted_read(file: &[u8], list: &mut [u32], classes: &mut [u32
 
 // Makes many calls on the list after one check and one comparison, and puts four words of answer for each; the record is written once.
 #[unsafe(no_mangle)]
-pub extern "C" fn counted_batch(list: &mut [u32], classes: &mut [u32], calls: &[u32], answers: &mut [u32]) -> Answer
+pub extern "C" fn counted_batch(
+    list: &mut [u32],
+    classes: &mut [u32],
+    calls: &[u32],
+    answers: &mut [u32],
+) -> Answer
     ensures { Meets (counted_batch_out calls.now (beside (batch_lent list.old answers.old) classes.old)) result (beside (batch_lent list.new answers.new) classes.new) }
 {
     counted::counted_batch(list, classes, calls, answers)
