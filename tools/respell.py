@@ -1,11 +1,11 @@
 #!/usr/bin/env python3
 """Respells the repository's own definitions, lemmas and fields of specs/ and proofs/: words in snake case, types and modules in camel case.
 
-usage: python3 tools/respell.py      at the top of the repository, once, after /opt/rattle/port/port.py
+usage: python3 tools/respell.py      at the top of the repository, once, after the kit's port/port.py
 
 A hump becomes '_' and a small letter. A dash stays after a name that is a definition of this repository, as in free_words-length, and
-becomes '_' elsewhere; a definition of one plain word is no such name. A lemma that would then have the name of a definition gets '_lem'. It writes the .antt and .rt files of crates/, the
-must-fail edits, and the names that README.md and docs/ give in backticks. It prints the names, old and new.
+becomes '_' elsewhere; a definition of one plain word is no such name, but length, get_or, replicate and reverse of the library are. A lemma that would then have the name of a definition gets '_lem'. It writes the .antt and .rt files of crates/, the
+must-fail edits, and the names that README.md and docs/ (PORT.md aside) give in backticks. It prints the names, old and new.
 """
 
 import collections
