@@ -1,4 +1,4 @@
-// The waiting list as a Rust host calls it: nine operations by number and slice, and a batch of calls. Each is a thin exported function: it checks that the
+// The waiting list as a Rust host calls it: nine operations by number and slice, and a batch of calls; `mdlist_c` exports them. Each is thin: it checks that the
 // lent words are a list, refuses by number 3 if they are not, and calls the inner function of the crate of its name. No one has a
 // `requires`, and each contract is the whole outcome of the call (docs/REFERENCE.md): the four numbers, every word, the last number, and the bytes of a file.
 #![tactic(auto)]

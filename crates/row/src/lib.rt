@@ -1,5 +1,5 @@
 // The plain row: a second engine beside the list, for acceptance (docs/REFERENCE.md, *The plain row*). The standing keys in ascending order, each with its
-// value and mark, searched from the front. It shares the settings check with the list and no other code. No exported function has a `requires`, and
+// value and mark, searched from the front. It shares the settings check with the list and no other code. None of the six functions that `row_c` exports has a `requires`, and
 // each contract is the whole outcome of the call: the four numbers and every word.
 #![tactic(auto)]
 
