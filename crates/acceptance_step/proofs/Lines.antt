@@ -1,4 +1,5 @@
 -- The words of both engines fit what is held, and a line is done on them.
+use Rattle.std.specs.Prelude.{Option, Some}
 use mathlib.Core.Path.{◌≡◌, refl, sym, ap, ◌∙◌}
 use mathlib.Core.Bool.{Bool, true, false, cond}
 use mathlib.Core.List.{List}
@@ -10,8 +11,6 @@ use lib.Seq.{length-take-le}
 use Rattle.settings.specs.Numbers.{in_range, length_of, cell_words, most_dimensions, most_cells}
 use Rattle.settings.specs.Checked.{checked_of}
 use Rattle.settings.specs.declared.Settings.{Settings}
-use Rattle.settings.specs.declared.Checked.{Checked}
-use Rattle.settings.specs.declared.Checked.TheVariants.{Accepted}
 use Rattle.settings.proofs.Numbers.{ranges}
 use Rattle.settings.proofs.Ranges.{checked_in}
 use Rattle.trace.specs.Lines.{most_words}
@@ -27,7 +26,7 @@ use Rattle.acceptance_step.specs.declared.Done.{Done}
 
 -- settings that are accepted keep the limits
 pub accepted_limits :
-    (D K C : ℕ) {checked : Checked} {s : Settings} → checked ≡ checked_of D K C → checked ≡ Accepted s →
+    (D K C : ℕ) {checked : Option Settings} {s : Settings} → checked ≡ checked_of D K C → checked ≡ Some s →
     (s.dimensions ≤ most_dimensions) × ((s.cells ≤ most_cells) × (1 ≤ s.cells))
 accepted_limits D K C read e =
     let (range, is) = checked_in D K C read e in

@@ -2,7 +2,8 @@
 -- their own lengths; out of range it is made on the words as they stand.
 use Rattle.std.specs.Prelude.{◌≡◌, Bool, true, cond, List, ℕ, ◌≤◌, length}
 use Rattle.settings.specs.Numbers.{in_range, length_of}
-use Rattle.answers.specs.Refusals.{line_not_readable, answer_of}
+use Rattle.answers.specs.Refusals.{answer_of}
+use Rattle.answers.specs.declared.Refusal.TheVariants.{LineNotReadable}
 use Rattle.meaning.specs.Operations.{set_up_out, operation_out}
 use Rattle.trace.specs.Lines.{most_words}
 use Rattle.trace_held.specs.Held.{cut_to}
@@ -49,7 +50,7 @@ altered_by kind e = engines_of (cut_to (list_length kind (length e.list)) e.list
 abbrev pub kind_reply : Kind → Engines → Pair
 kind_reply (SetUp D K C) e = record { list = (set_up_out D K C e.list).answered; row = (row_set_up_out D K C e.row).answered }
 kind_reply (Make operation) e = record { list = (operation_out operation e.list).answered; row = (row_out operation e.row).answered }
-kind_reply Unreadable e = record { list = answer_of line_not_readable; row = answer_of line_not_readable }
+kind_reply Unreadable e = record { list = answer_of LineNotReadable; row = answer_of LineNotReadable }
 
 abbrev pub kind_leaves : Kind → Engines → Engines
 kind_leaves (SetUp D K C) e = engines_of (set_up_out D K C e.list).left (row_set_up_out D K C e.row).left

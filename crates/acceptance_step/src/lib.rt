@@ -11,8 +11,8 @@ ghost use Rattle.row.specs.Row.{row_length, row_out};
 ghost use Rattle.acceptance_step.specs.Lines.{engines_of, KindFits, list_length, row_length_for, counted_in, KindMade};
 ghost use Rattle.acceptance_step.specs.Printed.{Room, held_in, answers_to, left_by, pair_text, line_bytes, counted, tallied_by, LineDone, verdict_text};
 
-use answers::{Answer, Operation};
-use settings::{Checked, Settings};
+use answers::{Answer, Operation, Refusal};
+use settings::Settings;
 use text::feed::Told;
 use trace::Numbers;
 
@@ -72,7 +72,7 @@ pub struct State {
 fn set_up_line(d: u32, k: u32, c: u32) -> Kind
     ensures { KindFits result }
 {
-    let Checked::Accepted(s) = Settings::new(d, k, c) else {
+    let Some(s) = Settings::new(d, k, c) else {
         return Kind::SetUp(d, k, c);
     };
     if trace::MOST_WORDS < s.length() {
@@ -169,7 +169,7 @@ fn row_length(c: u32) -> usize
 fn set_up_sizes(d: u32, k: u32, c: u32, sizes: Sizes) -> Sizes
     ensures { (result.list ≡ cond (in_range d k c) (length_of d c) sizes.list) × (result.row ≡ cond (in_range d k c) (row_length c) sizes.row) }
 {
-    let Checked::Accepted(s) = Settings::new(d, k, c) else {
+    let Some(s) = Settings::new(d, k, c) else {
         return sizes;
     };
     Sizes {
@@ -216,8 +216,8 @@ fn make(list: &mut [u32], keys: &mut [u32], kind: Kind) -> Pair
             row: row_operation(keys, operation),
         },
         Kind::Unreadable => return Pair {
-            list: answers::refused(answers::LINE_NOT_READABLE),
-            row: answers::refused(answers::LINE_NOT_READABLE),
+            list: answers::refused(Refusal::LineNotReadable),
+            row: answers::refused(Refusal::LineNotReadable),
         },
     }
 }

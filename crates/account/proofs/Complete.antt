@@ -1,10 +1,10 @@
 -- The check accepts every list: a list is the picture of a state in order; of that the header, the head, each standing cell in the
 -- order of keys, and the chain of free cells are right.
+use Rattle.std.specs.Prelude.{None}
 use mathlib.Core.Path.{◌≡◌, refl, sym, ◌∙◌, ap, ap₂, subst}
 use mathlib.Core.Bool.{true, ◌||◌, not}
 use mathlib.Core.List.{List, [], ◌∷◌}
 use mathlib.Core.Logic.{◌⊎◌, inl, inr}
-use mathlib.Core.Option.{none}
 use Prim.Native.Nat.{ℕ, suc, ◌+◌, ◌-◌, ◌^◌, ◌≤◌, ◌<◌}
 use native.Mathlib.Decide.{dec_lt, ℕ_discrete}
 use native.Mathlib.Omega.{arith}
@@ -212,7 +212,7 @@ module _ (s : State) (v : Sound s) where
       at (yes h) = absurd (let pos = base_positive s v in let l = (base_of_lem s v).least (s.settings.base - 1) h in omega arith)
       at (no h) = omega arith
 
-  free_right_lem : (c : ℕ) → c < s.settings.cells → place_of c (places s.settings.base s.settings.dimensions s.row) ≡ none →
+  free_right_lem : (c : ℕ) → c < s.settings.cells → place_of c (places s.settings.base s.settings.dimensions s.row) ≡ None →
       free_right (picture s) c ≡ true
   unfolding free_right picture
   free_right_lem c h found =
@@ -221,7 +221,7 @@ module _ (s : State) (v : Sound s) where
       (λ j k l. eq-eqb (word_at (picture s) c j) 0 (free_cell_rest s c h found j k (omega arith))))
 
   chain_right_lem : (cs : List ℕ) → Follow s.free cs → All (λ c. (0 < c) × (c < s.settings.cells)) cs →
-      All (λ c. place_of c (places s.settings.base s.settings.dimensions s.row) ≡ none) cs →
+      All (λ c. place_of c (places s.settings.base s.settings.dimensions s.row) ≡ None) cs →
       chain_right (picture s) (length cs) (first_number cs) ≡ true
   unfolding chain_right
   chain_right_lem [] follow range found = refl

@@ -1,6 +1,9 @@
 -- What a call answers and leaves, and the table of refusals: The operations, Refusals.
 use Rattle.std.specs.Prelude.{◌≡◌, ℕ}
 use Rattle.answers.specs.declared.Answer.{Answer}
+use Rattle.answers.specs.declared.Refusal.{Refusal}
+use Rattle.answers.specs.declared.Refusal.TheVariants.{OutOfRange, WrongLength, NotAList, BadKey, KeyLive, NoFreeCell, NothingLive, KeyNotLive}
+use Rattle.answers.specs.declared.Refusal.TheVariants.{KeyNotStanding, LineNotReadable, BadFile, NoRoom, BadRecord, NumberOutside, BadClasses, BadBatch}
 
 -- The operations: every call answers four numbers.
 abbrev pub answer : ℕ → ℕ → ℕ → ℕ → Answer
@@ -20,58 +23,24 @@ pub record Meets {Lent : Type 0} (o : Outcome Lent) (r : Answer) (lent : Lent) :
 abbrev pub accepted : {Lent : Type 0} → ℕ → ℕ → ℕ → Lent → Outcome Lent
 accepted key value count left = record { answered = answer 0 key value count; left = left }
 
-pub data Refusal : Type 0 where
-  -- set up: D, K or C out of range
-  out_of_range : Refusal
-  -- set up, read: length not the exact one
-  wrong_length : Refusal
-  -- the buffer is not a list (all but set up and read)
-  not_a_list : Refusal
-  -- key 0 or above K
-  bad_key : Refusal
-  -- insert: key is live
-  key_live : (key looked : ℕ) → Refusal
-  -- insert: key not standing and no free cell
-  no_free_cell : (key looked : ℕ) → Refusal
-  -- take: nothing live
-  nothing_live : (above : ℕ) → Refusal
-  -- find: key not live
-  key_not_live : (key looked : ℕ) → Refusal
-  -- finish: key not standing
-  key_not_standing : (key : ℕ) → Refusal
-  -- program: line not readable
-  line_not_readable : Refusal
-  -- read: the file breaks the layout, its settings are out of range, or its keys are not what a list may keep
-  bad_file : Refusal
-  -- write: the lent bytes are too few
-  no_room : Refusal
-  -- record: it breaks the grammar, or a field's range
-  bad_record : Refusal
-  -- record: the full number does not fit into 32 bits
-  number_outside : Refusal
-  -- with a class record: it is not what a full reading of the list gives; where it is not compared, its length is wrong
-  bad_classes : Refusal
-  -- batch: the words are no calls, or there is no room for the answers
-  bad_batch : Refusal
-
 -- the table's numbers, and the answers after the number; 9 is retired and not used again
 abbrev pub answer_of : Refusal → Answer
-answer_of out_of_range = answer 1 0 0 0
-answer_of wrong_length = answer 2 0 0 0
-answer_of not_a_list = answer 3 0 0 0
-answer_of bad_key = answer 4 0 0 0
-answer_of (key_live key looked) = answer 5 key 0 looked
-answer_of (no_free_cell key looked) = answer 6 key 0 looked
-answer_of (nothing_live above) = answer 7 0 0 above
-answer_of (key_not_live key looked) = answer 8 key 0 looked
-answer_of (key_not_standing key) = answer 8 key 0 0
-answer_of line_not_readable = answer 10 0 0 0
-answer_of bad_file = answer 11 0 0 0
-answer_of no_room = answer 12 0 0 0
-answer_of bad_record = answer 13 0 0 0
-answer_of number_outside = answer 14 0 0 0
-answer_of bad_classes = answer 15 0 0 0
-answer_of bad_batch = answer 19 0 0 0
+answer_of OutOfRange = answer 1 0 0 0
+answer_of WrongLength = answer 2 0 0 0
+answer_of NotAList = answer 3 0 0 0
+answer_of BadKey = answer 4 0 0 0
+answer_of (KeyLive key looked) = answer 5 key 0 looked
+answer_of (NoFreeCell key looked) = answer 6 key 0 looked
+answer_of (NothingLive above) = answer 7 0 0 above
+answer_of (KeyNotLive key looked) = answer 8 key 0 looked
+answer_of (KeyNotStanding key) = answer 8 key 0 0
+answer_of LineNotReadable = answer 10 0 0 0
+answer_of BadFile = answer 11 0 0 0
+answer_of NoRoom = answer 12 0 0 0
+answer_of BadRecord = answer 13 0 0 0
+answer_of NumberOutside = answer 14 0 0 0
+answer_of BadClasses = answer 15 0 0 0
+answer_of BadBatch = answer 19 0 0 0
 
 -- Refusals: a refused call alters nothing of what was lent.
 abbrev pub refused : {Lent : Type 0} → Refusal → Lent → Outcome Lent

@@ -2,11 +2,11 @@
 #![tactic(auto)]
 
 ghost use Rattle.std.specs.Prelude.{◌≡◌};
-ghost use Rattle.answers.specs.Refusals.{answer};
+ghost use Rattle.answers.specs.Refusals.{answer, answer_of};
 
 // The operations: every call answers four numbers.
 #[repr(C)]
-#[derive(Clone, Copy)]
+#[derive(Clone, Copy, PartialEq, Eq)]
 pub struct Answer {
     pub refusal: u32,
     pub key: u32,
@@ -27,60 +27,104 @@ pub enum Operation {
     Sweep,
 }
 
-// Refusals: their numbers. A definition of the same name says each one's answers (specs/Refusals.antt).
-pub const OUT_OF_RANGE: u32 = 1;
+// Refusals: the table, with what each one answers beside its number (specs/Refusals.antt).
+#[derive(Clone, Copy, PartialEq, Eq)]
+pub enum Refusal {
+    // set up: D, K or C out of range
+    OutOfRange,
+    // set up, read: length not the exact one
+    WrongLength,
+    // the buffer is not a list (all but set up and read)
+    NotAList,
+    // key 0 or above K
+    BadKey,
+    // insert: key is live; key, looked
+    KeyLive(u32, u32),
+    // insert: key not standing and no free cell; key, looked
+    NoFreeCell(u32, u32),
+    // take: nothing live; how many standing keys are above the position
+    NothingLive(u32),
+    // find: key not live; key, looked
+    KeyNotLive(u32, u32),
+    // finish: key not standing; key
+    KeyNotStanding(u32),
+    // program: line not readable
+    LineNotReadable,
+    // read: the file breaks the layout, its settings are out of range, or its keys are not what a list may keep
+    BadFile,
+    // write: the lent bytes are too few
+    NoRoom,
+    // record: it breaks the grammar, or a field's range
+    BadRecord,
+    // record: the full number does not fit into 32 bits
+    NumberOutside,
+    // with a class record: it is not what a full reading of the list gives; where it is not compared, its length is wrong
+    BadClasses,
+    // batch: the words are no calls, or there is no room for the answers
+    BadBatch,
+}
 
-pub const WRONG_LENGTH: u32 = 2;
+impl Refusal {
+    // The table's number; 9 is retired and not used again.
+    pub fn number(self) -> u32
+        ensures { result ≡ (answer_of self).refusal }
+    {
+        match self {
+            Refusal::OutOfRange => 1,
+            Refusal::WrongLength => 2,
+            Refusal::NotAList => 3,
+            Refusal::BadKey => 4,
+            Refusal::KeyLive(_, _) => 5,
+            Refusal::NoFreeCell(_, _) => 6,
+            Refusal::NothingLive(_) => 7,
+            Refusal::KeyNotLive(_, _) => 8,
+            Refusal::KeyNotStanding(_) => 8,
+            Refusal::LineNotReadable => 10,
+            Refusal::BadFile => 11,
+            Refusal::NoRoom => 12,
+            Refusal::BadRecord => 13,
+            Refusal::NumberOutside => 14,
+            Refusal::BadClasses => 15,
+            Refusal::BadBatch => 19,
+        }
+    }
 
-pub const NOT_A_LIST: u32 = 3;
+    // The key that is answered, 0 where none is.
+    fn key(self) -> u32
+        ensures { result ≡ (answer_of self).key }
+    {
+        match self {
+            Refusal::KeyLive(key, _) => key,
+            Refusal::NoFreeCell(key, _) => key,
+            Refusal::KeyNotLive(key, _) => key,
+            Refusal::KeyNotStanding(key) => key,
+            _ => 0,
+        }
+    }
 
-pub const BAD_KEY: u32 = 4;
-
-pub const KEY_LIVE: u32 = 5;
-
-pub const NO_FREE_CELL: u32 = 6;
-
-pub const NOTHING_LIVE: u32 = 7;
-
-pub const KEY_NOT_LIVE: u32 = 8;
-
-pub const KEY_NOT_STANDING: u32 = 8;
-
-pub const LINE_NOT_READABLE: u32 = 10;
-
-pub const BAD_FILE: u32 = 11;
-
-pub const NO_ROOM: u32 = 12;
-
-pub const BAD_RECORD: u32 = 13;
-
-pub const NUMBER_OUTSIDE: u32 = 14;
-
-pub const BAD_CLASSES: u32 = 15;
-
-pub const BAD_BATCH: u32 = 19;
-
-// A refusal that answers its number alone.
-pub fn refused(refusal: u32) -> Answer
-    ensures { result ≡ answer refusal 0 0 0 }
-{
-    Answer {
-        refusal,
-        key: 0,
-        value: 0,
-        count: 0,
+    // The count that is answered, 0 where none is.
+    fn count(self) -> u32
+        ensures { result ≡ (answer_of self).count }
+    {
+        match self {
+            Refusal::KeyLive(_, looked) => looked,
+            Refusal::NoFreeCell(_, looked) => looked,
+            Refusal::NothingLive(above) => above,
+            Refusal::KeyNotLive(_, looked) => looked,
+            _ => 0,
+        }
     }
 }
 
-// A refusal that answers a key and a count after its number.
-pub fn refused_at(refusal: u32, key: u32, count: u32) -> Answer
-    ensures { result ≡ answer refusal key 0 count }
+// What a refused call answers.
+pub fn refused(refusal: Refusal) -> Answer
+    ensures { result ≡ answer_of refusal }
 {
     Answer {
-        refusal,
-        key,
+        refusal: refusal.number(),
+        key: refusal.key(),
         value: 0,
-        count,
+        count: refusal.count(),
     }
 }
 

@@ -1,7 +1,7 @@
 -- From call to call of a batch, what is still to be done of it.
 use mathlib.Core.Path.{◌≡◌, refl, sym, ◌∙◌, ap}
 use mathlib.Core.List.{List, [], ◌∷◌, ◌++◌, map}
-use Prim.Native.Nat.{ℕ, ◌+◌, ◌*◌, ◌/◌, ◌≤◌}
+use Prim.Native.Nat.{ℕ, ◌+◌, ◌*◌, ◌≤◌}
 use native.Mathlib.Omega.{arith}
 use lib.ListN.{length, drop}
 use lib.Seq.{sets, sets-eq}
@@ -11,18 +11,14 @@ use Rattle.answers.specs.Refusals.{answer, Meets}
 use Rattle.answers.specs.declared.Answer.{Answer}
 use Rattle.answers.specs.declared.Operation.{Operation}
 use Rattle.calls.specs.Calls.{outcome, operated, made_on, after_calls}
-use Rattle.calls.specs.Batch.{BatchLent, calls_in, answer_words, answers_to, batch_lent, batch_done}
+use Rattle.calls.specs.Batch.{BatchLent, answer_words, answers_to, batch_lent, batch_done}
 use Rattle.calls.proofs.Batch.{answers_length}
 use Rattle.operate.specs.Operated.{Operated}
-use Rattle.batch.proofs.Calls.{calls_length}
 
 -- What is still to be done of a batch: the calls left, on the words and answers as they stand, lead to where all of them lead from the start.
 pub record ToDo (calls left : List Operation) (i : ℕ) (before after : BatchLent) : Type 0 where
   pub words : after_calls (map operated calls) before.words ≡ after_calls (map operated left) after.words
   pub answers : sets before.answers 0 (answers_to calls before.words) ≡ sets after.answers (4 * i) (answers_to left after.words)
-
-pub all_to_do : {calls : List Operation} {lent : BatchLent} → ToDo calls calls 0 lent lent
-all_to_do = record { words = refl; answers = refl }
 
 pub one_done :
     {calls left : List Operation} {call : Operation} {i : ℕ} {before : BatchLent} {words answers us : List ℕ} {s : Settings} {r : Answer} →
@@ -41,7 +37,7 @@ one_done {left = left} {call} {i} {words = words} {answers} {us} {r = r} todo ma
 
 pub nothing_to_do :
     {calls : List Operation} {i : ℕ} {before after : BatchLent} {r : Answer} → ToDo calls [] i before after → 4 * length calls ≤ length before.answers →
-    r ≡ (batch_done calls before).answered → Meets (batch_done calls before) r after
+    r ≡ answer 0 0 0 (length calls) → Meets (batch_done calls before) r after
 unfolding batch_done after_calls answers_to
 nothing_to_do {calls} {before = before} todo room answers =
     let long = answers_length calls before.words in
@@ -52,9 +48,3 @@ nothing_to_do {calls} {before = before} todo room answers =
       answered = answers;
       left = λ i. batch_lent (sym todo.words i) ((sym todo.answers ∙ put) i);
     }
-
--- the answer of a batch that is done
-pub done_answer :
-    (words : List ℕ) (lent : BatchLent) {r : Answer} → r ≡ answer 0 0 0 (length words / 3) → r ≡ (batch_done (calls_in words) lent).answered
-unfolding batch_done
-done_answer words lent e = e ∙ ap (λ n. answer 0 0 0 n) (sym (calls_length words))

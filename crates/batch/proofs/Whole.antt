@@ -1,4 +1,5 @@
 -- A batch on a list: where its calls do not fit, where it is done, and that it leaves a list with the same settings.
+use Rattle.std.specs.Prelude.{Some}
 use mathlib.Core.Path.{◌≡◌, refl, sym, subst}
 use mathlib.Core.Bool.{true, false}
 use mathlib.Core.List.{List, [], ◌∷◌, map}
@@ -7,14 +8,13 @@ use Rattle.settings.specs.declared.Settings.{Settings}
 use Rattle.answers.specs.Refusals.{Meets, answer}
 use Rattle.answers.specs.declared.Answer.{Answer}
 use Rattle.meaning.specs.Reading.{reading_of}
-use Rattle.meaning.specs.declared.Reading.TheVariants.{IsList}
 use Rattle.answers.specs.declared.Operation.{Operation}
 use Rattle.meaning.specs.Layer.Listed.{Listed}
 use Rattle.calls.specs.Calls.{outcome, operated, after_calls}
 use Rattle.calls.specs.Batch.{BatchLent, calls_in, fits, batch_done, batch_out}
 use Rattle.calls.proofs.Listed.{operation_listed}
 
-module _ (calls : List ℕ) (lent : BatchLent) {r : Answer} {s : Settings} (listed : reading_of lent.words ≡ IsList s) where
+module _ (calls : List ℕ) (lent : BatchLent) {r : Answer} {s : Settings} (listed : reading_of lent.words ≡ Some s) where
   pub bad_batch : fits calls lent.answers ≡ false → r ≡ answer 19 0 0 0 → Meets (batch_out calls lent) r lent
   unfolding batch_out
   bad_batch bad answers = rw (listed, bad) (record { answered = answers; left = refl })

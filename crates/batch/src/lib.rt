@@ -26,25 +26,20 @@ const WORDS_PER_CALL: usize = 3;
 const WORDS_PER_ANSWER: usize = 4;
 
 // The number that the count of a batch can tell at most.
-const MOST_CALLS: usize = 4294967295;
+const MOST_CALLS: usize = u32::MAX as usize;
 
 // The operation that the three words of a call ask for.
+#[tactic(auto, unfolding(calls::specs::Batch::operation_of))]
 fn operation_of(kind: u32, key: u32, value: u32) -> Operation
     ensures { result ≡ operation_of kind key value }
 {
-    if kind == INSERT {
-        return Operation::Insert(key, value);
+    match kind {
+        INSERT => Operation::Insert(key, value),
+        FIND => Operation::Find(key),
+        FINISH => Operation::Finish(key),
+        TAKE => Operation::Take,
+        _ => Operation::Sweep,
     }
-    if kind == FIND {
-        return Operation::Find(key);
-    }
-    if kind == FINISH {
-        return Operation::Finish(key);
-    }
-    if kind == TAKE {
-        return Operation::Take;
-    }
-    Operation::Sweep
 }
 
 // Puts the four words of an answer.
@@ -58,42 +53,28 @@ fn put(answers: &mut [u32], at: usize, a: Answer)
     answers[at + 3] = a.count;
 }
 
+#[tactic(auto, unfolding(calls::specs::Batch::is_kind))]
 fn is_kind(kind: u32) -> bool
     ensures { result ≡ is_kind kind }
 {
-    if kind < INSERT {
-        return false;
-    }
-    kind <= SWEEP
+    matches!(kind, INSERT..=SWEEP)
 }
 
 // Whether the words are whole calls, each of one of the kinds.
 fn are_calls(calls: &[u32]) -> bool
     ensures { result ≡ are_calls calls.now }
 {
-    let n = calls.len() / WORDS_PER_CALL;
-    let mut i = 0;
-    while i < n {
-        if !is_kind(calls[WORDS_PER_CALL * i]) {
-            return false;
-        }
-        i += 1;
-    }
-    calls.len() % WORDS_PER_CALL == 0
+    let (whole, rest) = calls.as_chunks::<WORDS_PER_CALL>();
+    rest.is_empty() && whole.iter().all(|call| is_kind(call[0]))
 }
 
 // Whether these are calls, with room for their answers.
+#[tactic(auto, using(crate::proofs::Calls::calls_length), unfolding(calls::specs::Batch::fits))]
 pub fn fit(calls: &[u32], answers: &[u32]) -> bool
     ensures { result ≡ fits calls.now answers.now }
 {
-    if !are_calls(calls) {
-        return false;
-    }
     let n = calls.len() / WORDS_PER_CALL;
-    if answers.len() / WORDS_PER_ANSWER < n {
-        return false;
-    }
-    n <= MOST_CALLS
+    are_calls(calls) && n <= answers.len() / WORDS_PER_ANSWER && n <= MOST_CALLS
 }
 
 // On a list with settings s: The operations 8, where the calls fit.
@@ -107,14 +88,10 @@ pub fn batch(
     requires { Listed list.old s × (PowersOf s powers.now × (fits calls.now answers.old ≡ true)) }
     ensures { Meets (batch_done (calls_in calls.now) (batch_lent list.old answers.old)) result (batch_lent list.new answers.new) }
 {
-    let n = calls.len() / WORDS_PER_CALL;
-    let mut i = 0;
-    while i < n {
-        let at = WORDS_PER_CALL * i;
-        let operation = operation_of(calls[at], calls[at + 1], calls[at + 2]);
-        let a = operate::operate(list, s, powers, operation);
+    let (whole, _) = calls.as_chunks::<WORDS_PER_CALL>();
+    for (i, &[kind, key, value]) in whole.iter().enumerate() {
+        let a = operate::operate(list, s, powers, operation_of(kind, key, value));
         put(answers, WORDS_PER_ANSWER * i, a);
-        i += 1;
     }
-    answers::accepted(0, 0, n as u32)
+    answers::accepted(0, 0, whole.len() as u32)
 }

@@ -1,11 +1,11 @@
 -- What an ordered map would do: the standing keys in ascending order, each with its value and whether it is live, and the key of the position; no
 -- cells, links or debts. A list's book is what its keys come to; the plain row is its book in words. The five operations on it: The operations.
-use Rattle.std.specs.Prelude.{Bool, true, false, cond, ◌&&◌, ℕ, suc, eqb, leb, ltb, length}
+use Rattle.std.specs.Prelude.{Bool, true, false, cond, ◌&&◌, ℕ, suc, eqb, leb, ltb, length, Option, None, Some}
 use mathlib.Core.List.{List, [], ◌∷◌, ◌++◌, map, drop_last}
-use Rattle.std.proofs.Math.Option.{Option, none, some}
 use Rattle.settings.specs.Numbers.{is_key}
 use Rattle.lists.specs.Lists.{those}
-use Rattle.answers.specs.Refusals.{Outcome, accepted, refused, bad_key, key_live, no_free_cell, nothing_live, key_not_live, key_not_standing}
+use Rattle.answers.specs.Refusals.{Outcome, accepted, refused}
+use Rattle.answers.specs.declared.Refusal.TheVariants.{BadKey, KeyLive, NoFreeCell, NothingLive, KeyNotLive, KeyNotStanding}
 use Rattle.answers.specs.declared.Operation.{Operation}
 use Rattle.answers.specs.declared.Operation.TheVariants.{Insert, Find, Finish, Take, Sweep}
 
@@ -43,12 +43,12 @@ key_below key row = last_in (those (λ x. ltb x.key key) row)
 
 -- the standing key that is this key
 unfoldable pub standing_at : ℕ → List StandingKey → Option StandingKey
-standing_at key [] = none
-standing_at key (x ∷ row) = cond (eqb x.key key) (some x) (standing_at key row)
+standing_at key [] = None
+standing_at key (x ∷ row) = cond (eqb x.key key) (Some x) (standing_at key row)
 
 -- Refusal 4: key 0 or above K.
 unfoldable pub on_book_key : ℕ → Book → Outcome Book → Outcome Book
-on_book_key key k done = cond (is_key k.largest key) done (refused bad_key k)
+on_book_key key k done = cond (is_key k.largest key) done (refused BadKey k)
 
 -- Insert.
 
@@ -67,22 +67,22 @@ position_with key k = cond (leb key k.position) (key_below key k.row) k.position
 
 -- The operations 2: a dead key is revived; a new one needs room. (What a search looks at is no matter of the book: 0 stands for looked.)
 unfoldable pub insert_book : ℕ → ℕ → Book → Option StandingKey → Outcome Book
-insert_book key value k none =
+insert_book key value k None =
     cond (ltb (suc (length k.row)) k.cells)
     (accepted key 0 0 (with_row k (put_key (standing_key key value true) k.row) (position_with key k)))
-    (refused (no_free_cell key 0) k)
-insert_book key value k (some x) =
-    cond x.live (refused (key_live key 0) k) (accepted key 0 0 (with_row k (marked key value true k.row) (position_with key k)))
+    (refused (NoFreeCell key 0) k)
+insert_book key value k (Some x) =
+    cond x.live (refused (KeyLive key 0) k) (accepted key 0 0 (with_row k (marked key value true k.row) (position_with key k)))
 
 -- Find and finish: The operations 3 and 4. (0 stands for looked and for the links moved.)
 
 unfoldable pub find_book : ℕ → Book → Option StandingKey → Outcome Book
-find_book key k none = refused (key_not_live key 0) k
-find_book key k (some x) = cond x.live (accepted key x.value 0 k) (refused (key_not_live key 0) k)
+find_book key k None = refused (KeyNotLive key 0) k
+find_book key k (Some x) = cond x.live (accepted key x.value 0 k) (refused (KeyNotLive key 0) k)
 
 unfoldable pub finish_book : ℕ → Book → Option StandingKey → Outcome Book
-finish_book key k none = refused (key_not_standing key) k
-finish_book key k (some x) = accepted key 0 0 k
+finish_book key k None = refused (KeyNotStanding key) k
+finish_book key k (Some x) = accepted key 0 0 k
 
 -- Take.
 
@@ -104,7 +104,7 @@ standing_between low high row = length (those (λ x. ltb low x.key && leb x.key 
 
 -- The operations 5: the least live key; it becomes dead with value 0, and the position. The count is passed; refused by 7, the keys above the position.
 unfoldable pub take_book : Book → List StandingKey → Outcome Book
-take_book k [] = refused (nothing_live (standing_above k.position k.row)) k
+take_book k [] = refused (NothingLive (standing_above k.position k.row)) k
 take_book k (x ∷ later) =
     accepted x.key x.value (standing_between k.position x.key k.row) (with_row k (marked x.key 0 false k.row) x.key)
 

@@ -1,4 +1,6 @@
 -- A batch does what its calls do one after the other, and each answer stands in its four words.
+use Rattle.settings.specs.declared.Settings.{Settings}
+use Rattle.std.specs.Prelude.{None, Option, Some}
 use mathlib.Core.Path.{◌≡◌, refl, sym, ◌∙◌, ap, subst}
 use mathlib.Core.Bool.{Bool, true, false, cond, ◌&&◌}
 use mathlib.Core.List.{List, [], ◌∷◌, ◌++◌, map}
@@ -9,14 +11,13 @@ use lib.ListN.{length, take, drop, length-append}
 use lib.Seq.{drop_at}
 use borrow.Author.Tests.{leb-true}
 use Rattle.lists.proofs.Tests.{cond_has}
-use Rattle.answers.specs.Refusals.{Outcome, bad_batch, refused}
+use Rattle.answers.specs.Refusals.{Outcome, refused}
+use Rattle.answers.specs.declared.Refusal.TheVariants.{BadBatch}
 use Rattle.meaning.specs.Reading.{reading_of}
 use Rattle.calls.specs.Calls.{operated, made_on, after_calls}
 use Rattle.calls.specs.Batch.{BatchLent, are_calls, calls_in, answer_words, answers_to, fits, put_first, batch_done, batch_on, batch_out}
 use Rattle.calls.specs.Promises.{BatchIs, BatchIsCalls, RefusedBatchAltersNothing, BatchRefusals}
 use Rattle.answers.specs.declared.Operation.{Operation}
-use Rattle.meaning.specs.declared.Reading.{Reading}
-use Rattle.meaning.specs.declared.Reading.TheVariants.{IsList, NotAList}
 
 pub answers_length : (calls : List Operation) (ws : List ℕ) → length (answers_to calls ws) ≡ 4 * length calls
 unfolding answers_to
@@ -80,13 +81,13 @@ batch_is_calls calls lent = at (reading_of lent.words)
     Is : Outcome BatchLent → Type 0
     Is o = o.answered.refusal ≡ 0 → (o.answered.count ≡ length (calls_in calls)) × BatchIs (calls_in calls) lent o.left
 
-    by : (t : Bool) → fits calls lent.answers ≡ t → Is (cond t (batch_done (calls_in calls) lent) (refused bad_batch lent))
+    by : (t : Bool) → fits calls lent.answers ≡ t → Is (cond t (batch_done (calls_in calls) lent) (refused BadBatch lent))
     by true e z = (done_count (calls_in calls) lent, done_is (calls_in calls) lent (fits_room calls lent.answers e))
     by false e z = absurd (omega arith)
 
-    at : (reading : Reading) → Is (batch_on calls lent reading)
-    at (IsList s) = by (fits calls lent.answers) refl
-    at NotAList = λ z. absurd (omega arith)
+    at : (reading : Option Settings) → Is (batch_on calls lent reading)
+    at (Some s) = by (fits calls lent.answers) refl
+    at None = λ z. absurd (omega arith)
 
 pub refused_batch_alters_nothing : RefusedBatchAltersNothing
 unfolding batch_out batch_done
@@ -95,13 +96,13 @@ refused_batch_alters_nothing calls lent = at (reading_of lent.words)
     Kept : Outcome BatchLent → Type 0
     Kept o = (o.answered.refusal ≡ 0 → ⊥) → o.left ≡ lent
 
-    by : (t : Bool) → Kept (cond t (batch_done (calls_in calls) lent) (refused bad_batch lent))
+    by : (t : Bool) → Kept (cond t (batch_done (calls_in calls) lent) (refused BadBatch lent))
     by true ne = absurd (ne refl)
     by false ne = refl
 
-    at : (reading : Reading) → Kept (batch_on calls lent reading)
-    at (IsList s) = by (fits calls lent.answers)
-    at NotAList = λ ne. refl
+    at : (reading : Option Settings) → Kept (batch_on calls lent reading)
+    at (Some s) = by (fits calls lent.answers)
+    at None = λ ne. refl
 
 pub batch_refusals : BatchRefusals
 unfolding batch_out reading_of
@@ -114,6 +115,6 @@ batch_never_nine calls lent = at (reading_of lent.words)
     NotNine : Outcome BatchLent → Type 0
     NotNine o = o.answered.refusal ≡ 9 → ⊥
 
-    at : (reading : Reading) → NotNine (batch_on calls lent reading)
-    at (IsList s) = cond_has NotNine (fits calls lent.answers) _ _ (λ e. omega arith) (λ e. omega arith)
-    at NotAList = λ e. omega arith
+    at : (reading : Option Settings) → NotNine (batch_on calls lent reading)
+    at (Some s) = cond_has NotNine (fits calls lent.answers) _ _ (λ e. omega arith) (λ e. omega arith)
+    at None = λ e. omega arith

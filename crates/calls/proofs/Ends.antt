@@ -1,4 +1,6 @@
 -- By going through each call on all that may be lent: it is accepted, or it is refused by a number of the table and alters nothing.
+use Rattle.settings.specs.declared.Settings.{Settings}
+use Rattle.std.specs.Prelude.{None, Option, Some}
 use mathlib.Core.Path.{◌≡◌, refl, sym, ap, ◌∙◌}
 use mathlib.Core.Bool.{Bool, true, false, cond}
 use mathlib.Core.List.{List}
@@ -11,11 +13,11 @@ use Rattle.settings.specs.Numbers.{length_of}
 use Rattle.lists.proofs.Tests.{cond_has}
 use Rattle.notes.specs.Notes.{note_by}
 use Rattle.files.specs.Files.{file_of, contents_of}
-use Rattle.files.specs.declared.Contents.{Contents}
-use Rattle.files.specs.declared.Contents.TheVariants.{IsFile, NotAFile}
 use Rattle.calls.specs.Pairs.{live_pairs}
 use Rattle.meaning.specs.Reading.{settings_at, is_list, reading_of}
-use Rattle.answers.specs.Refusals.{Outcome, Refusal, wrong_length, not_a_list, bad_file, no_room, answer_of, refused}
+use Rattle.answers.specs.Refusals.{Outcome, answer_of, refused}
+use Rattle.answers.specs.declared.Refusal.{Refusal}
+use Rattle.answers.specs.declared.Refusal.TheVariants.{WrongLength, NotAList, BadFile, NoRoom}
 use Rattle.meaning.specs.Operations.{insert_out, operation_out}
 use Rattle.calls.specs.Records.{Lent, lent_of, Asked, nothing, insertion, note_asks, recorded, asked_out, note_on, note_out, record_out}
 use Rattle.calls.specs.Saved.{FileLent, file_lent, write_on, write_out, read_from, read_out}
@@ -25,8 +27,6 @@ use Rattle.calls.specs.declared.Call.{Call}
 use Rattle.answers.specs.declared.Operation.{Operation}
 use Rattle.answers.specs.declared.Operation.TheVariants.{Insert, Find, Finish, Take, Sweep}
 use Rattle.calls.specs.declared.Call.TheVariants.{SetUp, Operate, Record, Write, Read}
-use Rattle.meaning.specs.declared.Reading.{Reading}
-use Rattle.meaning.specs.declared.Reading.TheVariants.{IsList, NotAList}
 use Rattle.meaning.proofs.Outcomes.{set_up_has, insert_has, find_has, finish_has, take_has, sweep_has}
 use Rattle.answers.proofs.Refusals.{table}
 
@@ -64,20 +64,20 @@ write_ends : (lent : FileLent) → Ends lent (write_out lent)
 unfolding write_out
 write_ends lent = at (reading_of lent.words)
   where
-    at : (reading : Reading) → Ends lent (write_on lent reading)
-    at (IsList s) =
+    at : (reading : Option Settings) → Ends lent (write_on lent reading)
+    at (Some s) =
         let file = file_of s (live_pairs lent.words) in
-        cond_has (Ends lent) (leb (length file) (length lent.file)) _ _ (well refl) (turned_away lent no_room)
-    at NotAList = turned_away lent not_a_list
+        cond_has (Ends lent) (leb (length file) (length lent.file)) _ _ (well refl) (turned_away lent NoRoom)
+    at None = turned_away lent NotAList
 
 read_ends : (lent : FileLent) → Ends lent (read_out lent)
 unfolding read_out
 read_ends lent = at (contents_of lent.file)
   where
-    at : (contents : Contents) → Ends lent (read_from lent contents)
-    at (IsFile s n) =
-        cond_has (Ends lent) (eqb (length lent.words) (length_of s.dimensions s.cells)) _ _ (well refl) (turned_away lent wrong_length)
-    at NotAFile = turned_away lent bad_file
+    at : (contents : Option (Settings × ℕ)) → Ends lent (read_from lent contents)
+    at (Some (s, n)) =
+        cond_has (Ends lent) (eqb (length lent.words) (length_of s.dimensions s.cells)) _ _ (well refl) (turned_away lent WrongLength)
+    at None = turned_away lent BadFile
 
 operation_ends : (ws : List ℕ) (operation : Operation) → Ends ws (operation_out operation ws)
 operation_ends ws (Insert key value) = insert_ends ws key value
@@ -92,9 +92,9 @@ ends (SetUp D K C) lent = ends_lent lent _ (set_up_has (Ends lent.words) lent.wo
 ends (Operate operation) lent = ends_lent lent _ (operation_ends lent.words operation)
 ends Record lent = at (reading_of lent.words)
   where
-    at : (reading : Reading) → Ends lent (note_on lent (note_by lent.bytes) reading)
-    at (IsList s) = asked_ends lent (note_asks lent.last (note_by lent.bytes))
-    at NotAList = refusing not_a_list refl
+    at : (reading : Option Settings) → Ends lent (note_on lent (note_by lent.bytes) reading)
+    at (Some s) = asked_ends lent (note_asks lent.last (note_by lent.bytes))
+    at None = refusing NotAList refl
 ends Write lent = ends_file lent _ (write_ends (file_lent lent.words lent.bytes))
 ends Read lent = ends_file lent _ (read_ends (file_lent lent.words lent.bytes))
 
@@ -123,6 +123,6 @@ unfolding record_out note_out reading_of
 accepted_on_list lent = at (is_list lent.words)
   where
     at :
-        (t : Bool) → (note_on lent (note_by lent.bytes) (cond t (IsList (settings_at lent.words)) NotAList)).answered.refusal ≡ 0 → t ≡ true
+        (t : Bool) → (note_on lent (note_by lent.bytes) (cond t (Some (settings_at lent.words)) None)).answered.refusal ≡ 0 → t ≡ true
     at true z = refl
     at false z = absurd (omega arith)

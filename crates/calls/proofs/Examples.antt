@@ -1,8 +1,8 @@
 -- A list after a few calls, with one debt, a dead key and a position, computed: the premises of the promises are met by it. And runs of takes.
+use Rattle.std.specs.Prelude.{None}
 use mathlib.Core.Path.{◌≡◌, refl}
 use mathlib.Core.Bool.{true, false}
 use mathlib.Core.List.{List, [], ◌∷◌, map}
-use mathlib.Core.Option.{none}
 use Prim.Native.Nat.{ℕ}
 use native.Mathlib.Omega.{arith}
 use lib.ListN.{replicate}
@@ -59,7 +59,7 @@ pub example_moved : (finish_out example 5).answered.count ≡ 1
 unfolding example calls computing
 example_moved = refl
 
-pub example_absent : node_at 9 (read example).row ≡ none
+pub example_absent : node_at 9 (read example).row ≡ None
 unfolding example calls computing
 example_absent = refl
 

@@ -7,7 +7,7 @@ use lib.ListN.{length}
 use Rattle.settings.specs.declared.Settings.{Settings}
 use Rattle.answers.specs.declared.Operation.{Operation}
 use Rattle.answers.specs.declared.Operation.TheVariants.{Insert, Find, Finish, Take, Sweep}
-use Rattle.notes.specs.declared.Logged.{Logged}
+use Rattle.notes.specs.Notes.{Logged}
 use Rattle.meaning.specs.Reading.{reading_of}
 use Rattle.meaning.specs.Operations.{operation_out}
 use Rattle.calls.specs.Records.{lent_of, Asked, nothing, insertion, note_asks, asked_out, note_out}

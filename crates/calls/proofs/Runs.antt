@@ -1,10 +1,11 @@
 -- What a run of takes costs, by the book. A take moves the position up and passes the standing keys on the way; no other call of a run moves it, and none
 -- changes which keys stand, so what is passed from one position to the next adds up. An insert adds to what is ahead; how much one at or below the
 -- position adds follows from the take that would come next, which passes the key alone.
+use Rattle.settings.specs.declared.Settings.{Settings}
+use Rattle.std.specs.Prelude.{None, Some, Option}
 use mathlib.Core.Path.{◌≡◌, refl, sym, ap, ◌∙◌, subst, subst₂}
 use mathlib.Core.Bool.{Bool, true, false, cond, ◌&&◌, ◌||◌, not, false≢true, true≢false}
 use mathlib.Core.List.{List, [], ◌∷◌, cons≢nil}
-use mathlib.Core.Option.{Option, none, some}
 use Prim.Native.Nat.{ℕ, suc, ◌+◌, ◌≤◌, ◌<◌}
 use native.Mathlib.Decide.{ℕ_discrete, dec_le}
 use native.Mathlib.Omega.{arith}
@@ -17,14 +18,13 @@ use Rattle.lists.proofs.All.{All, all_each, all_mapped}
 use Rattle.lists.proofs.Tests.{both}
 use Rattle.lists.proofs.Those.{those_map, those_most, those_same}
 use Rattle.answers.specs.declared.Answer.{Answer}
-use Rattle.answers.specs.Refusals.{Outcome, accepted, answer, refused, bad_key, key_live, no_free_cell}
+use Rattle.answers.specs.Refusals.{Outcome, accepted, answer, refused}
+use Rattle.answers.specs.declared.Refusal.TheVariants.{BadKey, KeyLive, NoFreeCell}
 use Rattle.answers.specs.declared.Operation.{Operation}
 use Rattle.answers.specs.declared.Operation.TheVariants.{Insert, Find, Finish, Take, Sweep}
 use Rattle.book.specs.Book.{StandingKey, standing_key, Book, standing_at, on_book_key, put_key, marked, position_with, insert_book, live_on, standing_above, standing_between}
 use Rattle.book.specs.Book.{key_below, with_row, take_book, operation_book}
 use Rattle.files.specs.Files.{pairs_in, contents_of}
-use Rattle.files.specs.declared.Contents.{Contents}
-use Rattle.files.specs.declared.Contents.TheVariants.{IsFile, NotAFile}
 use Rattle.meaning.specs.Words.{key_at, position_at}
 use Rattle.meaning.specs.Reading.{read, is_list}
 use Rattle.meaning.specs.Operations.{insert_out, operation_out}
@@ -207,9 +207,9 @@ call_says made ws list = at made.call
     renews true e a says = says
     renews false e a says = refl
 
-    reads : (c : Contents) (a : Answer) → Says (file_effect c (pairs_in made.bytes) (length ws)) ws a
-    reads (IsFile s n) a = renews (eqb (length ws) (length_of s.dimensions s.cells)) (renewing s.largest s.cells (pairs_in made.bytes)) a refl
-    reads NotAFile a = refl
+    reads : (c : Option (Settings × ℕ)) (a : Answer) → Says (file_effect c (pairs_in made.bytes) (length ws)) ws a
+    reads (Some (s, n)) a = renews (eqb (length ws) (length_of s.dimensions s.cells)) (renewing s.largest s.cells (pairs_in made.bytes)) a refl
+    reads None a = refl
 
     at : (call : Call) → Says (effect_of call (asked_in made) made.bytes (length ws)) ws (outcome call lent).answered
     at (SetUp D K C) = renews (in_range D K C && eqb (length ws) (length_of D C)) (renewing K C []) _ refl
@@ -287,8 +287,8 @@ run_passes_at_most calls ws list ok =
 
 -- how many standing keys above q an accepted insert adds: its key, if that is new and above q
 abbrev adds_at : ℕ → ℕ → Option StandingKey → ℕ
-adds_at q key none = cond (ltb q key) 1 0
-adds_at q key (some x) = 0
+adds_at q key None = cond (ltb q key) 1 0
+adds_at q key (Some x) = 0
 
 record Inserts (key : ℕ) (k j : Book) : Type 0 where
   counted : (q : ℕ) → standing_above q j.row ≡ adds_at q key (standing_at key k.row) + standing_above q k.row
@@ -301,8 +301,8 @@ book_inserts key value k z = at (is_key k.largest key) (standing_at key k.row) r
     given : StandingKey
     given = standing_key key value true
 
-    new : standing_at key k.row ≡ none → (t : Bool) →
-        let o = cond t (accepted key 0 0 (with_row k (put_key given k.row) (position_with key k))) (refused (no_free_cell key 0) k) in
+    new : standing_at key k.row ≡ None → (t : Bool) →
+        let o = cond t (accepted key 0 0 (with_row k (put_key given k.row) (position_with key k))) (refused (NoFreeCell key 0) k) in
         o.answered.refusal ≡ 0 → Inserts key k o.left
     new e false z = absurd (omega arith)
     new e true z =
@@ -311,8 +311,8 @@ book_inserts key value k z = at (is_key k.largest key) (standing_at key k.row) r
           position = refl;
         }
 
-    again : (x : StandingKey) → standing_at key k.row ≡ some x → (t : Bool) →
-        let o = cond t (refused (key_live key 0) k) (accepted key 0 0 (with_row k (marked key value true k.row) (position_with key k))) in
+    again : (x : StandingKey) → standing_at key k.row ≡ Some x → (t : Bool) →
+        let o = cond t (refused (KeyLive key 0) k) (accepted key 0 0 (with_row k (marked key value true k.row) (position_with key k))) in
         o.answered.refusal ≡ 0 → Inserts key k o.left
     again x e true z = absurd (omega arith)
     again x e false z =
@@ -321,11 +321,11 @@ book_inserts key value k z = at (is_key k.largest key) (standing_at key k.row) r
           position = refl;
         }
 
-    at : (t : Bool) (o : Option StandingKey) → standing_at key k.row ≡ o → (cond t (insert_book key value k o) (refused bad_key k)).answered.refusal ≡ 0 →
-        Inserts key k (cond t (insert_book key value k o) (refused bad_key k)).left
+    at : (t : Bool) (o : Option StandingKey) → standing_at key k.row ≡ o → (cond t (insert_book key value k o) (refused BadKey k)).answered.refusal ≡ 0 →
+        Inserts key k (cond t (insert_book key value k o) (refused BadKey k)).left
     at false o e z = absurd (omega arith)
-    at true none e z = new e (ltb (suc (length k.row)) k.cells) z
-    at true (some x) e z = again x e x.live z
+    at true None e z = new e (ltb (suc (length k.row)) k.cells) z
+    at true (Some x) e z = again x e x.live z
 
 -- what a take passes, where it answers this key
 take_passes : (k : Book) (key value passed : ℕ) → (operation_book Take k).answered ≡ answer 0 key value passed → standing_between k.position key k.row ≡ passed
@@ -372,8 +372,8 @@ insert_adds_lem key value ws list z = at (dec_le key p)
         ∙ omega (arith, inserts.counted p, counts o)
       where
         counts : (x : Option StandingKey) → adds_at p key x ≡ adds_above x
-        counts none = ap {B = ℕ} (λ t. cond t 1 0) (lt-ltb p key h)
-        counts (some x) = refl
+        counts None = ap {B = ℕ} (λ t. cond t 1 0) (lt-ltb p key h)
+        counts (Some x) = refl
 
     -- at or below it: a take would pass the key alone, so what is ahead is the key and what is above it
     late : key ≤ p → standing_above j.position j.row ≡ standing_above p k.row + suc (standing_between key p k.row)
@@ -387,8 +387,8 @@ insert_adds_lem key value ws list z = at (dec_le key p)
         omega (arith, one, above_split j.position key j.row (omega arith), inserts.counted key, not_itself o, above_split key p k.row h)
       where
         not_itself : (x : Option StandingKey) → adds_at key key x ≡ 0
-        not_itself none = ap {B = ℕ} (λ t. cond t 1 0) (le-ltb key key (omega arith))
-        not_itself (some x) = refl
+        not_itself None = ap {B = ℕ} (λ t. cond t 1 0) (le-ltb key key (omega arith))
+        not_itself (Some x) = refl
 
     at : Dec (key ≤ p) → standing_above j.position j.row ≡ standing_above p k.row + insert_adds key k
     at (yes h) = rw (le-leb key p h) (late h)

@@ -1,13 +1,13 @@
 -- Many calls after one check: The operations 8.
-use Rattle.std.specs.Prelude.{Bool, true, false, cond, ◌&&◌, List, [], ◌∷◌, ◌++◌, map, ℕ, ◌*◌, eqb, leb, length, drop}
+use Rattle.settings.specs.declared.Settings.{Settings}
+use Rattle.std.specs.Prelude.{Bool, true, false, cond, ◌&&◌, List, [], ◌∷◌, ◌++◌, map, ℕ, ◌*◌, eqb, leb, length, drop, None, Option, Some}
 use Rattle.meaning.specs.Reading.{reading_of}
-use Rattle.answers.specs.Refusals.{Outcome, accepted, not_a_list, bad_batch, refused}
+use Rattle.answers.specs.Refusals.{Outcome, accepted, refused}
+use Rattle.answers.specs.declared.Refusal.TheVariants.{NotAList, BadBatch}
 use Rattle.answers.specs.declared.Operation.{Operation}
 use Rattle.answers.specs.declared.Operation.TheVariants.{Insert, Find, Finish, Take, Sweep}
 use Rattle.calls.specs.Calls.{operated, made_on, after_calls}
 use Rattle.answers.specs.declared.Answer.{Answer}
-use Rattle.meaning.specs.declared.Reading.{Reading}
-use Rattle.meaning.specs.declared.Reading.TheVariants.{IsList, NotAList}
 
 -- What is lent to a batch beside its calls: the words of a list, and the words for the answers.
 pub record BatchLent : Type 0 where
@@ -65,9 +65,9 @@ batch_done calls lent =
     accepted 0 0 (length calls)
     (batch_lent (after_calls (map operated calls) lent.words) (put_first (answers_to calls lent.words) lent.answers))
 
-abbrev pub batch_on : List ℕ → BatchLent → Reading → Outcome BatchLent
-batch_on calls lent (IsList s) = cond (fits calls lent.answers) (batch_done (calls_in calls) lent) (refused bad_batch lent)
-batch_on calls lent NotAList = refused not_a_list lent
+abbrev pub batch_on : List ℕ → BatchLent → Option Settings → Outcome BatchLent
+batch_on calls lent (Some s) = cond (fits calls lent.answers) (batch_done (calls_in calls) lent) (refused BadBatch lent)
+batch_on calls lent None = refused NotAList lent
 
 -- The operations 8: a batch answers the number of its calls.
 unfoldable pub batch_out : List ℕ → BatchLent → Outcome BatchLent

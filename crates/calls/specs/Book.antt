@@ -1,16 +1,16 @@
 -- A list's book, what each call does to it, and what each call answers by it. Crate book says this of the five operations; here are the calls beside
 -- them: set up, record, write and read.
-use Rattle.std.specs.Prelude.{true, cond, List, [], ◌∷◌, map, ℕ, eqb, leb, length}
+use Rattle.settings.specs.declared.Settings.{Settings}
+use Rattle.std.specs.Prelude.{true, cond, List, [], ◌∷◌, map, ℕ, eqb, leb, length, None, Option, Some}
 use Rattle.settings.specs.Numbers.{in_range, length_of}
 use Rattle.lists.specs.Lists.{those}
 use Rattle.answers.specs.declared.Answer.{Answer}
-use Rattle.answers.specs.Refusals.{answer, answer_of, out_of_range, wrong_length, bad_file, no_room}
+use Rattle.answers.specs.Refusals.{answer, answer_of}
+use Rattle.answers.specs.declared.Refusal.TheVariants.{OutOfRange, WrongLength, BadFile, NoRoom}
 use Rattle.answers.specs.declared.Operation.{Operation}
 use Rattle.answers.specs.declared.Operation.TheVariants.{Insert, Find, Finish, Take, Sweep}
 use Rattle.book.specs.Book.{StandingKey, standing_key, Book, operation_book}
 use Rattle.files.specs.Files.{Pair, file_length, contents_of}
-use Rattle.files.specs.declared.Contents.{Contents}
-use Rattle.files.specs.declared.Contents.TheVariants.{IsFile, NotAFile}
 use Rattle.meaning.specs.Row.{Node}
 use Rattle.meaning.specs.State.{position_key}
 use Rattle.meaning.specs.Reading.{read}
@@ -74,7 +74,7 @@ call_without_search Read a = a
 
 -- set up: 1, then 2
 abbrev pub set_up_reply : ℕ → ℕ → ℕ → ℕ → Answer
-set_up_reply D K C long = cond (in_range D K C) (cond (eqb long (length_of D C)) (answer 0 0 0 0) (answer_of wrong_length)) (answer_of out_of_range)
+set_up_reply D K C long = cond (in_range D K C) (cond (eqb long (length_of D C)) (answer 0 0 0 0) (answer_of WrongLength)) (answer_of OutOfRange)
 
 -- a record: what the insert that it asks for answers
 abbrev pub asked_reply : Asked → Book → Answer
@@ -83,12 +83,12 @@ asked_reply (insertion key number) k = (operation_book (Insert key number) k).an
 
 -- a write: the length of the file of what is live; 12 if the lent bytes are fewer
 abbrev pub write_reply : ℕ → ℕ → Answer
-write_reply file room = cond (leb file room) (answer 0 0 0 file) (answer_of no_room)
+write_reply file room = cond (leb file room) (answer 0 0 0 file) (answer_of NoRoom)
 
 -- a read: the number of keys read; 11 if the bytes are no file, 2 if the buffer has not its length
-abbrev pub read_reply : Contents → ℕ → Answer
-read_reply (IsFile s n) long = cond (eqb long (length_of s.dimensions s.cells)) (answer 0 0 0 n) (answer_of wrong_length)
-read_reply NotAFile long = answer_of bad_file
+abbrev pub read_reply : Option (Settings × ℕ) → ℕ → Answer
+read_reply (Some (s, n)) long = cond (eqb long (length_of s.dimensions s.cells)) (answer 0 0 0 n) (answer_of WrongLength)
+read_reply None long = answer_of BadFile
 
 -- any call on a list of `long` words, where a record asks for this and these bytes are lent
 unfoldable pub reply_to_call : Call → Asked → List ℕ → ℕ → Book → Answer

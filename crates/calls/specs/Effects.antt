@@ -1,13 +1,12 @@
 -- What each call does to what waits and to a run of takes, in one place: a new call adds a row here. What an ordered map would do (Book), what a run costs
 -- (Runs) and which calls keep the settings go by it.
-use Rattle.std.specs.Prelude.{Bool, true, false, cond, ◌&&◌, List, [], ℕ, eqb}
+use Rattle.settings.specs.declared.Settings.{Settings}
+use Rattle.std.specs.Prelude.{Bool, true, false, cond, ◌&&◌, List, [], ℕ, eqb, None, Option, Some}
 use Rattle.settings.specs.Numbers.{in_range, length_of}
 use Rattle.answers.specs.declared.Operation.{Operation}
 use Rattle.answers.specs.declared.Operation.TheVariants.{Insert, Find, Finish, Take, Sweep}
 use Rattle.notes.specs.Notes.{note_by}
 use Rattle.files.specs.Files.{Pair, pairs_in, contents_of}
-use Rattle.files.specs.declared.Contents.{Contents}
-use Rattle.files.specs.declared.Contents.TheVariants.{IsFile, NotAFile}
 use Rattle.calls.specs.Records.{Asked, nothing, insertion, note_asks}
 use Rattle.calls.specs.Calls.{Made}
 use Rattle.calls.specs.declared.Call.{Call}
@@ -38,9 +37,9 @@ asked_effect (nothing refusal) = keeping
 asked_effect (insertion key number) = inserting key number
 
 -- a file is read into a buffer of `long` words: what it keeps is all that waits
-abbrev pub file_effect : Contents → List Pair → ℕ → Effect
-file_effect (IsFile s n) pairs long = cond (eqb long (length_of s.dimensions s.cells)) (renewing s.largest s.cells pairs) keeping
-file_effect NotAFile pairs long = keeping
+abbrev pub file_effect : Option (Settings × ℕ) → List Pair → ℕ → Effect
+file_effect (Some (s, n)) pairs long = cond (eqb long (length_of s.dimensions s.cells)) (renewing s.largest s.cells pairs) keeping
+file_effect None pairs long = keeping
 
 -- a call on a buffer of `long` words, where a record asks for this and these bytes are lent
 abbrev pub effect_of : Call → Asked → List ℕ → ℕ → Effect

@@ -1,6 +1,5 @@
 -- Fourteen steps: one table of calls, answers and remarks, with which the customer and we compare notes. proofs/Fourteen.antt proves it.
-use Rattle.std.specs.Prelude.{◌≡◌, Bool, true, ◌&&◌, List, [], ◌∷◌, ℕ, suc, eqb, ltb, replicate}
-use Rattle.std.proofs.Math.Option.{Option, none, some}
+use Rattle.std.specs.Prelude.{◌≡◌, Bool, true, ◌&&◌, List, [], ◌∷◌, ℕ, suc, eqb, ltb, replicate, Option, None, Some}
 use Rattle.settings.specs.Numbers.{length_of, base_of}
 use Rattle.lists.specs.Lists.{same}
 use Rattle.answers.specs.declared.Answer.{Answer}
@@ -28,8 +27,8 @@ pub data Remark : Type 0 where
 
 -- the number of the cell with a key; 0 if it does not stand
 abbrev pub cell_number : Option Node → ℕ
-cell_number none = 0
-cell_number (some x) = x.cell
+cell_number None = 0
+cell_number (Some x) = x.cell
 
 abbrev pub cell_with : List ℕ → ℕ → ℕ
 cell_with ws key = cell_number (node_at key (read ws).row)

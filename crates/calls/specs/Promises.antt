@@ -5,7 +5,9 @@ use Rattle.lists.specs.Lists.{every}
 use Rattle.notes.specs.Notes.{note_by}
 use Rattle.answers.specs.declared.Answer.{Answer}
 use Rattle.meaning.specs.Reading.{settings_at, is_list, standing_keys}
-use Rattle.answers.specs.Refusals.{answer, Outcome, accepted, Meets, Refusal, not_a_list, bad_batch, answer_of, refused}
+use Rattle.answers.specs.Refusals.{answer, Outcome, accepted, Meets, answer_of, refused}
+use Rattle.answers.specs.declared.Refusal.{Refusal}
+use Rattle.answers.specs.declared.Refusal.TheVariants.{NotAList, BadBatch}
 use Rattle.meaning.specs.Words.{owed_at, position_at}
 use Rattle.meaning.specs.Operations.{set_up_out, insert_out, take_out}
 use Rattle.calls.specs.Records.{Lent, insertion, note_asks, record_out}
@@ -121,8 +123,8 @@ RefusedBatchAltersNothing =
 abbrev pub BatchRefusals : Type 0
 BatchRefusals =
     (calls : List ℕ) (lent : BatchLent) →
-    (is_list lent.words ≡ false → batch_out calls lent ≡ refused not_a_list lent) ×
-    (is_list lent.words ≡ true → fits calls lent.answers ≡ false → batch_out calls lent ≡ refused bad_batch lent)
+    (is_list lent.words ≡ false → batch_out calls lent ≡ refused NotAList lent) ×
+    (is_list lent.words ≡ true → fits calls lent.answers ≡ false → batch_out calls lent ≡ refused BadBatch lent)
 
 -- .. so it holds after any calls from a fresh list,
 abbrev pub OwedCellsStandFromFresh : Type 0

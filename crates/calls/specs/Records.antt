@@ -1,19 +1,17 @@
 -- The seventh operation, record: it puts what a record of the logger notes into the list, and keeps the last full number. The operations 7,
 -- Records.
-use Rattle.std.specs.Prelude.{cond, List, ℕ, eqb}
+use Rattle.settings.specs.declared.Settings.{Settings}
+use Rattle.std.specs.Prelude.{cond, List, ℕ, eqb, None, Option, Some}
 use Rattle.entries.specs.Entries.{entry_key}
 use Rattle.entries.specs.declared.Entry.{Entry}
 use Rattle.notes.specs.Notes.{note_by}
 use Rattle.full_number.specs.FullNumber.{full_number}
-use Rattle.notes.specs.declared.Logged.{Logged}
-use Rattle.notes.specs.declared.Logged.TheVariants.{Note, NoNote}
-use Rattle.full_number.specs.declared.FullNumber.{FullNumber}
-use Rattle.full_number.specs.declared.FullNumber.TheVariants.{Fits, Outside}
+use Rattle.notes.specs.Notes.{Logged}
 use Rattle.meaning.specs.Reading.{reading_of}
-use Rattle.answers.specs.Refusals.{Outcome, Refusal, not_a_list, bad_record, number_outside, refused}
+use Rattle.answers.specs.Refusals.{Outcome, refused}
+use Rattle.answers.specs.declared.Refusal.{Refusal}
+use Rattle.answers.specs.declared.Refusal.TheVariants.{NotAList, BadRecord, NumberOutside}
 use Rattle.meaning.specs.Operations.{insert_out}
-use Rattle.meaning.specs.declared.Reading.{Reading}
-use Rattle.meaning.specs.declared.Reading.TheVariants.{IsList, NotAList}
 
 -- All that is lent to a call: the words of a list; beside them, to record, the bytes of a record and the last full number; to write and
 -- read, the bytes of a file.
@@ -30,13 +28,13 @@ pub data Asked : Type 0 where
   nothing : Refusal → Asked
   insertion : (key number : ℕ) → Asked
 
-abbrev pub number_asks : Entry → FullNumber → Asked
-number_asks e (Fits number) = insertion (entry_key e) number
-number_asks e Outside = nothing number_outside
+abbrev pub number_asks : Entry → Option ℕ → Asked
+number_asks e (Some number) = insertion (entry_key e) number
+number_asks e None = nothing NumberOutside
 
 abbrev pub note_asks : ℕ → Logged → Asked
-note_asks last (Note e own) = number_asks e (full_number last own)
-note_asks last NoNote = nothing bad_record
+note_asks last (Some (e, own)) = number_asks e (full_number last own)
+note_asks last None = nothing BadRecord
 
 -- An accepted record makes the last number its full number; a refused one alters neither list nor number.
 abbrev pub recorded : Lent → ℕ → Outcome (List ℕ) → Outcome Lent
@@ -48,9 +46,9 @@ asked_out lent (nothing refusal) = refused refusal lent
 asked_out lent (insertion key number) = recorded lent number (insert_out lent.words key number)
 
 -- Refusals 1: first 3, then 13 and 14, then insert's own.
-abbrev pub note_on : Lent → Logged → Reading → Outcome Lent
-note_on lent logged (IsList s) = asked_out lent (note_asks lent.last logged)
-note_on lent logged NotAList = refused not_a_list lent
+abbrev pub note_on : Lent → Logged → Option Settings → Outcome Lent
+note_on lent logged (Some s) = asked_out lent (note_asks lent.last logged)
+note_on lent logged None = refused NotAList lent
 
 -- what a note does
 unfoldable pub note_out : Logged → Lent → Outcome Lent

@@ -1,6 +1,5 @@
 -- What a run of takes costs: the sum of the passed figures (The operations 5), whatever calls stand between.
-use Rattle.std.specs.Prelude.{Bool, true, false, cond, ◌&&◌, ◌||◌, not, List, [], ◌∷◌, ℕ, suc, ◌+◌, eqb, leb, length}
-use Rattle.std.proofs.Math.Option.{Option, none, some}
+use Rattle.std.specs.Prelude.{Bool, true, false, cond, ◌&&◌, ◌||◌, not, List, [], ◌∷◌, ℕ, suc, ◌+◌, eqb, leb, length, Option, None, Some}
 use Rattle.answers.specs.declared.Answer.{Answer}
 use Rattle.book.specs.Book.{StandingKey, Book, standing_at, standing_above, standing_between}
 use Rattle.calls.specs.Calls.{Made, made_on}
@@ -49,8 +48,8 @@ keys_ahead k = standing_above k.position k.row
 -- What an accepted insert adds to the keys ahead: above the position a new key adds itself, a revived one nothing; at or below it the key itself
 -- and the standing keys above it and up to the position, for the position falls back to just below the key.
 abbrev pub adds_above : Option StandingKey → ℕ
-adds_above none = 1
-adds_above (some x) = 0
+adds_above None = 1
+adds_above (Some x) = 0
 
 abbrev pub insert_adds : ℕ → Book → ℕ
 insert_adds key k = cond (leb key k.position) (suc (standing_between key k.position k.row)) (adds_above (standing_at key k.row))

@@ -1,25 +1,22 @@
--- What a test says of several numbers and of several words, for the loops; then the head and a free cell as the code tests them.
+-- What a test says of several numbers and of several words, for the loops; then a free cell as the code tests it.
 use mathlib.Core.Path.{◌≡◌, refl, sym, ap, ◌∙◌}
 use mathlib.Core.Bool.{Bool, true, false, not, false≢true}
 use mathlib.Core.List.{List}
 use Prim.Native.Nat.{ℕ, zero, suc, ◌+◌, ◌-◌, ◌≤◌, ◌<◌}
-use native.Mathlib.Nat.{sub-zero}
 use native.Mathlib.Numerals.{add-one}
 use native.Mathlib.Omega.{arith}
 use lib.Dec.{eqb}
 use lib.ListN.{length, get_or, take, drop}
 use lib.Seq.{drop-cons}
-use borrow.Author.Tests.{not-true, not-false, lt-ltb, le-ltb, eq-eqb}
+use borrow.Author.Tests.{not-true, not-false, lt-ltb, le-ltb}
 use borrow.Rule.Slice.PartMut.{mid_of}
 use Rattle.settings.specs.Numbers.{cell_words}
 use Rattle.settings.specs.declared.Settings.{Settings}
 use Rattle.lists.specs.Zeros.{all_zero}
-use Rattle.meaning.specs.Words.{word_index, word_at, key_at, value_at, mark_at, dimensions_at, cells_at}
+use Rattle.meaning.specs.Words.{word_index, word_at, dimensions_at, cells_at}
 use Rattle.words.specs.Shaped.{Shaped}
 use Rattle.words.proofs.Shaped.{shaped_dimensions, shaped_cells, part_inside, part_words}
-use Rattle.account.specs.Tree.{all_from, head_right, free_right}
-use Rattle.account.specs.Loop.{owes_nothing}
-use Rattle.account.proofs.AcceptedTests.{Head, head_right_lem}
+use Rattle.account.specs.Tree.{all_from, free_right}
 
 -- Tests
 
@@ -40,9 +37,6 @@ fails e f h = false≢true (sym (lacks e f) ∙ h)
 
 -- A test at each of some numbers, from i on
 
-pub all_start : (test : ℕ → Bool) (n : ℕ) → all_from test 0 n ≡ all_from test 0 (n - 0)
-all_start test n = rw (sub-zero n) refl
-
 pub all_next : (test : ℕ → Bool) {i n : ℕ} → i < n → test i ≡ true → all_from test i (n - i) ≡ all_from test (i + 1) (n - (i + 1))
 unfolding all_from
 all_next test {i} {n} h e =
@@ -60,6 +54,9 @@ unfolding all_from
 all_done test {i} {n} h =
     let k : n - i ≡ 0 = omega arith in
     rw k refl
+
+-- .. for the loops over links
+pub ruleset all_rules = (all_next, all_fails, all_done)
 
 -- Words that are all 0
 
@@ -101,16 +98,6 @@ zero_fields {ws} {s} h {c} hc j n hn {start} {end} p q =
   where
     each : (k : ℕ) → word_index s.dimensions c j + k ≡ word_index (dimensions_at ws) c (j + k)
     each k = rw (shaped_dimensions h) (omega arith)
-
--- The head
-
-pub head_not : (ws : List ℕ) → (Head ws → ⊥) → false ≡ head_right ws
-head_not ws never = sym (refuted (head_right ws) (λ t. never (head_right_lem ws t)))
-
--- past its key, value and mark, the head's debt decides
-pub head_debt : (ws : List ℕ) → key_at ws 0 ≡ 0 → value_at ws 0 ≡ 0 → mark_at ws 0 ≡ 2 → head_right ws ≡ owes_nothing ws 0
-unfolding head_right owes_nothing
-head_debt ws key value mark = rw (eq-eqb (key_at ws 0) 0 key, eq-eqb (value_at ws 0) 0 value, eq-eqb (mark_at ws 0) 2 mark) refl
 
 -- A free cell
 

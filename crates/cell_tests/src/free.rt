@@ -6,6 +6,7 @@ ghost use Rattle.account.specs.Tree.{free_right};
 use settings::Settings;
 
 // Whether cell c is one of the list's and its words after the first are 0.
+#[tactic(auto, using(words::proofs::Shaped::shaped_cells, crate::proofs::Tests::free_outside, crate::proofs::Tests::free_zero))]
 pub fn free_right(list: &[u32], s: Settings, c: u32) -> bool
     requires { Shaped list.now s }
     ensures { result ≡ free_right list.now c }

@@ -6,6 +6,7 @@ ghost use Rattle.account.specs.Tree.{head_right};
 use settings::Settings;
 
 // Whether cell 0 is the head: key 0, value 0, dead, and owing nothing.
+#[tactic(auto, unfolding(account::specs::Tree::head_right, account::specs::Loop::owes_nothing))]
 pub fn head_right(list: &[u32], s: Settings) -> bool
     requires { Shaped list.now s × (0 < s.cells) }
     ensures { result ≡ head_right list.now }

@@ -24,6 +24,7 @@ fn cell_follows(list: &[u32], s: Settings, powers: &[u64], x: u32, y: u32, e: u3
 }
 
 // Whether the key of cell y is at most K, and its mark and value are right: dead as long as the position has not been read.
+#[tactic(auto, unfolding(account::specs::Tree::node_right))]
 fn node_right(list: &[u32], s: Settings, y: u32, reached: bool) -> bool
     requires { Shaped list.now s × (y < s.cells) }
     ensures { result ≡ node_right list.now y reached }
@@ -42,21 +43,21 @@ fn node_right(list: &[u32], s: Settings, y: u32, reached: bool) -> bool
 }
 
 // Whether the links of cell y below number n are 0.
+#[tactic(auto, using(crate::proofs::Tests::all_rules), unfolding(account::specs::Loop::links_none))]
 pub fn links_none(list: &[u32], s: Settings, y: u32, n: u32) -> bool
     requires { Shaped list.now s × ((y < s.cells) × (n ≤ s.dimensions)) }
     ensures { result ≡ links_none list.now y n }
 {
-    let mut d: u32 = 0;
-    while d < n {
+    for d in 0..n {
         if words::link(list, s, y, d) != 0 {
             return false;
         }
-        d += 1;
     }
     true
 }
 
 // Whether cell y owes nothing, and its low and high are 0.
+#[tactic(auto, unfolding(account::specs::Loop::owes_nothing))]
 pub fn owes_nothing(list: &[u32], s: Settings, y: u32) -> bool
     requires { Shaped list.now s × (y < s.cells) }
     ensures { result ≡ owes_nothing list.now y }
@@ -71,22 +72,22 @@ pub fn owes_nothing(list: &[u32], s: Settings, y: u32) -> bool
 }
 
 // Whether link number `high` of cell y is c and every other link of y is 0.
+#[tactic(auto, using(crate::proofs::Tests::all_rules, words::proofs::Shaped::shaped_dimensions))]
 fn only_link(list: &[u32], s: Settings, y: u32, high: u32, c: u32) -> bool
     requires { Shaped list.now s × (y < s.cells) }
     ensures { result ≡ only_link list.now y high c }
 {
-    let mut d: u32 = 0;
-    while d < s.dimensions {
+    for d in 0..s.dimensions {
         let expected = if d == high { c } else { 0 };
         if words::link(list, s, y, d) != expected {
             return false;
         }
-        d += 1;
     }
     true
 }
 
 // Whether cell y, met by link e, owes as a cell of a list may.
+#[tactic(auto, unfolding(account::specs::Loop::owes_right))]
 pub fn owes_right(list: &[u32], s: Settings, y: u32, e: u32) -> bool
     requires { Shaped list.now s × ((y < s.cells) × (e < s.dimensions)) }
     ensures { result ≡ owes_right list.now y e }

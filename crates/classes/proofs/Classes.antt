@@ -1,22 +1,22 @@
 -- The words of the record: where those of each class stand, what one key more makes of them, and that the order of the keys does not matter.
 use mathlib.Core.Path.{◌≡◌, refl, sym, ap, ap₂, ◌∙◌}
-use mathlib.Core.Bool.{Bool, true, false, cond}
+use mathlib.Core.Bool.{Bool, true, false, cond, ◌&&◌}
 use mathlib.Core.List.{List, [], ◌∷◌, ◌++◌, map, flat_map}
 use Prim.Native.Nat.{ℕ, zero, suc, ◌+◌, ◌*◌, ◌≤◌, ◌<◌}
 use native.Mathlib.Decide.{ℕ_discrete, dec_le}
 use native.Mathlib.Omega.{arith}
 use lib.Dec.{eqb, leb}
 use lib.ListN.{length, get_or, set, replicate}
-use borrow.Author.Tests.{eq-eqb, ne_eqb, le-leb, lt-leb, lt-ltb, le-ltb}
-use Rattle.lists.specs.Lists.{those, numbers_from}
+use borrow.Author.Tests.{eq-eqb, ne_eqb, le-leb, lt-leb}
+use Rattle.std.specs.Cmp.Lexicographic.{pointwise}
+use Rattle.lists.specs.Lists.{those, numbers_from, same}
 use Rattle.lists.proofs.Blocks.{blocks_length, block_word}
 use Rattle.lists.proofs.Numbers.{numbers_length, numbers_at}
-use Rattle.answers.specs.Refusals.{answer, Meets}
-use Rattle.answers.specs.declared.Answer.{Answer}
+use Rattle.lists.proofs.Same.{same_eq}
 use Rattle.meaning.specs.Row.{Node, put}
 use Rattle.meaning.proofs.Cells.Folded.{put_folded}
-use Rattle.classes.specs.Classes.{class_of, number_of_classes, record_words, live_keys_in, keys_in, lesser, least_of, class_words, classes_in, count_at, least_at}
-use Rattle.classes.specs.Classes.{class_out}
+use Rattle.classes.specs.Classes.{class_of, number_of_classes, record_words, live_keys_in, live_keys, keys_in, lesser, least_of, class_words, classes_in, count_at, least_at}
+use Rattle.classes.specs.Classes.{classes_of, agrees}
 use Rattle.classes.specs.Tallying.{with_key_in, with_key}
 
 -- The lesser of two keys
@@ -96,6 +96,24 @@ least_word keys class h = word_of_lem keys class 1 h (omega arith)
 pub no_keys : classes_in [] ≡ replicate record_words 0
 unfolding classes_in numbers_from flat_map those least_of
 no_keys = refl
+
+-- Comparing
+
+-- `==` of words is the definition's `same`
+pub words_same : (one other : List ℕ) → pointwise eqb one other ≡ same one other
+unfolding same
+words_same [] [] = refl
+words_same [] (y ∷ other) = refl
+words_same (x ∷ one) [] = refl
+words_same (x ∷ one) (y ∷ other) = ap (λ t. eqb x y && t) (words_same one other)
+
+-- words of another length are no full reading
+pub other_length : (ws classes : List ℕ) → (length classes ≡ record_words → ⊥) → false ≡ agrees ws classes
+other_length ws classes ne = at (same classes (classes_of ws)) refl
+  where
+    at : (t : Bool) → same classes (classes_of ws) ≡ t → false ≡ t
+    at false e = refl
+    at true e = absurd (ne (ap length (same_eq classes (classes_of ws) e) ∙ classes_length (live_keys ws)))
 
 -- One key more
 
@@ -204,23 +222,3 @@ put_classes x row = λ i. flat_map (λ class. counts class i ∷ leasts class i 
 pub one_node : (x : Node) (row : List Node) →
     classes_in (live_keys_in (put x row)) ≡ cond x.live (with_key x.key (classes_in (live_keys_in row))) (classes_in (live_keys_in row))
 one_node x row = put_classes x row ∙ live_first classes_in with_key one_key x row
-
--- The question about one class
-
-module _ (class : ℕ) (classes : List ℕ) {r : Answer} where
-  pub other_length_meets : (length classes ≡ record_words → ⊥) → r ≡ answer 15 0 0 0 → Meets (class_out class classes) r classes
-  unfolding class_out
-  other_length_meets ne is = rw (ne_eqb (length classes) record_words ne) (record { answered = is; left = refl })
-
-  module _ (long : length classes ≡ record_words) where
-    pub no_class_meets : number_of_classes ≤ class → r ≡ answer 4 0 0 0 → Meets (class_out class classes) r classes
-    unfolding class_out
-    no_class_meets h is = rw (eq-eqb (length classes) record_words long, le-ltb class number_of_classes h) (record { answered = is; left = refl })
-
-    pub class_meets :
-        class < number_of_classes → {at : ℕ} → at ≡ count_at class → r ≡ answer 0 (get_or classes (at + 1) 0) 0 (get_or classes at 0) →
-        Meets (class_out class classes) r classes
-    unfolding class_out
-    class_meets h here is =
-        rw (eq-eqb (length classes) record_words long, lt-ltb class number_of_classes h)
-        (record { answered = is ∙ ap (λ i. answer 0 (get_or classes (i + 1) 0) 0 (get_or classes i 0)) here; left = refl })

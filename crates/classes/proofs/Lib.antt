@@ -1,5 +1,4 @@
 -- What the functions of the class record rest on.
 pub mod Classes
 pub mod Tallying
-pub mod SameWords
 pub mod Least

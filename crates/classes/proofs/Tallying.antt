@@ -2,38 +2,21 @@
 use mathlib.Core.Path.{◌≡◌, refl, sym, ap, ◌∙◌}
 use mathlib.Core.Bool.{Bool, true, false, cond}
 use mathlib.Core.List.{List}
-use Prim.Native.Nat.{ℕ, zero, suc, ◌+◌, ◌-◌, ◌≤◌, ◌<◌}
+use Prim.Native.Nat.{ℕ, zero, suc, ◌-◌, ◌≤◌, ◌<◌}
 use native.Mathlib.Omega.{arith}
 use lib.Dec.{eqb}
-use lib.ListN.{length, get_or, set, replicate, length-map}
-use borrow.Author.Tests.{eq-eqb, ne_eqb}
+use lib.ListN.{length, get_or, replicate, length-map}
 use Rattle.settings.specs.declared.Settings.{Settings}
 use Rattle.lists.specs.Lists.{those}
 use Rattle.lists.proofs.Those.{those_most}
 use Rattle.meaning.specs.Row.{Node, put}
-use Rattle.meaning.specs.Words.{key_at, mark_at}
+use Rattle.meaning.specs.Words.{mark_at}
 use Rattle.meaning.specs.Layer.Listed.{Listed}
 use Rattle.meaning.proofs.Cells.Folded.{row_from, no_cells, row_from_lem, put_folded, row_folded, live_folded}
 use Rattle.words.proofs.Listed.{listed_shaped, listed_cells}
-use Rattle.classes.specs.Classes.{class_of, number_of_classes, record_words, live_keys_in, lesser, classes_in, classes_of, count_at}
-use Rattle.classes.specs.Tallying.{with_key_in, with_key, with_cell, Roomy}
+use Rattle.classes.specs.Classes.{class_of, number_of_classes, record_words, live_keys_in, classes_in, classes_of, count_at}
+use Rattle.classes.specs.Tallying.{with_key, with_cell, Roomy}
 use Rattle.classes.proofs.Classes.{classes_length, count_word, no_keys, one_node}
-
--- the two words that a key more changes
-pub key_added :
-    (key : ℕ) (classes : List ℕ) {at least : ℕ} → at ≡ count_at (class_of key) → least ≡ lesser key (get_or classes (at + 1) 0) →
-    set (set classes at (get_or classes at 0 + 1)) (at + 1) least ≡ with_key key classes
-unfolding with_key_in
-key_added key classes {at} here lesser-is =
-    let one : get_or classes at 0 + 1 ≡ suc (get_or classes at 0) = omega arith in
-    rw (lesser-is, one, here) refl
-
--- a cell that is live, and one that is not
-pub live_added : (ws : List ℕ) (x : ℕ) (classes : List ℕ) → mark_at ws x ≡ 1 → with_key (key_at ws x) classes ≡ with_cell ws x classes
-live_added ws x classes e = rw (eq-eqb (mark_at ws x) 1 e) refl
-
-pub none_added : (ws : List ℕ) (x : ℕ) (classes : List ℕ) → (mark_at ws x ≡ 1 → ⊥) → classes ≡ with_cell ws x classes
-none_added ws x classes ne = rw (ne_eqb (mark_at ws x) 1 ne) refl
 
 -- No count is above the number of cells
 

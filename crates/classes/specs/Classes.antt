@@ -4,7 +4,8 @@ use Rattle.std.specs.Prelude.{Bool, cond, ◌||◌, ℕ, ◌+◌, ◌*◌, ◌/�
 use mathlib.Core.List.{List, [], ◌∷◌, map, flat_map}
 use Rattle.lists.specs.Lists.{those, numbers_from, same}
 use Rattle.entries.specs.Entries.{keys_per_class}
-use Rattle.answers.specs.Refusals.{Outcome, accepted, refused, bad_key, bad_classes}
+use Rattle.answers.specs.Refusals.{Outcome, accepted, refused}
+use Rattle.answers.specs.declared.Refusal.TheVariants.{BadKey, BadClasses}
 use Rattle.meaning.specs.Row.{Node}
 use Rattle.meaning.specs.Reading.{read}
 
@@ -68,5 +69,5 @@ class_out class classes =
     cond (eqb (length classes) record_words)
     (cond (ltb class number_of_classes)
     (accepted (get_or classes (least_at class) 0) 0 (get_or classes (count_at class) 0) classes)
-    (refused bad_key classes))
-    (refused bad_classes classes)
+    (refused BadKey classes))
+    (refused BadClasses classes)

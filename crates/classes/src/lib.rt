@@ -3,13 +3,12 @@
 #![tactic(auto)]
 
 ghost use Rattle.std.specs.Prelude.{◌≡◌, ◌*◌, ◌≤◌, ◌<◌, length};
-ghost use Rattle.lists.specs.Lists.{same};
 ghost use Rattle.answers.specs.Refusals.{Meets};
 ghost use Rattle.meaning.specs.Layer.Listed.{Listed};
 ghost use Rattle.classes.specs.Classes.{number_of_classes, record_words, lesser, classes_of, agrees, count_at, class_out};
 ghost use Rattle.classes.specs.Tallying.{with_key, with_cell, Roomy};
 
-use answers::Answer;
+use answers::{Answer, Refusal};
 use settings::Settings;
 
 const NUMBER_OF_CLASSES: u32 = 16;
@@ -25,22 +24,19 @@ fn count_at(class: u32) -> usize
 }
 
 // The lesser of a key and the least so far, of which 0 is none.
+#[tactic(auto, unfolding(crate::specs::Classes::lesser))]
 fn lesser_of(key: u32, least: u32) -> u32
     ensures { result ≡ lesser key least }
 {
-    if key == 0 {
-        return least;
+    match (key, least) {
+        (0, _) => least,
+        (_, 0) => key,
+        _ => key.min(least),
     }
-    if least == 0 {
-        return key;
-    }
-    if key <= least {
-        return key;
-    }
-    least
 }
 
 // Puts a live key into the record.
+#[tactic(auto, unfolding(crate::specs::Tallying::with_key_in))]
 fn add_key(classes: &mut [u32], key: u32)
     requires { Roomy classes.old }
     ensures { classes.new ≡ with_key key classes.old }
@@ -66,27 +62,10 @@ pub fn tally(list: &[u32], s: Settings, classes: &mut [u32])
     requires { Listed list.now s × (length classes.old ≡ record_words) }
     ensures { classes.new ≡ classes_of list.now }
 {
-    lists::fill(classes, 0);
-    let mut x = s.cells;
-    while 1 < x {
-        x -= 1;
+    classes.fill(0);
+    for x in (1..s.cells).rev() {
         add_cell(list, s, x, classes);
     }
-}
-
-// Whether two records have the same words.
-fn same_words(one: &[u32], other: &[u32]) -> bool
-    requires { length one.now ≡ length other.now }
-    ensures { result ≡ same one.now other.now }
-{
-    let mut i = 0;
-    while i < one.len() {
-        if one[i] != other[i] {
-            return false;
-        }
-        i += 1;
-    }
-    true
 }
 
 // Whether the record is what a full reading of the list gives.
@@ -97,20 +76,21 @@ pub fn agree(list: &[u32], s: Settings, classes: &[u32]) -> bool
     if classes.len() != RECORD_WORDS {
         return false;
     }
-    let mut read = [0u32; 32];
+    let mut read = [0u32; RECORD_WORDS];
     tally(list, s, &mut read);
-    same_words(classes, &read)
+    classes == read.as_slice()
 }
 
 // The question about one class: its least live key and its live count, as the record has them.
+#[tactic(auto, unfolding(crate::specs::Classes::class_out))]
 pub fn class_of(classes: &[u32], class: u32) -> Answer
     ensures { Meets (class_out class classes.now) result classes.now }
 {
     if classes.len() != RECORD_WORDS {
-        return answers::refused(answers::BAD_CLASSES);
+        return answers::refused(Refusal::BadClasses);
     }
     if NUMBER_OF_CLASSES <= class {
-        return answers::refused(answers::BAD_KEY);
+        return answers::refused(Refusal::BadKey);
     }
     let at = count_at(class);
     answers::accepted(classes[at + 1], 0, classes[at])

@@ -1,4 +1,5 @@
 -- Set up and read, which make a list anew: what each refuses by itself, then a record of another length; else the record is read anew.
+use Rattle.std.specs.Prelude.{None, Some}
 use mathlib.Core.Path.{◌≡◌, refl, sym, ap, ◌∙◌}
 use mathlib.Core.Bool.{Bool, true, false}
 use mathlib.Core.List.{List, []}
@@ -10,10 +11,11 @@ use borrow.Author.Tests.{eq-eqb, ne_eqb}
 use Rattle.settings.specs.Numbers.{in_range, length_of}
 use Rattle.settings.specs.declared.Settings.{Settings}
 use Rattle.lists.specs.Lists.{those}
-use Rattle.answers.specs.Refusals.{Refusal, Meets, answer, wrong_length, bad_classes}
+use Rattle.answers.specs.Refusals.{Meets, answer}
+use Rattle.answers.specs.declared.Refusal.{Refusal}
+use Rattle.answers.specs.declared.Refusal.TheVariants.{WrongLength, BadClasses}
 use Rattle.answers.specs.declared.Answer.{Answer}
 use Rattle.files.specs.Files.{contents_of}
-use Rattle.files.specs.declared.Contents.TheVariants.{IsFile, NotAFile}
 use Rattle.meaning.specs.State.{State}
 use Rattle.meaning.specs.Picture.{picture}
 use Rattle.meaning.specs.Reading.{settings_at}
@@ -94,7 +96,7 @@ module _ (D K C : ℕ) (ws : List ℕ) where
   module _ (classes : List ℕ) {r : Answer} {us : List ℕ} (met : Meets (set_up_out D K C ws) r us) where
     pub set_up_refused : (r.refusal ≡ 0 → ⊥) → Meets (counted_out (SetUp D K C) (words_beside ws classes)) r (words_beside us classes)
     unfolding counted_out
-    set_up_refused = anew_refused (SetUp D K C) wrong_length (lent_of ws [] 0) (set_up_met met) classes
+    set_up_refused = anew_refused (SetUp D K C) WrongLength (lent_of ws [] 0) (set_up_met met) classes
 
     pub set_up_done :
         r.refusal ≡ 0 → length classes ≡ record_words → {left : List ℕ} → left ≡ replicate (length classes) 0 →
@@ -102,18 +104,18 @@ module _ (D K C : ℕ) (ws : List ℕ) where
     unfolding counted_out
     set_up_done z long zeros =
         let accepts = ap (λ (a : Answer). a.refusal) (sym met.answered) ∙ z in
-        anew_done (SetUp D K C) wrong_length (lent_of ws [] 0) (set_up_met met) classes z long
+        anew_done (SetUp D K C) WrongLength (lent_of ws [] 0) (set_up_met met) classes z long
         (zeros ∙ ap (λ n. replicate n 0) long ∙ sym (set_up_classes accepts) ∙ ap classes_of (sym met.left))
 
 -- Read
 
 -- what a read answers to a record of another length, by what the bytes are read as
 module _ (ws file : List ℕ) {r : Answer} where
-  pub no_file_answer : contents_of file ≡ NotAFile → r ≡ answer 11 0 0 0 → r ≡ read_refusal (file_lent ws file)
+  pub no_file_answer : contents_of file ≡ None → r ≡ answer 11 0 0 0 → r ≡ read_refusal (file_lent ws file)
   unfolding read_out
   no_file_answer none is = rw none is
 
-  module _ {s : Settings} {n : ℕ} (says : contents_of file ≡ IsFile s n) where
+  module _ {s : Settings} {n : ℕ} (says : contents_of file ≡ Some (s, n)) where
     pub other_words_answer : (length ws ≡ length_of s.dimensions s.cells → ⊥) → r ≡ answer 2 0 0 0 → r ≡ read_refusal (file_lent ws file)
     unfolding read_out
     other_words_answer other is = rw (says, ne_eqb (length ws) (length_of s.dimensions s.cells) other) is
@@ -144,7 +146,7 @@ module _ (ws file classes : List ℕ) {r : Answer} where
 
     pub read_refused : (r.refusal ≡ 0 → ⊥) → Meets (counted_out Read (beside (lent_of ws file 0) classes)) r (beside (lent_of us file 0) classes)
     unfolding counted_out
-    read_refused = anew_refused Read bad_classes (lent_of ws file 0) read_met classes
+    read_refused = anew_refused Read BadClasses (lent_of ws file 0) read_met classes
 
     -- what is read is a list with the settings in its header
     pub read_listed : r.refusal ≡ 0 → Listed us (settings_at us)
@@ -157,4 +159,4 @@ module _ (ws file classes : List ℕ) {r : Answer} where
         r.refusal ≡ 0 → length classes ≡ record_words → {left : List ℕ} → left ≡ classes_of us →
         Meets (counted_out Read (beside (lent_of ws file 0) classes)) r (beside (lent_of us file 0) left)
     unfolding counted_out
-    read_done z long full = anew_done Read bad_classes (lent_of ws file 0) read_met classes z long full
+    read_done z long full = anew_done Read BadClasses (lent_of ws file 0) read_met classes z long full

@@ -1,20 +1,21 @@
 -- A batch with a class record.
+use Rattle.std.specs.Prelude.{Some}
 use mathlib.Core.Path.{◌≡◌}
 use mathlib.Core.List.{List}
 use Prim.Native.Nat.{ℕ}
 use Rattle.settings.specs.declared.Settings.{Settings}
-use Rattle.answers.specs.Refusals.{Meets, answer}
+use Rattle.answers.specs.Refusals.{Meets, answer_of}
 use Rattle.answers.specs.declared.Answer.{Answer}
 use Rattle.calls.specs.Batch.{BatchLent, batch_out}
 use Rattle.classes.specs.Classes.{classes_of}
 use Rattle.counted.specs.Counted.{beside, batch_words, counted_batch_out}
-use Rattle.counted.specs.Checked.{Agreeing, CheckedBeside}
-use Rattle.counted.specs.declared.Pass.{Pass}
+use Rattle.counted.specs.Checked.{Agreeing, refusal_of}
+use Rattle.answers.specs.declared.Refusal.{Refusal}
 use Rattle.counted.proofs.Outcomes.{agree_full, refused_so, done_so}
 
 module _ (calls : List ℕ) (lent : BatchLent) (classes : List ℕ) {r : Answer} where
   pub batch_refused :
-      {p : Pass} → CheckedBeside lent.words classes p → (p.refusal ≡ 0 → ⊥) → r ≡ answer p.refusal 0 0 0 →
+      {e : Refusal} → refusal_of lent.words classes ≡ Some e → r ≡ answer_of e →
       Meets (counted_batch_out calls (beside lent classes)) r (beside lent classes)
   unfolding counted_batch_out
   batch_refused = refused_so batch_words (batch_out calls) (beside lent classes)

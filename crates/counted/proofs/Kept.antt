@@ -1,4 +1,5 @@
 -- The calls on a list: the record is written anew where the live pairs may have changed, and kept where they have not.
+use Rattle.std.specs.Prelude.{Some}
 use mathlib.Core.Path.{◌≡◌, refl, sym, ap, ◌∙◌, subst}
 use mathlib.Core.Bool.{true}
 use mathlib.Core.List.{List, [], ◌∷◌, map}
@@ -6,10 +7,10 @@ use Prim.Native.Nat.{ℕ}
 use lib.ListN.{length}
 use Rattle.lists.specs.Lists.{those}
 use Rattle.settings.specs.declared.Settings.{Settings}
-use Rattle.answers.specs.Refusals.{Meets, answer}
+use Rattle.answers.specs.Refusals.{Meets, answer_of}
 use Rattle.answers.specs.declared.Answer.{Answer}
 use Rattle.answers.specs.declared.Operation.{Operation}
-use Rattle.notes.specs.declared.Logged.{Logged}
+use Rattle.notes.specs.Notes.{Logged}
 use Rattle.meaning.specs.Row.{Node}
 use Rattle.meaning.specs.Reading.{read}
 use Rattle.meaning.specs.Operations.{operation_out}
@@ -27,8 +28,8 @@ use Rattle.calls.proofs.Booked.Book.{pairs_kept}
 use Rattle.insert_record.specs.Noted.{Noted}
 use Rattle.classes.specs.Classes.{live_keys, classes_in, classes_of}
 use Rattle.counted.specs.Counted.{beside, words_beside, lent_words, counted_on, counted_out}
-use Rattle.counted.specs.Checked.{Agreeing, CheckedBeside, Renewed}
-use Rattle.counted.specs.declared.Pass.{Pass}
+use Rattle.counted.specs.Checked.{Agreeing, refusal_of, Renewed}
+use Rattle.answers.specs.declared.Refusal.{Refusal}
 use Rattle.counted.proofs.Outcomes.{agree_full, refused_so, done_so, renewed_so}
 
 -- the keys of the live pairs
@@ -80,7 +81,7 @@ module _ (operation : Operation) (ws : List ℕ) where
 
   module _ (classes : List ℕ) where
     pub operation_refused :
-        {p : Pass} {r : Answer} → CheckedBeside ws classes p → (p.refusal ≡ 0 → ⊥) → r ≡ answer p.refusal 0 0 0 →
+        {e : Refusal} {r : Answer} → refusal_of ws classes ≡ Some e → r ≡ answer_of e →
         Meets (counted_out (Operate operation) (words_beside ws classes)) r (words_beside ws classes)
     unfolding counted_out
     operation_refused = refused_so lent_words (outcome (Operate operation)) (words_beside ws classes)
@@ -101,13 +102,13 @@ module _ (operation : Operation) (ws : List ℕ) where
 
 module _ (ws bytes : List ℕ) (last : ℕ) (classes : List ℕ) where
   pub record_refused :
-      {p : Pass} {r : Answer} → CheckedBeside ws classes p → (p.refusal ≡ 0 → ⊥) → r ≡ answer p.refusal 0 0 0 →
+      {e : Refusal} {r : Answer} → refusal_of ws classes ≡ Some e → r ≡ answer_of e →
       Meets (counted_out Record (beside (lent_of ws bytes last) classes)) r (beside (lent_of ws bytes last) classes)
   unfolding counted_out
   record_refused = refused_so lent_words (outcome Record) (beside (lent_of ws bytes last) classes)
 
   pub write_refused :
-      {p : Pass} {r : Answer} → CheckedBeside ws classes p → (p.refusal ≡ 0 → ⊥) → r ≡ answer p.refusal 0 0 0 →
+      {e : Refusal} {r : Answer} → refusal_of ws classes ≡ Some e → r ≡ answer_of e →
       Meets (counted_out Write (beside (lent_of ws bytes last) classes)) r (beside (lent_of ws bytes last) classes)
   unfolding counted_out
   write_refused = refused_so lent_words (outcome Write) (beside (lent_of ws bytes last) classes)

@@ -1,4 +1,6 @@
 -- A call with a class record, case by case: refused by 3 or by 15; else what the call alone does, with the record read anew.
+use Rattle.std.proofs.lemmas.Option.{none-some, same_Some}
+use Rattle.std.specs.Prelude.{Some, None}
 use mathlib.Core.Path.{◌≡◌, refl, sym, ap, ◌∙◌}
 use mathlib.Core.Bool.{Bool, true, false, cond}
 use mathlib.Core.List.{List}
@@ -9,14 +11,15 @@ use lib.ListN.{length}
 use borrow.Author.Tests.{eq-eqb, ne_eqb}
 use Rattle.lists.proofs.Same.{same_eq}
 use Rattle.settings.specs.declared.Settings.{Settings}
-use Rattle.answers.specs.Refusals.{Outcome, Meets, answer, refused, not_a_list, bad_classes}
+use Rattle.answers.specs.Refusals.{Outcome, Meets, answer_of, refused}
+use Rattle.answers.specs.declared.Refusal.TheVariants.{NotAList, BadClasses}
 use Rattle.answers.specs.declared.Answer.{Answer}
 use Rattle.meaning.specs.Reading.{is_list}
 use Rattle.classes.specs.Classes.{record_words, live_keys, classes_of, agrees}
 use Rattle.classes.proofs.Classes.{classes_length}
 use Rattle.counted.specs.Counted.{Beside, beside, read_anew, counted_on}
-use Rattle.counted.specs.Checked.{Agreeing, CheckedBeside, Renewed}
-use Rattle.counted.specs.declared.Pass.{Pass}
+use Rattle.counted.specs.Checked.{Agreeing, refusal_of, Renewed}
+use Rattle.answers.specs.declared.Refusal.{Refusal}
 
 -- a record that agrees is the full reading, and has its length
 pub agree_full : (ws classes : List ℕ) → agrees ws classes ≡ true → classes ≡ classes_of ws
@@ -28,16 +31,16 @@ agree_length ws classes e = ap length (agree_full ws classes e) ∙ classes_leng
 module _ {L : Type 0} (words : L → List ℕ) (call : L → Outcome L) (b : Beside L) {r : Answer} where
   -- 3 or 15, as the check of words and record answered
   pub refused_so :
-      {p : Pass} → CheckedBeside (words b.lent) b.classes p → (p.refusal ≡ 0 → ⊥) → r ≡ answer p.refusal 0 0 0 →
+      {e : Refusal} → refusal_of (words b.lent) b.classes ≡ Some e → r ≡ answer_of e →
       Meets (counted_on words call b) r b
   unfolding counted_on
-  refused_so {p} checked ne is = at (is_list (words b.lent)) (agrees (words b.lent) b.classes) checked.is
+  refused_so {e} so is = at (is_list (words b.lent)) (agrees (words b.lent) b.classes) so
     where
-      at : (t u : Bool) → p.refusal ≡ cond t (cond u 0 15) 3 →
-          Meets (cond t (cond u (read_anew words (call b.lent)) (refused bad_classes b)) (refused not_a_list b)) r b
-      at true true e = absurd (ne e)
-      at true false e = record { answered = is ∙ ap (λ n. answer n 0 0 0) e; left = refl }
-      at false u e = record { answered = is ∙ ap (λ n. answer n 0 0 0) e; left = refl }
+      at : (t u : Bool) → cond t (cond u None (Some BadClasses)) (Some NotAList) ≡ Some e →
+          Meets (cond t (cond u (read_anew words (call b.lent)) (refused BadClasses b)) (refused NotAList b)) r b
+      at true true f = absurd (none-some e f)
+      at true false f = record { answered = is ∙ ap answer_of (sym (same_Some BadClasses e f)); left = refl }
+      at false u f = record { answered = is ∙ ap answer_of (sym (same_Some NotAList e f)); left = refl }
 
   module _ {s : Settings} (agreeing : Agreeing (words b.lent) b.classes s) {after : L} where
     -- what the call alone does, where the record is the full reading of the words left

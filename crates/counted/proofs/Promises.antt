@@ -8,7 +8,9 @@ use native.Mathlib.Omega.{arith}
 use lib.Dec.{eqb, ltb}
 use lib.ListN.{length, get_or}
 use borrow.Author.Tests.{eq-eqb, eqb-true, eqb-false, lt-ltb}
-use Rattle.answers.specs.Refusals.{Outcome, Refusal, answer, accepted, refused, answer_of, wrong_length, not_a_list, bad_key, bad_classes}
+use Rattle.answers.specs.Refusals.{Outcome, answer, accepted, refused, answer_of}
+use Rattle.answers.specs.declared.Refusal.{Refusal}
+use Rattle.answers.specs.declared.Refusal.TheVariants.{WrongLength, NotAList, BadKey, BadClasses}
 use Rattle.answers.specs.declared.Operation.{Operation}
 use Rattle.answers.specs.declared.Operation.TheVariants.{Insert, Find, Finish, Take, Sweep}
 use Rattle.meaning.specs.Reading.{is_list}
@@ -46,7 +48,7 @@ module _ {L : Type 0} (words : L → List ℕ) (call : L → Outcome L) (b : Bes
   unfolding counted_on
   counted_on_ends = at (is_list (words b.lent)) (agrees (words b.lent) b.classes)
     where
-      at : (t u : Bool) → Ends words call b (cond t (cond u (read_anew words (call b.lent)) (refused bad_classes b)) (refused not_a_list b))
+      at : (t u : Bool) → Ends words call b (cond t (cond u (read_anew words (call b.lent)) (refused BadClasses b)) (refused NotAList b))
       at true true = anew refl
       at true false = kept refl
       at false u = kept refl
@@ -63,11 +65,11 @@ module _ {L : Type 0} (words : L → List ℕ) (call : L → Outcome L) (b : Bes
 
 counted_ends : (call : Call) (b : Beside Lent) → Ends lent_words (outcome call) b (counted_out call b)
 unfolding counted_out
-counted_ends (SetUp D K C) b = anew_on_ends lent_words (outcome (SetUp D K C)) b wrong_length
+counted_ends (SetUp D K C) b = anew_on_ends lent_words (outcome (SetUp D K C)) b WrongLength
 counted_ends (Operate operation) b = counted_on_ends lent_words (outcome (Operate operation)) b
 counted_ends Record b = counted_on_ends lent_words (outcome Record) b
 counted_ends Write b = counted_on_ends lent_words (outcome Write) b
-counted_ends Read b = anew_on_ends lent_words (outcome Read) b bad_classes
+counted_ends Read b = anew_on_ends lent_words (outcome Read) b BadClasses
 
 counted_batch_ends : (calls : List ℕ) (b : Beside BatchLent) → Ends batch_words (batch_out calls) b (counted_batch_out calls b)
 unfolding counted_batch_out
@@ -133,7 +135,7 @@ fresh_agreed D K C p z = at (eqb o.answered.refusal 0) (eqb (length p.classes) r
 
     by : Bool → Bool → Outcome (Beside Lent)
     by t u =
-        cond t (cond u (read_anew lent_words o) (refused wrong_length (words_beside p.lent p.classes)))
+        cond t (cond u (read_anew lent_words o) (refused WrongLength (words_beside p.lent p.classes)))
         (record { answered = o.answered; left = words_beside p.lent p.classes })
 
     at : (t u : Bool) → eqb o.answered.refusal 0 ≡ t → (by t u).answered.refusal ≡ 0 → Agreed (beside (by t u).left.lent.words (by t u).left.classes)
@@ -150,7 +152,7 @@ classes_stay_from_fresh p from =
 -- 2. A counted call is the call
 
 -- on words that are no list every call but set up and read is refused by 3
-operation_no_list : (operation : Operation) (ws : List ℕ) → is_list ws ≡ false → operation_out operation ws ≡ refused not_a_list ws
+operation_no_list : (operation : Operation) (ws : List ℕ) → is_list ws ≡ false → operation_out operation ws ≡ refused NotAList ws
 operation_no_list (Insert key value) ws none = insert_outcome_not_a_list ws key value none
 operation_no_list (Find key) ws none = find_outcome_not_a_list ws key none
 operation_no_list (Finish key) ws none = finish_outcome_not_a_list ws key none
@@ -163,13 +165,13 @@ Same o alone-o = (o.answered ≡ alone-o.answered) × (o.left.lent ≡ alone-o.l
 
 counted_on_same :
     {L : Type 0} (words : L → List ℕ) (call : L → Outcome L) (b : Beside L) →
-    (is_list (words b.lent) ≡ false → call b.lent ≡ refused not_a_list b.lent) →
+    (is_list (words b.lent) ≡ false → call b.lent ≡ refused NotAList b.lent) →
     ((counted_on words call b).answered.refusal ≡ 15 → ⊥) → Same (counted_on words call b) (call b.lent)
 unfolding counted_on
 counted_on_same {L} words call b three ne = at (is_list (words b.lent)) (agrees (words b.lent) b.classes) refl ne
   where
     by : Bool → Bool → Outcome (Beside L)
-    by t u = cond t (cond u (read_anew words (call b.lent)) (refused bad_classes b)) (refused not_a_list b)
+    by t u = cond t (cond u (read_anew words (call b.lent)) (refused BadClasses b)) (refused NotAList b)
 
     at : (t u : Bool) → is_list (words b.lent) ≡ t → ((by t u).answered.refusal ≡ 15 → ⊥) → Same (by t u) (call b.lent)
     at true true e n = (refl, refl)
@@ -197,7 +199,7 @@ anew_on_same other call b long = at (eqb o.answered.refusal 0) (eqb (length b.cl
 
 pub counted_is_call : CountedIsCall
 unfolding counted_out outcome record_out note_out
-counted_is_call (SetUp D K C) b ne long = anew_on_same wrong_length (SetUp D K C) b (λ e. long refl)
+counted_is_call (SetUp D K C) b ne long = anew_on_same WrongLength (SetUp D K C) b (λ e. long refl)
 counted_is_call (Operate operation) b ne long =
     counted_on_same lent_words (outcome (Operate operation)) b (λ none. ap (on_words b.lent) (operation_no_list operation b.lent.words none)) ne
 counted_is_call Record b ne long =
@@ -205,7 +207,7 @@ counted_is_call Record b ne long =
 counted_is_call Write b ne long =
     counted_on_same lent_words (outcome Write) b
     (λ none. ap (on_file b.lent) (write_outcome_not_a_list (file_lent b.lent.words b.lent.bytes) none)) ne
-counted_is_call Read b ne long = anew_on_same bad_classes Read b (λ e. absurd (ne e))
+counted_is_call Read b ne long = anew_on_same BadClasses Read b (λ e. absurd (ne e))
 
 pub counted_batch_is_batch : CountedBatchIsBatch
 unfolding counted_batch_out
@@ -221,7 +223,7 @@ unfolding counted_on
 counted_on_alters_nothing {L} words call b alters ne = at (is_list (words b.lent)) (agrees (words b.lent) b.classes) refl ne
   where
     by : Bool → Bool → Outcome (Beside L)
-    by t u = cond t (cond u (read_anew words (call b.lent)) (refused bad_classes b)) (refused not_a_list b)
+    by t u = cond t (cond u (read_anew words (call b.lent)) (refused BadClasses b)) (refused NotAList b)
 
     at : (t u : Bool) → agrees (words b.lent) b.classes ≡ u → ((by t u).answered.refusal ≡ 0 → ⊥) → (by t u).left ≡ b
     at true true e n =
@@ -246,11 +248,11 @@ anew_on_alters_nothing {L} words other call b ne = at (eqb (call b.lent).answere
 
 counted_alters_nothing : (call : Call) (b : Beside Lent) → ((counted_out call b).answered.refusal ≡ 0 → ⊥) → (counted_out call b).left ≡ b
 unfolding counted_out
-counted_alters_nothing (SetUp D K C) b ne = anew_on_alters_nothing lent_words wrong_length (outcome (SetUp D K C)) b ne
+counted_alters_nothing (SetUp D K C) b ne = anew_on_alters_nothing lent_words WrongLength (outcome (SetUp D K C)) b ne
 counted_alters_nothing (Operate operation) b ne = counted_on_alters_nothing lent_words (outcome (Operate operation)) b (refused_alters_nothing (Operate operation) b.lent) ne
 counted_alters_nothing Record b ne = counted_on_alters_nothing lent_words (outcome Record) b (refused_alters_nothing Record b.lent) ne
 counted_alters_nothing Write b ne = counted_on_alters_nothing lent_words (outcome Write) b (refused_alters_nothing Write b.lent) ne
-counted_alters_nothing Read b ne = anew_on_alters_nothing lent_words bad_classes (outcome Read) b ne
+counted_alters_nothing Read b ne = anew_on_alters_nothing lent_words BadClasses (outcome Read) b ne
 
 batch_alters_nothing : (calls : List ℕ) (b : Beside BatchLent) → ((counted_batch_out calls b).answered.refusal ≡ 0 → ⊥) → (counted_batch_out calls b).left ≡ b
 unfolding counted_batch_out
@@ -277,8 +279,8 @@ class_reads_two_words class one other long long-other counts leasts =
     rw (eq-eqb (length one) record_words long, eq-eqb (length other) record_words long-other) (at (ltb class number_of_classes))
   where
     at : (t : Bool) →
-        (cond t (accepted (get_or one (least_at class) 0) 0 (get_or one (count_at class) 0) one) (refused bad_key one)).answered ≡
-        (cond t (accepted (get_or other (least_at class) 0) 0 (get_or other (count_at class) 0) other) (refused bad_key other)).answered
+        (cond t (accepted (get_or one (least_at class) 0) 0 (get_or one (count_at class) 0) one) (refused BadKey one)).answered ≡
+        (cond t (accepted (get_or other (least_at class) 0) 0 (get_or other (count_at class) 0) other) (refused BadKey other)).answered
     at true = λ i. answer 0 (leasts i) 0 (counts i)
     at false = refl
 

@@ -1,6 +1,8 @@
 -- The operations with a class record beside the list, in one definition over any call: The class record.
 use Rattle.std.specs.Prelude.{cond, List, [], ℕ, eqb, length}
-use Rattle.answers.specs.Refusals.{Outcome, Refusal, refused, wrong_length, not_a_list, bad_classes}
+use Rattle.answers.specs.Refusals.{Outcome, refused}
+use Rattle.answers.specs.declared.Refusal.{Refusal}
+use Rattle.answers.specs.declared.Refusal.TheVariants.{WrongLength, NotAList, BadClasses}
 use Rattle.meaning.specs.Reading.{is_list}
 use Rattle.calls.specs.Records.{Lent, lent_of}
 use Rattle.calls.specs.Calls.{outcome}
@@ -29,8 +31,8 @@ read_anew words o = record { answered = o.answered; left = beside o.left (classe
 unfoldable pub counted_on : {L : Type 0} → (L → List ℕ) → (L → Outcome L) → Beside L → Outcome (Beside L)
 counted_on words call b =
     cond (is_list (words b.lent))
-    (cond (agrees (words b.lent) b.classes) (read_anew words (call b.lent)) (refused bad_classes b))
-    (refused not_a_list b)
+    (cond (agrees (words b.lent) b.classes) (read_anew words (call b.lent)) (refused BadClasses b))
+    (refused NotAList b)
 
 -- A call that makes a list anew, whatever words and record held: what it refuses by itself, then a record that has not 32 words.
 unfoldable pub anew_on : {L : Type 0} → (L → List ℕ) → Refusal → (L → Outcome L) → Beside L → Outcome (Beside L)
@@ -48,11 +50,11 @@ batch_words lent = lent.words
 
 -- Any call: set up answers 2 for either length; read 15 for the record's length alone.
 unfoldable pub counted_out : Call → Beside Lent → Outcome (Beside Lent)
-counted_out (SetUp D K C) b = anew_on lent_words wrong_length (outcome (SetUp D K C)) b
+counted_out (SetUp D K C) b = anew_on lent_words WrongLength (outcome (SetUp D K C)) b
 counted_out (Operate operation) b = counted_on lent_words (outcome (Operate operation)) b
 counted_out Record b = counted_on lent_words (outcome Record) b
 counted_out Write b = counted_on lent_words (outcome Write) b
-counted_out Read b = anew_on lent_words bad_classes (outcome Read) b
+counted_out Read b = anew_on lent_words BadClasses (outcome Read) b
 
 -- A batch is checked and compared once, and its record is written once.
 unfoldable pub counted_batch_out : List ℕ → Beside BatchLent → Outcome (Beside BatchLent)

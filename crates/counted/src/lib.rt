@@ -18,44 +18,18 @@ ghost use Rattle.classes.specs.Classes.{record_words, class_out};
 ghost use Rattle.counted.specs.Counted.{beside, words_beside, counted_out, counted_batch_out};
 ghost use Rattle.counted.specs.Checked.{CheckedBeside, Renewed, set_up_refusal, read_refusal};
 
-use answers::Answer;
-use files::Contents;
-use settings::{Powers, Settings};
+use answers::{Answer, Refusal};
+use settings::{Levels, Settings};
 
-// What the check of words and record answers: 3, 15, or 0 with the list's settings and the powers of its base.
-#[derive(Clone, Copy)]
-struct Pass {
-    refusal: u32,
-    settings: Settings,
-    powers: Powers,
-}
-
-// Checks the list, then compares the record with it.
-fn check(list: &[u32], classes: &[u32]) -> Pass
+// The levels of a list whose record is what a full reading of it gives; else the refusal of words and record, 3 or 15.
+fn check(list: &[u32], classes: &[u32]) -> Result<Levels, Refusal>
     ensures { CheckedBeside list.now classes.now result }
 {
-    let verdict = is_list::is_list(list);
-    let settings = verdict.settings;
-    let powers = verdict.powers;
-    if !verdict.list {
-        return Pass {
-            refusal: answers::NOT_A_LIST,
-            settings,
-            powers,
-        };
+    let levels = is_list::is_list(list).ok_or(Refusal::NotAList)?;
+    if !classes::agree(list, levels.settings, classes) {
+        return Err(Refusal::BadClasses);
     }
-    if !classes::agree(list, settings, classes) {
-        return Pass {
-            refusal: answers::BAD_CLASSES,
-            settings,
-            powers,
-        };
-    }
-    Pass {
-        refusal: 0,
-        settings,
-        powers,
-    }
+    Ok(levels)
 }
 
 // The record after a call that answered a: written anew, unless the call was refused.
@@ -88,9 +62,9 @@ fn no_set_up(d: u32, k: u32, c: u32) -> Answer
     ensures { result ≡ set_up_refusal d k c }
 {
     if !Settings::in_range(d, k, c) {
-        return answers::refused(answers::OUT_OF_RANGE);
+        return answers::refused(Refusal::OutOfRange);
     }
-    answers::refused(answers::WRONG_LENGTH)
+    answers::refused(Refusal::WrongLength)
 }
 
 // What a read answers where the record has another length: 11, then 2, then 15.
@@ -98,13 +72,13 @@ fn no_read(file: &[u8], list: &[u32]) -> Answer
     ensures { result ≡ read_refusal (file_lent list.now file.now) }
 {
     let contents = files::read_contents(file);
-    let Contents::IsFile(s, _) = contents else {
-        return answers::refused(answers::BAD_FILE);
+    let Some((s, _)) = contents else {
+        return answers::refused(Refusal::BadFile);
     };
     if list.len() != s.length() {
-        return answers::refused(answers::WRONG_LENGTH);
+        return answers::refused(Refusal::WrongLength);
     }
-    answers::refused(answers::BAD_CLASSES)
+    answers::refused(Refusal::BadClasses)
 }
 
 // Makes the lent words a fresh list with D dimensions, largest key K and C cells, and its record 0.
@@ -127,61 +101,57 @@ pub fn counted_set_up(d: u32, k: u32, c: u32, list: &mut [u32], classes: &mut [u
 pub fn counted_insert(list: &mut [u32], classes: &mut [u32], key: u32, value: u32) -> Answer
     ensures { Meets (counted_out (call.Operate (operation.Insert key value)) (words_beside list.old classes.old)) result (words_beside list.new classes.new) }
 {
-    let pass = check(list, classes);
-    if pass.refusal != 0 {
-        return answers::refused(pass.refusal);
-    }
-    let powers = pass.powers;
-    let answer = insert::insert(list, pass.settings, &powers.of, key, value);
-    renew(list, pass.settings, classes, answer)
+    let levels = match check(list, classes) {
+        Ok(levels) => levels,
+        Err(refusal) => return answers::refused(refusal),
+    };
+    let answer = insert::insert(list, levels.settings, &levels.powers, key, value);
+    renew(list, levels.settings, classes, answer)
 }
 
 // Finds a live key's value; writes nothing.
 pub fn counted_find(list: &[u32], classes: &[u32], key: u32) -> Answer
     ensures { Meets (counted_out (call.Operate (operation.Find key)) (words_beside list.now classes.now)) result (words_beside list.now classes.now) }
 {
-    let pass = check(list, classes);
-    if pass.refusal != 0 {
-        return answers::refused(pass.refusal);
-    }
-    let powers = pass.powers;
-    find::find(list, pass.settings, &powers.of, key)
+    let levels = match check(list, classes) {
+        Ok(levels) => levels,
+        Err(refusal) => return answers::refused(refusal),
+    };
+    find::find(list, levels.settings, &levels.powers, key)
 }
 
 // Moves the links that a key's cell still owes; no key lives or dies by it.
 pub fn counted_finish(list: &mut [u32], classes: &[u32], key: u32) -> Answer
     ensures { Meets (counted_out (call.Operate (operation.Finish key)) (words_beside list.old classes.now)) result (words_beside list.new classes.now) }
 {
-    let pass = check(list, classes);
-    if pass.refusal != 0 {
-        return answers::refused(pass.refusal);
-    }
-    let powers = pass.powers;
-    finish::finish(list, pass.settings, &powers.of, key)
+    let levels = match check(list, classes) {
+        Ok(levels) => levels,
+        Err(refusal) => return answers::refused(refusal),
+    };
+    finish::finish(list, levels.settings, &levels.powers, key)
 }
 
 // Takes the least live key.
 pub fn counted_take(list: &mut [u32], classes: &mut [u32]) -> Answer
     ensures { Meets (counted_out (call.Operate operation.Take) (words_beside list.old classes.old)) result (words_beside list.new classes.new) }
 {
-    let pass = check(list, classes);
-    if pass.refusal != 0 {
-        return answers::refused(pass.refusal);
-    }
-    let answer = take::take(list, pass.settings);
-    renew(list, pass.settings, classes, answer)
+    let levels = match check(list, classes) {
+        Ok(levels) => levels,
+        Err(refusal) => return answers::refused(refusal),
+    };
+    let answer = take::take(list, levels.settings);
+    renew(list, levels.settings, classes, answer)
 }
 
 // Finishes all that is owed, moves the position and frees the cells before it; they are dead, so the record stays.
 pub fn counted_sweep(list: &mut [u32], classes: &[u32]) -> Answer
     ensures { Meets (counted_out (call.Operate operation.Sweep) (words_beside list.old classes.now)) result (words_beside list.new classes.now) }
 {
-    let pass = check(list, classes);
-    if pass.refusal != 0 {
-        return answers::refused(pass.refusal);
-    }
-    let powers = pass.powers;
-    sweep::sweep(list, pass.settings, &powers.of)
+    let levels = match check(list, classes) {
+        Ok(levels) => levels,
+        Err(refusal) => return answers::refused(refusal),
+    };
+    sweep::sweep(list, levels.settings, &levels.powers)
 }
 
 // Puts what a record of the logger's export notes into the list, with its full number as the value; `last` is the last full number.
@@ -193,25 +163,24 @@ pub fn counted_record(
 ) -> Answer
     ensures { Meets (counted_out call.Record (beside (lent_of list.old «record».now last.old) classes.old)) result (beside (lent_of list.new «record».now last.new) classes.new) }
 {
-    let pass = check(list, classes);
-    if pass.refusal != 0 {
-        return answers::refused(pass.refusal);
-    }
-    let powers = pass.powers;
+    let levels = match check(list, classes) {
+        Ok(levels) => levels,
+        Err(refusal) => return answers::refused(refusal),
+    };
     let logged = notes::note_by(record);
-    let answer = insert_record::insert_record(list, pass.settings, &powers.of, logged, last);
-    renew(list, pass.settings, classes, answer)
+    let answer = insert_record::insert_record(list, levels.settings, &levels.powers, logged, last);
+    renew(list, levels.settings, classes, answer)
 }
 
 // Writes what waits in the list into the bytes of a file; list and record stay as they are.
 pub fn counted_write(list: &[u32], classes: &[u32], file: &mut [u8]) -> Answer
     ensures { Meets (counted_out call.Write (beside (lent_of list.now file.old 0) classes.now)) result (beside (lent_of list.now file.new 0) classes.now) }
 {
-    let pass = check(list, classes);
-    if pass.refusal != 0 {
-        return answers::refused(pass.refusal);
-    }
-    write_file::write_file(list, pass.settings, file)
+    let levels = match check(list, classes) {
+        Ok(levels) => levels,
+        Err(refusal) => return answers::refused(refusal),
+    };
+    write_file::write_file(list, levels.settings, file)
 }
 
 // Makes the lent words the list that a file keeps, and the record its full reading, whatever they held.
@@ -238,16 +207,15 @@ pub fn counted_batch(
 ) -> Answer
     ensures { Meets (counted_batch_out calls.now (beside (batch_lent list.old answers.old) classes.old)) result (beside (batch_lent list.new answers.new) classes.new) }
 {
-    let pass = check(list, classes);
-    if pass.refusal != 0 {
-        return answers::refused(pass.refusal);
-    }
+    let levels = match check(list, classes) {
+        Ok(levels) => levels,
+        Err(refusal) => return answers::refused(refusal),
+    };
     if !batch::fit(calls, answers) {
-        return answers::refused(answers::BAD_BATCH);
+        return answers::refused(Refusal::BadBatch);
     }
-    let powers = pass.powers;
-    let answer = batch::batch(list, pass.settings, &powers.of, calls, answers);
-    classes::tally(list, pass.settings, classes);
+    let answer = batch::batch(list, levels.settings, &levels.powers, calls, answers);
+    classes::tally(list, levels.settings, classes);
     answer
 }
 

@@ -6,7 +6,9 @@ use mathlib.Core.List.{List, []}
 use Prim.Native.Nat.{ℕ}
 use lib.Dec.{eqb}
 use lib.ListN.{length}
-use Rattle.answers.specs.Refusals.{Outcome, Meets, Refusal, refused, not_a_list, bad_classes, wrong_length}
+use Rattle.answers.specs.Refusals.{Outcome, Meets, refused}
+use Rattle.answers.specs.declared.Refusal.{Refusal}
+use Rattle.answers.specs.declared.Refusal.TheVariants.{NotAList, BadClasses, WrongLength}
 use Rattle.answers.specs.declared.Answer.{Answer}
 use Rattle.meaning.specs.Reading.{is_list}
 use Rattle.calls.specs.Records.{Lent, lent_of}
@@ -34,8 +36,8 @@ module _ (bytes_of : Lent → List ℕ) (last_of : Lent → ℕ) where
     on_other = rw same (at (is_list l.words) (agrees l.words classes))
       where
         at : (list agree : Bool) →
-            cond list (cond agree (read_anew lent_words (through (call l))) (refused bad_classes (beside (other l) classes))) (refused not_a_list (beside (other l) classes))
-            ≡ through_beside (cond list (cond agree (read_anew lent_words (call l)) (refused bad_classes (beside l classes))) (refused not_a_list (beside l classes)))
+            cond list (cond agree (read_anew lent_words (through (call l))) (refused BadClasses (beside (other l) classes))) (refused NotAList (beside (other l) classes))
+            ≡ through_beside (cond list (cond agree (read_anew lent_words (call l)) (refused BadClasses (beside l classes))) (refused NotAList (beside l classes)))
         at true true = refl
         at true false = refl
         at false agree = refl
@@ -72,7 +74,7 @@ pub words_meets :
 unfolding counted_out outcome
 words_meets (SetUp D K C) l ws classes {us} alone m =
     meets_other (λ x. l.bytes) (λ x. l.last) (SetUp D K C) (lent_of ws [] 0) classes {after = lent_of us [] 0}
-    (anew_other (λ x. l.bytes) (λ x. l.last) (outcome (SetUp D K C)) (lent_of ws [] 0) classes refl wrong_length) m
+    (anew_other (λ x. l.bytes) (λ x. l.last) (outcome (SetUp D K C)) (lent_of ws [] 0) classes refl WrongLength) m
 words_meets (Operate operation) l ws classes {us} alone m =
     meets_other (λ x. l.bytes) (λ x. l.last) (Operate operation) (lent_of ws [] 0) classes {after = lent_of us [] 0}
     (on_other (λ x. l.bytes) (λ x. l.last) (outcome (Operate operation)) (lent_of ws [] 0) classes refl) m
@@ -96,4 +98,4 @@ module _ (last : ℕ) (ws bytes classes : List ℕ) {us file now : List ℕ} {r 
   unfolding counted_out outcome
   read_meets m =
       meets_other (λ x. x.bytes) (λ x. last) Read (lent_of ws bytes 0) classes {after = lent_of us file 0}
-      (anew_other (λ x. x.bytes) (λ x. last) (outcome Read) (lent_of ws bytes 0) classes refl bad_classes) m
+      (anew_other (λ x. x.bytes) (λ x. last) (outcome Read) (lent_of ws bytes 0) classes refl BadClasses) m

@@ -1,4 +1,6 @@
 -- A line of a trace of counted calls is done: the call is made on what the line leaves it; and what is put is what the line prints.
+use Rattle.answers.specs.declared.Answer.{Answer}
+use Rattle.std.specs.Prelude.{Option}
 use mathlib.Core.Path.{◌≡◌, ◌∙◌, ap}
 use mathlib.Core.List.{List}
 use Prim.Native.Nat.{ℕ, ◌-◌}
@@ -8,7 +10,6 @@ use Rattle.calls.specs.Records.{Lent, lent_of}
 use Rattle.counted.specs.Counted.{Beside, beside}
 use Rattle.trace.specs.Lines.{most_words, most_held}
 use Rattle.trace_held.specs.Held.{buffer_after, bytes_after, last_after, Held, Holds}
-use Rattle.trace_call.specs.declared.Reply.{Reply}
 use Rattle.counted_step.specs.Lines.{most_classes, kind_in, classes_after, line_alters, line_reply, line_leaves, LineCalled}
 use Rattle.counted_step.specs.Printed.{held_in, left_by, LineDone}
 use Rattle.counted_step.specs.declared.Done.{Done}
@@ -28,7 +29,7 @@ module _
       λ i. beside (lent_of (first i) (second i) (is_last i)) (third i)
 
   pub line_done :
-      {reply : Reply} {called called-bytes called-classes after after-bytes after-classes : List ℕ} {now-last : ℕ} →
+      {reply : Option Answer} {called called-bytes called-classes after after-bytes after-classes : List ℕ} {now-last : ℕ} →
       LineCalled line (beside (lent_of (take (n - 0) words) (take (m - 0) bytes) last) (take (h - 0) classes)) reply
       (beside (lent_of called called-bytes now-last) called-classes) → Held most_words after n → take n after ≡ called → Held most_held after-bytes m →
       take m after-bytes ≡ called-bytes → Held most_classes after-classes h → take h after-classes ≡ called-classes →

@@ -1,7 +1,9 @@
 -- What a line of a trace of counted calls does to what is held, its call, and what it is answered: the replay's lines with the class record beside the
 -- list, and K, X and C, which are the record's own.
-use Rattle.std.specs.Prelude.{◌≡◌, List, ℕ, ◌≤◌, set}
-use Rattle.answers.specs.Refusals.{line_not_readable, answer_of}
+use Rattle.answers.specs.declared.Answer.{Answer}
+use Rattle.std.specs.Prelude.{◌≡◌, List, ℕ, ◌≤◌, set, None, Option, Some}
+use Rattle.answers.specs.Refusals.{answer_of}
+use Rattle.answers.specs.declared.Refusal.TheVariants.{LineNotReadable}
 use Rattle.calls.specs.Records.{Lent}
 use Rattle.classes.specs.Classes.{class_out}
 use Rattle.counted.specs.Counted.{Beside, beside, counted_out}
@@ -9,8 +11,6 @@ use Rattle.trace.specs.Lines.{Fits}
 use Rattle.trace.specs.declared.Kind.{Kind}
 use Rattle.trace.specs.declared.Kind.TheVariants.{Fresh, Make, Put, Length, Bytes, Add, PutByte, Last, Unreadable}
 use Rattle.trace_held.specs.Held.{cut_to, altered_by}
-use Rattle.trace_call.specs.declared.Reply.{Reply}
-use Rattle.trace_call.specs.declared.Reply.TheVariants.{Four, NoCall}
 use Rattle.counted_step.specs.declared.Line.{Line}
 use Rattle.counted_step.specs.declared.Line.TheVariants.{Listed, ClassWords, ClassWord, Class}
 
@@ -44,16 +44,16 @@ abbrev pub line_alters : Line → List ℕ → Beside Lent → Beside Lent
 line_alters line bytes b = beside (altered_by (kind_in line) bytes b.lent) (classes_after line b.classes)
 
 -- what a line of the replay is answered with the class record beside the list; P, L, B, H, Q and O make no call
-abbrev pub kind_reply : Kind → Beside Lent → Reply
-kind_reply (Fresh n call) b = Four (counted_out call b).answered
-kind_reply (Make call) b = Four (counted_out call b).answered
-kind_reply (Put index value) b = NoCall
-kind_reply (Length n) b = NoCall
-kind_reply (Bytes n) b = NoCall
-kind_reply Add b = NoCall
-kind_reply (PutByte index value) b = NoCall
-kind_reply (Last number) b = NoCall
-kind_reply Unreadable b = Four (answer_of line_not_readable)
+abbrev pub kind_reply : Kind → Beside Lent → Option Answer
+kind_reply (Fresh n call) b = Some (counted_out call b).answered
+kind_reply (Make call) b = Some (counted_out call b).answered
+kind_reply (Put index value) b = None
+kind_reply (Length n) b = None
+kind_reply (Bytes n) b = None
+kind_reply Add b = None
+kind_reply (PutByte index value) b = None
+kind_reply (Last number) b = None
+kind_reply Unreadable b = Some (answer_of LineNotReadable)
 
 -- what is held after it
 abbrev pub kind_leaves : Kind → Beside Lent → Beside Lent
@@ -68,11 +68,11 @@ kind_leaves (Last number) b = b
 kind_leaves Unreadable b = b
 
 -- .. and any line: C asks the record about a class
-abbrev pub line_reply : Line → Beside Lent → Reply
+abbrev pub line_reply : Line → Beside Lent → Option Answer
 line_reply (Listed kind) b = kind_reply kind b
-line_reply (ClassWords n) b = NoCall
-line_reply (ClassWord index value) b = NoCall
-line_reply (Class class) b = Four (class_out class b.classes).answered
+line_reply (ClassWords n) b = None
+line_reply (ClassWord index value) b = None
+line_reply (Class class) b = Some (class_out class b.classes).answered
 
 abbrev pub line_leaves : Line → Beside Lent → Beside Lent
 line_leaves (Listed kind) b = kind_leaves kind b
@@ -81,10 +81,10 @@ line_leaves (ClassWord index value) b = b
 line_leaves (Class class) b = b
 
 -- A line's call was made: its reply, and what is held after it.
-pub record LineCalled (line : Line) (b : Beside Lent) (r : Reply) (after : Beside Lent) : Type 0 where
+pub record LineCalled (line : Line) (b : Beside Lent) (r : Option Answer) (after : Beside Lent) : Type 0 where
   pub reply : r ≡ line_reply line b
   pub left : after ≡ line_leaves line b
 
-pub record KindCalled (kind : Kind) (b : Beside Lent) (r : Reply) (after : Beside Lent) : Type 0 where
+pub record KindCalled (kind : Kind) (b : Beside Lent) (r : Option Answer) (after : Beside Lent) : Type 0 where
   pub reply : r ≡ kind_reply kind b
   pub left : after ≡ kind_leaves kind b

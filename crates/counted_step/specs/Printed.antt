@@ -1,12 +1,12 @@
 -- What is printed for a line: what the replay prints, and then the checksum of the class record's words.
-use Rattle.std.specs.Prelude.{Bool, List, ◌++◌, ◌≡◌, ℕ, ◌+◌, ◌*◌, take}
+use Rattle.answers.specs.declared.Answer.{Answer}
+use Rattle.std.specs.Prelude.{Bool, List, ◌++◌, ◌≡◌, ℕ, ◌+◌, ◌*◌, take, Option}
 use Rattle.text.specs.Fields.{space}
 use Rattle.calls.specs.Records.{Lent, lent_of}
 use Rattle.counted.specs.Counted.{Beside, beside}
 use Rattle.report.specs.Report.{checksum_text, field_bytes, answer_bytes}
 use Rattle.trace.specs.Lines.{most_words, most_held}
 use Rattle.trace_held.specs.Held.{Held, Holds}
-use Rattle.trace_call.specs.declared.Reply.{Reply}
 use Rattle.trace_step.specs.Printed.{head_text, tail_text, tells}
 use Rattle.counted_step.specs.Lines.{most_classes, kind_in, line_alters, line_reply, line_leaves}
 use Rattle.counted_step.specs.declared.Line.{Line}
@@ -29,7 +29,7 @@ unfoldable pub left_by : Line → List ℕ → Beside Lent → Beside Lent
 left_by line bytes b = line_leaves line (line_alters line bytes b)
 
 -- the bytes printed for a reply and what is held afterwards
-unfoldable pub text_of : Reply → Bool → Beside Lent → List ℕ
+unfoldable pub text_of : Option Answer → Bool → Beside Lent → List ℕ
 text_of reply told after = head_text reply ++ (tail_text told after.lent space ++ checksum_text after.classes)
 
 -- .. and for a line, on what is held before it

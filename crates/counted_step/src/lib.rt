@@ -13,11 +13,10 @@ ghost use Rattle.trace_held.specs.Held.{Held, Holds};
 ghost use Rattle.counted_step.specs.Lines.{most_classes, LineFits, kind_in, classes_after, KindCalled, LineCalled};
 ghost use Rattle.counted_step.specs.Printed.{Room, held_in, left_by, text_of, line_bytes, LineDone, TextOf};
 
-use answers::{Answer, Operation};
+use answers::{Answer, Operation, Refusal};
 use calls::Call;
 use text::feed::Told;
 use trace::{Kind, Numbers};
-use trace_call::Reply;
 
 pub const MOST_CLASSES: usize = 64;
 
@@ -51,7 +50,7 @@ struct Done {
     pub used: usize,
     pub filled: usize,
     pub classes: usize,
-    pub reply: Reply,
+    pub reply: Option<Answer>,
 }
 
 fn unreadable() -> Line
@@ -181,19 +180,19 @@ fn kind_call(
     bytes: &mut [u8],
     last: &mut u64,
     kind: Kind,
-) -> Reply
+) -> Option<Answer>
     ensures { KindCalled kind (beside (lent_of list.old bytes.old last.old) classes.old) result (beside (lent_of list.new bytes.new last.new) classes.new) }
 {
     match kind {
-        Kind::Fresh(_, call) => return Reply::Four(make(list, classes, bytes, last, call)),
-        Kind::Make(call) => return Reply::Four(make(list, classes, bytes, last, call)),
-        Kind::Put(_, _) => return Reply::NoCall,
-        Kind::Length(_) => return Reply::NoCall,
-        Kind::Bytes(_) => return Reply::NoCall,
-        Kind::Add => return Reply::NoCall,
-        Kind::PutByte(_, _) => return Reply::NoCall,
-        Kind::Last(_) => return Reply::NoCall,
-        Kind::Unreadable => return Reply::Four(answers::refused(answers::LINE_NOT_READABLE)),
+        Kind::Fresh(_, call) => return Some(make(list, classes, bytes, last, call)),
+        Kind::Make(call) => return Some(make(list, classes, bytes, last, call)),
+        Kind::Put(_, _) => return None,
+        Kind::Length(_) => return None,
+        Kind::Bytes(_) => return None,
+        Kind::Add => return None,
+        Kind::PutByte(_, _) => return None,
+        Kind::Last(_) => return None,
+        Kind::Unreadable => return Some(answers::refused(Refusal::LineNotReadable)),
     }
 }
 
@@ -204,14 +203,14 @@ fn line_call(
     bytes: &mut [u8],
     last: &mut u64,
     line: Line,
-) -> Reply
+) -> Option<Answer>
     ensures { LineCalled line (beside (lent_of list.old bytes.old last.old) classes.old) result (beside (lent_of list.new bytes.new last.new) classes.new) }
 {
     match line {
         Line::Listed(kind) => return kind_call(list, classes, bytes, last, kind),
-        Line::ClassWords(_) => return Reply::NoCall,
-        Line::ClassWord(_, _) => return Reply::NoCall,
-        Line::Class(class) => return Reply::Four(counted::counted_class(classes, class)),
+        Line::ClassWords(_) => return None,
+        Line::ClassWord(_, _) => return None,
+        Line::Class(class) => return Some(counted::counted_class(classes, class)),
     }
 }
 
@@ -252,7 +251,7 @@ fn do_line(
 // Puts what is printed for a line into `out`, from the first byte on; how many bytes.
 fn put_line(
     out: &mut [u8],
-    reply: Reply,
+    reply: Option<Answer>,
     told: bool,
     list: &[u32],
     bytes: &[u8],

@@ -8,20 +8,10 @@ ghost use Rattle.engines.specs.Alike.{alike};
 use answers::Answer;
 
 // Whether two answers are the same but for the count, which is compared where it is passed or freed.
+#[tactic(auto, unfolding(crate::specs::Alike::alike))]
 pub fn compare(counted: bool, one: Answer, other: Answer) -> bool
     ensures { result ≡ alike counted one other }
 {
-    if one.refusal != other.refusal {
-        return false;
-    }
-    if one.key != other.key {
-        return false;
-    }
-    if one.value != other.value {
-        return false;
-    }
-    if counted {
-        return one.count == other.count;
-    }
-    true
+    let count = if counted { one.count } else { other.count };
+    Answer { count, ..one } == other
 }

@@ -22,8 +22,7 @@ fn settings_of(words: &[u32]) -> Settings
     requires { is_list words.now ≡ true }
     ensures { Listed words.now result }
 {
-    let verdict = is_list::is_list(words);
-    verdict.settings
+    is_list::is_list(words).unwrap().settings
 }
 
 // Sets it up in an array of that length, and answers its settings.

@@ -1,4 +1,5 @@
 -- Files: the parts of one, that reading undoes writing, and what the tests of a file say together.
+use Rattle.std.specs.Prelude.{None, Some}
 use mathlib.Core.Path.{◌≡◌, refl, sym, ap, ap₂, ◌∙◌}
 use mathlib.Core.Bool.{Bool, true, false, ◌&&◌}
 use mathlib.Core.List.{List, [], ◌∷◌, ◌++◌, append_assoc}
@@ -18,7 +19,6 @@ use Rattle.settings.proofs.Numbers.{ranges}
 use Rattle.files.specs.Files.{Pair, big_endian, body_at, settings_body, pair_bytes, tag_for, count_width, entries_start, before, file_length, table_of, front_of, file_of}
 use Rattle.files.specs.Files.{number_at, settings_in, width_in, count_in, pairs_from, pairs_in, rising, keeps, is_file, contents_of}
 use Rattle.files.specs.Promises.{Kept}
-use Rattle.files.specs.declared.Contents.TheVariants.{IsFile, NotAFile}
 use Rattle.files.proofs.Numbers.{Bytes, bytes_drop, bytes_all, big_endian_bytes}
 use Rattle.files.proofs.Parts.{number_there, next_there, number_first}
 use Rattle.files.proofs.Tags.{tag_byte, count_fits}
@@ -226,7 +226,7 @@ module _ (s : Settings) (pairs : List Pair) (kept : Kept s pairs) where
   unfolding is_file
   file_is_file = rw (settings_read, pairs_read, kept.keeps_them) (same_refl (file_of s pairs))
 
-  pub contents_read : contents_of (file_of s pairs) ≡ IsFile s (length pairs)
+  pub contents_read : contents_of (file_of s pairs) ≡ Some (s, length pairs)
   unfolding contents_of
   contents_read = rw (file_is_file, settings_read, pairs_read) refl
 
@@ -311,17 +311,17 @@ written_again bytes b long table =
 
 -- What bytes are read as
 
-not_file : (bytes : List ℕ) → is_file bytes ≡ false → contents_of bytes ≡ NotAFile
+not_file : (bytes : List ℕ) → is_file bytes ≡ false → contents_of bytes ≡ None
 unfolding contents_of
 not_file bytes e = rw e refl
 
-pub no_file : (bytes : List ℕ) → (Tested bytes → ⊥) → contents_of bytes ≡ NotAFile
+pub no_file : (bytes : List ℕ) → (Tested bytes → ⊥) → contents_of bytes ≡ None
 no_file bytes never = at (is_file bytes) refl
   where
-    at : (t : Bool) → is_file bytes ≡ t → contents_of bytes ≡ NotAFile
+    at : (t : Bool) → is_file bytes ≡ t → contents_of bytes ≡ None
     at true e = absurd (never (tested bytes e))
     at false e = not_file bytes e
 
-pub a_file : (bytes : List ℕ) → Tested bytes → contents_of bytes ≡ IsFile (settings_in bytes) (count_in bytes)
+pub a_file : (bytes : List ℕ) → Tested bytes → contents_of bytes ≡ Some (settings_in bytes, count_in bytes)
 unfolding contents_of
 a_file bytes t = rw (tested_is_file bytes t, pairs_in_length bytes) refl

@@ -1,14 +1,15 @@
 -- Numbers in bytes: what is written is what is read, for a number that fits and for bytes that are bytes.
 use mathlib.Core.Path.{◌≡◌, refl, sym, ap, ◌∙◌}
-use mathlib.Core.List.{List, [], ◌∷◌, ◌++◌, append_assoc, append-nil}
-use Prim.Native.Nat.{ℕ, zero, suc, ◌+◌, ◌*◌, ◌/◌, ◌%◌, ◌^◌, ◌≤◌, ◌<◌}
-use native.Mathlib.Nat.{pow-suc, pow-le-pow_right}
-use native.Mathlib.Numerals.{add-one}
+use mathlib.Core.List.{List, [], ◌∷◌, ◌++◌}
+use Prim.Native.Nat.{ℕ, zero, suc, ◌+◌, ◌*◌, ◌-◌, ◌/◌, ◌%◌, ◌^◌, ◌≤◌, ◌<◌}
+use native.Mathlib.Nat.{pow-suc}
 use native.Mathlib.Omega.{arith}
 use lib.Dec.{eqb}
-use lib.ListN.{length, get_or, take, drop, set, length-append}
-use lib.Seq.{take-suc, take_all, drop-length, drop-cons, get_or-drop, lt-length-set, get_or-set_same, drop-set-lt}
+use lib.ListN.{length, get_or, take, drop, replicate, length-append}
+use lib.Seq.{take-suc, take_all, get_or-drop}
 use borrow.Author.Tests.{eq-eqb, eqb-true}
+use borrow.Rule.Slice.PartMut.{mid_of, put_mid}
+use Rattle.std.specs.Int.{w32, from_be_bytes, to_be_bytes}
 use Rattle.lists.specs.Lists.{same}
 use Rattle.lists.proofs.Tests.{tests_same}
 use Rattle.lists.proofs.Same.{same_refl, same_eq}
@@ -97,44 +98,39 @@ number_same bytes b n v long fits =
     (λ t. eq-eqb (number_on 0 bytes) v (ap (number_on 0) (sym (same_eq (big_endian n v) bytes t)) ∙ number_written n v fits))
     (λ t. rw (← eqb-true (number_on 0 bytes) v t, written_number bytes b n long) (same_refl bytes))
 
--- The functions' turns
+-- The library's four bytes of a number
 
--- one byte more of at most four still fits 32 bits
-pub number_fits : {v : ℕ} (n byte : ℕ) → v < 256 ^ n → n < 4 → byte < 256 → v * 256 + byte < 4294967296
-number_fits n byte below few is =
-    let some : 0 < 256 = omega arith in
-    let most : n ≤ 3 = omega arith in
-    omega (arith, below, pow-le-pow_right some most)
+-- some bytes, behind as many zeros as make them four
+pub number_of_four :
+    (part : List ℕ) {ys : List ℕ} → length part ≤ 4 → ys ≡ part →
+    from_be_bytes w32 (put_mid (4 - length part) (4 - (4 - length part)) (replicate 4 0) ys) ≡ number_on 0 part
+unfolding number_on
+number_of_four part {ys} few e = rw e (at part few)
+  where
+    at : (xs : List ℕ) → length xs ≤ 4 → from_be_bytes w32 (put_mid (4 - length xs) (4 - (4 - length xs)) (replicate 4 0) xs) ≡ number_on 0 xs
+    at [] h = refl
+    at (a ∷ []) h = omega arith
+    at (a ∷ b ∷ []) h = omega arith
+    at (a ∷ b ∷ c ∷ []) h = omega arith
+    at (a ∷ b ∷ c ∷ d ∷ []) h = omega arith
+    at (a ∷ b ∷ c ∷ d ∷ e ∷ xs) h = absurd (omega arith)
 
-pub number_turn :
-    (bytes : List ℕ) (n : ℕ) {v : ℕ} → v ≡ number_on 0 (take n bytes) → n < length bytes → v * 256 + get_or bytes n 0 ≡ number_on 0 (take (n + 1) bytes)
-number_turn bytes n e h = rw (add-one n, e) (sym (number_more bytes n h))
-
-pub number_turn_below : {v : ℕ} (n byte : ℕ) → v < 256 ^ n → byte < 256 → v * 256 + byte < 256 ^ (n + 1)
-number_turn_below n byte below is = rw (add-one n) (omega (arith, below, pow-suc 256 n))
-
-pub number_all : (bytes : List ℕ) (n : ℕ) {v : ℕ} → v ≡ number_on 0 (take n bytes) → length bytes ≤ n → v ≡ number_on 0 bytes
-number_all bytes n e h = e ∙ ap (number_on 0) (take_all n bytes h)
-
--- the bytes not yet written, and those that are
-pub bytes_none : (v : ℕ) (part : List ℕ) → big_endian (length part) v ≡ big_endian (length part) v ++ drop (length part) part
-bytes_none v part = rw (drop-length part, append-nil (big_endian (length part) v)) refl
-
-pub bytes_more :
-    (rest : ℕ) (part : List ℕ) {i j : ℕ} → i ≡ suc j → j < length part →
-    big_endian i rest ++ drop i part ≡ big_endian j (rest / 256) ++ drop j (set part j (rest % 256))
+-- the last n of them
+pub last_of_four :
+    {n : ℕ} (v : ℕ) {four part : List ℕ} → n ≤ 4 → four ≡ to_be_bytes w32 v → part ≡ mid_of (4 - n) (4 - (4 - n)) four → part ≡ big_endian n v
 unfolding big_endian
-bytes_more rest part {i} {j} e h =
-    let byte = rest % 256 in
-    rw (
-      e,
-      append_assoc (big_endian j (rest / 256)) (byte ∷ []) (drop (suc j) part),
-      drop-cons (set part j byte) j 0 (lt-length-set part j byte h),
-      get_or-set_same part j byte 0 h,
-      drop-set-lt (suc j) part j byte (omega arith),
-    )
-    refl
+last_of_four {n} v few is e = e ∙ rw is (at n few)
+  where
+    two : v / 65536 ≡ v / 256 / 256
+    two = omega arith
 
-pub bytes_written : (rest : ℕ) (part : List ℕ) {i : ℕ} → i ≡ 0 → big_endian i rest ++ drop i part ≡ part
-unfolding big_endian
-bytes_written rest part e = rw e refl
+    three : v / 16777216 ≡ v / 256 / 256 / 256
+    three = omega arith
+
+    at : (n : ℕ) → n ≤ 4 → mid_of (4 - n) (4 - (4 - n)) (to_be_bytes w32 v) ≡ big_endian n v
+    at zero h = refl
+    at (suc zero) h = refl
+    at (suc (suc zero)) h = refl
+    at (suc (suc (suc zero))) h = rw two refl
+    at (suc (suc (suc (suc zero)))) h = rw (three, two) refl
+    at (suc (suc (suc (suc (suc n))))) h = absurd (omega arith)

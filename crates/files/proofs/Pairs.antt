@@ -1,11 +1,11 @@
 -- Pairs in bytes, one after the other: how many, their numbers at places, and whether their keys rise.
-use mathlib.Core.Path.{◌≡◌, refl, sym, ap, ap₂, ◌∙◌}
+use mathlib.Core.Path.{◌≡◌, refl, sym, ap, ◌∙◌}
 use mathlib.Core.Bool.{Bool, true, false, ◌&&◌}
 use mathlib.Core.List.{List, [], ◌∷◌, ◌++◌}
 use Prim.Native.Nat.{ℕ, zero, suc, ◌+◌, ◌*◌, ◌-◌, ◌≤◌, ◌<◌}
 use native.Mathlib.Omega.{arith}
 use lib.Dec.{ltb}
-use lib.ListN.{length, get_or, drop, length-drop}
+use lib.ListN.{length, drop, length-drop}
 use lib.Seq.{drop-drop}
 use borrow.Author.Tests.{lt-ltb, le-ltb, le-leb, lt-leb}
 use Rattle.files.specs.Files.{Pair, big_endian, number_at, entries_start, width_in, count_in, pair_bytes, pairs_from, pairs_in, rising}
@@ -46,12 +46,6 @@ pairs_none bytes f i n h =
     let none : n - i ≡ 0 = omega arith in
     ap (λ m. pairs_from m (drop (f + 8 * i) bytes)) none
 
-pub pairs_start : (bytes : List ℕ) (f n : ℕ) → pairs_from n (drop f bytes) ≡ pairs_from (n - 0) (drop (f + 8 * 0) bytes)
-pairs_start bytes f n =
-    let all : n ≡ n - 0 = omega arith in
-    let start : f ≡ f + 8 * 0 = omega arith in
-    ap₂ (λ m i. pairs_from m (drop i bytes)) all start
-
 -- the last of some pairs that begin with pair i, and those before
 pairs_end :
     (bytes : List ℕ) (f n i : ℕ) {j : ℕ} → j ≡ i + n →
@@ -72,24 +66,6 @@ pairs_more bytes f n =
     ap (λ i. pairs_from (suc n) (drop i bytes)) start
     ∙ pairs_end bytes f n 0 {j = n} (omega arith)
     ∙ ap (λ i. pairs_from n (drop i bytes) ++ (pair_at bytes f n ∷ [])) (sym start)
-
-pairs_member : (bytes : List ℕ) (f n i j : ℕ) (z : Pair) → j < n → get_or (pairs_from n (drop (f + 8 * i) bytes)) j z ≡ pair_at bytes f (i + j)
-pairs_member bytes f zero i j z h = absurd (omega arith)
-pairs_member bytes f (suc n) i zero z h =
-    let here : i ≡ i + 0 = omega arith in
-    ap (λ (l : List Pair). get_or l 0 z) (pairs_begin bytes f i n) ∙ ap (pair_at bytes f) here
-pairs_member bytes f (suc n) i (suc j) z h =
-    let there : i + 1 + j ≡ i + suc j = omega arith in
-    ap (λ (l : List Pair). get_or l (suc j) z) (pairs_begin bytes f i n) ∙ pairs_member bytes f n (i + 1) j z (omega arith) ∙ ap (pair_at bytes f) there
-
--- member i of the pairs in a file is pair i
-pub pair_at_lem : (bytes : List ℕ) (i : ℕ) (z : Pair) → i < count_in bytes → get_or (pairs_in bytes) i z ≡ pair_at bytes (entries_start + width_in bytes) i
-unfolding pairs_in
-pair_at_lem bytes i z h =
-    let f = entries_start + width_in bytes in
-    let here : 0 + i ≡ i = omega arith in
-    let start : f ≡ f + 8 * 0 = omega arith in
-    ap (λ j. get_or (pairs_from (count_in bytes) (drop j bytes)) i z) start ∙ pairs_member bytes f (count_in bytes) 0 i z h ∙ ap (pair_at bytes f) here
 
 -- as many bytes as n pairs have are the bytes of the n pairs read there
 pub pairs_are : (n : ℕ) (bytes : List ℕ) → Bytes bytes → length bytes ≡ 8 * n → pair_bytes (pairs_from n bytes) ≡ bytes
@@ -119,9 +95,6 @@ rising_high below K p pairs h = rw (lt-leb p.key K h) (at (ltb below p.key))
 rising_on : (below K : ℕ) (p : Pair) (pairs : List Pair) → below < p.key → p.key ≤ K → rising below K (p ∷ pairs) ≡ rising p.key K pairs
 unfolding rising
 rising_on below K p pairs h k = rw (lt-ltb below p.key h, le-leb p.key K k) refl
-
-pub rising_start : (bytes : List ℕ) (f K n : ℕ) → rising 0 K (pairs_from n (drop f bytes)) ≡ rising 0 K (pairs_from (n - 0) (drop (f + 8 * 0) bytes))
-rising_start bytes f K n = ap (rising 0 K) (pairs_start bytes f n)
 
 pub rising_ends : (bytes : List ℕ) (f below K i n : ℕ) → n ≤ i → rising below K (pairs_from (n - i) (drop (f + 8 * i) bytes)) ≡ true
 unfolding rising

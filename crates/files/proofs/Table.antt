@@ -19,7 +19,7 @@ body_length tag offset long =
     omega (arith, length-append (big_endian 4 offset) (big_endian 4 long), big_endian_length 4 offset, big_endian_length 4 long)
 
 -- the second body of a file with n pairs
-abbrev entries_at : ℕ → List ℕ
+abbrev pub entries_at : ℕ → List ℕ
 entries_at n = body_at (tag_for n) entries_start (count_width (tag_for n) + 8 * n)
 
 pub table_length : (n : ℕ) → length (table_of n) ≡ 19

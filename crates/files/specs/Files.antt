@@ -1,12 +1,10 @@
 -- What a file is: the bytes that writing settings and pairs gives. Bytes are read by the numbers at their places, and are a file exactly if
 -- writing those numbers gives the same bytes.
-use Rattle.std.specs.Prelude.{Bool, true, cond, ◌&&◌, List, [], ◌∷◌, ◌++◌, ℕ, zero, suc, ◌+◌, ◌*◌, ◌/◌, ◌%◌, eqb, leb, ltb, length, get_or, take, drop}
+use Rattle.std.specs.Prelude.{Bool, true, cond, ◌&&◌, List, [], ◌∷◌, ◌++◌, ℕ, zero, suc, ◌+◌, ◌*◌, ◌/◌, ◌%◌, eqb, leb, ltb, length, get_or, take, drop, None, Option, Some}
 use Rattle.settings.specs.Numbers.{in_range}
 use Rattle.settings.specs.Checked.{settings_of}
 use Rattle.settings.specs.declared.Settings.{Settings}
 use Rattle.lists.specs.Lists.{same}
-use Rattle.files.specs.declared.Contents.{Contents}
-use Rattle.files.specs.declared.Contents.TheVariants.{IsFile, NotAFile}
 
 -- a key with its value
 pub record Pair : Type 0 where
@@ -116,5 +114,5 @@ unfoldable pub is_file : List ℕ → Bool
 is_file bytes = keeps (settings_in bytes) (pairs_in bytes) && same (file_of (settings_in bytes) (pairs_in bytes)) bytes
 
 -- what bytes are read as
-unfoldable pub contents_of : List ℕ → Contents
-contents_of bytes = cond (is_file bytes) (IsFile (settings_in bytes) (length (pairs_in bytes))) NotAFile
+unfoldable pub contents_of : List ℕ → Option (Settings × ℕ)
+contents_of bytes = cond (is_file bytes) (Some (settings_in bytes, length (pairs_in bytes))) None

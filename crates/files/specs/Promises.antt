@@ -1,10 +1,9 @@
 -- What is promised of files; proofs/Promises.antt proves it.
-use Rattle.std.specs.Prelude.{◌≡◌, true, List, ◌↔◌, ℕ, length, ltb}
+use Rattle.std.specs.Prelude.{◌≡◌, true, List, ◌↔◌, ℕ, length, ltb, Some}
 use Rattle.settings.specs.Numbers.{base_of}
 use Rattle.settings.specs.declared.Settings.{Settings}
 use Rattle.lists.specs.Lists.{every}
 use Rattle.files.specs.Files.{Pair, file_of, keeps, is_file, pairs_in, settings_in, contents_of}
-use Rattle.files.specs.declared.Contents.TheVariants.{IsFile}
 
 -- settings and pairs that a file keeps: Files 5; a value is any number of 32 bits
 pub record Kept (s : Settings) (pairs : List Pair) : Type 0 where
@@ -26,4 +25,4 @@ FilesExactly = (bytes : List ℕ) → (is_file bytes ≡ true) ↔ FileOf bytes
 abbrev pub WrittenIsRead : Type 0
 WrittenIsRead =
     (s : Settings) (pairs : List Pair) → Kept s pairs
-    → (settings_in (file_of s pairs) ≡ s) × ((pairs_in (file_of s pairs) ≡ pairs) × (contents_of (file_of s pairs) ≡ IsFile s (length pairs)))
+    → (settings_in (file_of s pairs) ≡ s) × ((pairs_in (file_of s pairs) ≡ pairs) × (contents_of (file_of s pairs) ≡ Some (s, length pairs)))

@@ -10,14 +10,7 @@ ghost use Rattle.lists.specs.Lists.{same};
 ghost use Rattle.files.specs.Files.{big_endian, body_at, settings_body, pair_bytes, tag_for, count_width, settings_start, entries_start, before, place, file_length};
 ghost use Rattle.files.specs.Files.{table_of, front_of, number_on, number_at, pairs_from, rising, contents_of};
 
-use settings::{Checked, Settings};
-
-// What bytes are read as: a file, with the settings and the number of the pairs in it; or none, which is refused by number 11.
-#[derive(Clone, Copy)]
-pub enum Contents {
-    IsFile(Settings, u32),
-    NotAFile,
-}
+use settings::Settings;
 
 // The most pairs whose number stands in two bytes, under tag 2; that of more stands in four, under tag 3.
 const MOST_UNDER_TAG_2: u32 = 65535;
@@ -26,23 +19,19 @@ const MOST_UNDER_TAG_2: u32 = 65535;
 const ENTRIES_START: u32 = 31;
 
 // The tag of the entries of a file with n pairs.
+#[tactic(auto, unfolding(crate::specs::Files::tag_for))]
 fn tag_for(n: u32) -> u8
     ensures { result ≡ tag_for n }
 {
-    if n <= MOST_UNDER_TAG_2 {
-        return 2;
-    }
-    3
+    if n <= MOST_UNDER_TAG_2 { 2 } else { 3 }
 }
 
 // How many bytes the number of the pairs has under a tag.
+#[tactic(auto, unfolding(crate::specs::Files::count_width))]
 fn count_width(tag: u8) -> usize
     ensures { (result ≡ count_width tag) × (result ≤ 4) }
 {
-    if tag == 3 {
-        return 4;
-    }
-    2
+    if tag == 3 { 4 } else { 2 }
 }
 
 // How many bytes stand before n pairs.
@@ -64,13 +53,9 @@ fn number(part: &[u8]) -> u32
     requires { length part.now ≤ 4 }
     ensures { result ≡ number_on 0 part.now }
 {
-    let mut v: u32 = 0;
-    let mut i: usize = 0;
-    while i < part.len() {
-        v = v * 256 + part[i] as u32;
-        i += 1;
-    }
-    v
+    let mut bytes = [0u8; 4];
+    bytes[4 - part.len()..].copy_from_slice(part);
+    u32::from_be_bytes(bytes)
 }
 
 // The number in four bytes from place i on.
@@ -106,33 +91,23 @@ pub fn value_at(file: &[u8], n: u32, i: u32) -> u32
 
 // The bytes of a number, over the bytes of a part, the most significant first.
 fn put_number(part: &mut [u8], v: u32)
+    requires { length part.old ≤ 4 }
     ensures { part.new ≡ big_endian (length part.old) v }
 {
-    let mut rest = v;
-    let mut i = part.len();
-    while 0 < i {
-        i -= 1;
-        part[i] = (rest % 256) as u8;
-        rest = rest / 256;
-    }
+    part.copy_from_slice(&v.to_be_bytes()[4 - part.len()..]);
 }
 
 // Whether the table of contents has a body at place i, with this tag, offset and length.
+#[tactic(auto, using(crate::proofs::Table::body_same))]
 fn body_at(file: &[u8], i: usize, tag: u8, offset: u32, long: u32) -> bool
     requires { i + 9 ≤ length file.now }
     ensures { result ≡ same (body_at tag offset long) (take 9 (drop i file.now)) }
 {
-    if file[i] != tag {
-        return false;
-    }
-    if number_at(file, i + 1) != offset {
-        return false;
-    }
-    number_at(file, i + 5) == long
+    file[i] == tag && number_at(file, i + 1) == offset && number_at(file, i + 5) == long
 }
 
 // The settings that a file holds, if they are in range.
-fn settings_in(file: &[u8]) -> Checked
+fn settings_in(file: &[u8]) -> Option<Settings>
     requires { entries_start ≤ length file.now }
     ensures { result ≡ checked_of (number_at 4 19 file.now) (number_at 4 23 file.now) (number_at 4 27 file.now) }
 {
@@ -148,18 +123,13 @@ fn keys_rise(file: &[u8], largest: u32, n: u32) -> bool
     requires { file_length n ≤ length file.now }
     ensures { result ≡ rising 0 largest (pairs_from n (drop (before n) file.now)) }
 {
-    let mut below: u32 = 0;
-    let mut i: u32 = 0;
-    while i < n {
+    let mut below = 0;
+    for i in 0..n {
         let key = key_at(file, n, i);
-        if key <= below {
-            return false;
-        }
-        if largest < key {
+        if key <= below || largest < key {
             return false;
         }
         below = key;
-        i += 1;
     }
     true
 }
@@ -169,45 +139,37 @@ fn table_right(file: &[u8], n: u32) -> bool
     requires { (n < most_cells) × (entries_start ≤ length file.now) }
     ensures { result ≡ same (table_of n) (take settings_start file.now) }
 {
-    if file[0] != 2 {
-        return false;
-    }
-    if !body_at(file, 1, 1, 19, 12) {
-        return false;
-    }
     let tag = tag_for(n);
     let long = count_width(tag) as u32 + 8 * n;
-    body_at(file, 10, tag, ENTRIES_START, long)
+    file[0] == 2 && body_at(file, 1, 1, 19, 12) && body_at(file, 10, tag, ENTRIES_START, long)
 }
 
-// What bytes are read as.
-pub fn read_contents(file: &[u8]) -> Contents
+// What bytes are read as: the settings of a file and the number of its pairs; none of bytes that are no file, which are refused by number 11.
+pub fn read_contents(file: &[u8]) -> Option<(Settings, u32)>
     ensures { result ≡ contents_of file.now }
 {
     if file.len() < ENTRIES_START as usize {
-        return Contents::NotAFile;
+        return None;
     }
-    let Checked::Accepted(s) = settings_in(file) else {
-        return Contents::NotAFile;
-    };
+    let s = settings_in(file)?;
     let start = ENTRIES_START as usize + count_width(file[10]);
     if file.len() < start {
-        return Contents::NotAFile;
+        return None;
     }
     let n = number(&file[ENTRIES_START as usize..start]);
     if s.cells <= n {
-        return Contents::NotAFile;
+        return None;
     }
     if file.len() != file_length(n) {
-        return Contents::NotAFile;
+        return None;
     }
     if !table_right(file, n) {
-        return Contents::NotAFile;
+        return None;
     }
     if !keys_rise(file, s.largest, n) {
-        return Contents::NotAFile;
+        return None;
     }
-    Contents::IsFile(s, n)
+    Some((s, n))
 }
 
 // A number in four bytes from place i on.

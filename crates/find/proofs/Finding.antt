@@ -7,7 +7,8 @@ use Rattle.settings.specs.declared.Settings.{Settings}
 use Rattle.meaning.specs.Row.{Node}
 use Rattle.meaning.specs.State.{State}
 use Rattle.meaning.specs.Picture.{picture}
-use Rattle.answers.specs.Refusals.{answer, key_not_live, answer_of, Meets}
+use Rattle.answers.specs.Refusals.{answer, answer_of, Meets}
+use Rattle.answers.specs.declared.Refusal.TheVariants.{KeyNotLive}
 use Rattle.answers.specs.declared.Answer.{Answer}
 use Rattle.meaning.specs.Operations.{find_out}
 use Rattle.meaning.specs.Words.{value_at, mark_at}
@@ -27,21 +28,21 @@ value_read {t} v {k} {x} p =
 -- The outcome of each way out
 
 module _ {ws : List ℕ} {s : Settings} {key : ℕ} {f : Found} (k : Sought ws s key f) {r : Answer} where
-  pub missing_meets : f.standing ≡ false → r ≡ answer_of (key_not_live key f.looked) → Meets (find_out ws key) r ws
+  pub missing_meets : f.standing ≡ false → r ≡ answer_of (KeyNotLive key f.looked) → Meets (find_out ws key) r ws
   missing_meets e a =
       on_sought (λ t ws s. Meets (find_out ws key) r ws) k
       (λ t v m q.
       let found = found_missing v k.least q e in
       rw (find_outcome_absent t v key k.least m found.node)
-      (record { answered = a ∙ ap (λ n. answer_of (key_not_live key n)) found.looked; left = refl }))
+      (record { answered = a ∙ ap (λ n. answer_of (KeyNotLive key n)) found.looked; left = refl }))
 
-  pub dead_meets : f.standing ≡ true → {m : ℕ} → m ≡ mark_at ws f.c → (m ≡ 1 → ⊥) → r ≡ answer_of (key_not_live key f.looked) → Meets (find_out ws key) r ws
+  pub dead_meets : f.standing ≡ true → {m : ℕ} → m ≡ mark_at ws f.c → (m ≡ 1 → ⊥) → r ≡ answer_of (KeyNotLive key f.looked) → Meets (find_out ws key) r ws
   dead_meets e {m} reads dead a =
       on_sought (λ t ws s. m ≡ mark_at ws f.c → Meets (find_out ws key) r ws) k
       (λ t v l q marked.
       let (x, found) = found_standing v k.least q e in
       rw (find_outcome_dead t v key k.least l x found.node (marked_dead v found marked dead))
-      (record { answered = a ∙ ap (λ n. answer_of (key_not_live key n)) found.looked; left = refl }))
+      (record { answered = a ∙ ap (λ n. answer_of (KeyNotLive key n)) found.looked; left = refl }))
       reads
 
   pub live_meets : f.standing ≡ true → {m value : ℕ} → m ≡ mark_at ws f.c → m ≡ 1 → value ≡ value_at ws f.c → r ≡ answer 0 key value f.looked →

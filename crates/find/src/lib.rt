@@ -3,18 +3,19 @@
 
 ghost use Rattle.std.specs.Prelude.{◌≡◌};
 ghost use Rattle.settings.specs.Levels.{PowersOf};
-ghost use Rattle.answers.specs.Refusals.{key_not_live, answer_of, Meets};
+ghost use Rattle.answers.specs.Refusals.{answer_of, Meets};
+ghost use Rattle.answers.specs.declared.Refusal.TheVariants.{KeyNotLive};
 ghost use Rattle.meaning.specs.Operations.{find_out};
 ghost use Rattle.meaning.specs.Layer.Listed.{Listed};
 
-use answers::Answer;
+use answers::{Answer, Refusal};
 use settings::Settings;
 
 // The refusal of a key that is not live.
 fn not_live(key: u32, looked: u32) -> Answer
-    ensures { result ≡ answer_of (key_not_live key looked) }
+    ensures { result ≡ answer_of (KeyNotLive key looked) }
 {
-    answers::refused_at(answers::KEY_NOT_LIVE, key, looked)
+    answers::refused(Refusal::KeyNotLive(key, looked))
 }
 
 // On a list with settings s.
@@ -23,7 +24,7 @@ pub fn find(list: &[u32], s: Settings, powers: &[u64], key: u32) -> Answer
     ensures { Meets (find_out list.now key) result list.now }
 {
     if !s.has_key(key) {
-        return answers::refused(answers::BAD_KEY);
+        return answers::refused(Refusal::BadKey);
     }
     let f = search::search(list, s, powers, key);
     if !f.standing {

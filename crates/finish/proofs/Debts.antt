@@ -1,9 +1,9 @@
 -- What a cell of a list owes: nothing, if it is free; else by its place, links below D to the standing cell after it. So its debt can be
 -- finished.
+use Rattle.std.specs.Prelude.{Option, None, Some}
 use mathlib.Core.Path.{◌≡◌, refl}
 use mathlib.Core.Bool.{Bool, true, false, cond}
 use mathlib.Core.List.{List}
-use mathlib.Core.Option.{Option, none, some}
 use Prim.Native.Nat.{ℕ, ◌≤◌, ◌<◌}
 use native.Mathlib.Omega.{arith}
 use Rattle.settings.specs.declared.Settings.{Settings}
@@ -41,11 +41,11 @@ module _ {t : State} (v : Sound t) where
       D = t.settings.dimensions
 
       at : (o : Option Place) → place_of x (places_of t t.row) ≡ o → (low_at (picture t) x ≤ high_at (picture t) x) × (high_at (picture t) x ≤ D)
-      at none e =
+      at None e =
           let low = free_cell_rest t x h e 4 (omega arith) (omega arith) in
           let high = free_cell_rest t x h e 5 (omega arith) (omega arith) in
           (omega arith, omega arith)
-      at (some p) e =
+      at (Some p) e =
           let here : Placed t x p = record { found = e } in
           let debt = placed_has here (λ m. m.node.owes ≡ true → Debt b D m) v.debts in
           let share = shared b D p.node.key (first_of p.later).key in

@@ -36,14 +36,6 @@ move_all D ws n c d {high} over =
     let none : high - d ≡ 0 = omega arith in
     rw none refl
 
--- The three words
-
-pub debt_cleared : (D : ℕ) (ws : List ℕ) (n : ℕ) → store D (store D (store D ws n 3 0) n 4 0) n 5 0 ≡ clear_debt D ws n
-debt_cleared D ws n =
-    let low : word_index D n 4 ≡ suc (word_index D n 3) = omega arith in
-    let high : word_index D n 5 ≡ suc (suc (word_index D n 3)) = omega arith in
-    rw (low, high) refl
-
 -- The whole
 
 pub finished_nothing : (D : ℕ) (ws : List ℕ) (n : ℕ) {owed : ℕ} → owed ≡ owed_at ws n → owed ≡ 0 → ws ≡ finish_words D ws n

@@ -10,7 +10,7 @@ ghost use Rattle.meaning.specs.Layer.Listed.{Listed};
 ghost use Rattle.words.specs.Shaped.{Shaped};
 ghost use Rattle.finish.specs.Payable.{Payable};
 
-use answers::Answer;
+use answers::{Answer, Refusal};
 use settings::Settings;
 
 // Links low to high-1 move from cell c to cell n.
@@ -18,12 +18,10 @@ fn move_links(list: &mut [u32], s: Settings, n: u32, c: u32, low: u32, high: u32
     requires { Shaped list.old s × ((n < s.cells) × ((c < s.cells) × (high ≤ s.dimensions))) }
     ensures { (list.new ≡ move_links s.dimensions list.old n c low (high - low)) × Shaped list.new s }
 {
-    let mut d = low;
-    while d < high {
+    for d in low..high {
         let y = words::link(list, s, c, d);
         words::store_link(list, s, n, d, y);
         words::store_link(list, s, c, d, 0);
-        d += 1;
     }
 }
 
@@ -58,11 +56,11 @@ pub fn finish(list: &mut [u32], s: Settings, powers: &[u64], key: u32) -> Answer
     ensures { Meets (finish_out list.old key) result list.new }
 {
     if !s.has_key(key) {
-        return answers::refused(answers::BAD_KEY);
+        return answers::refused(Refusal::BadKey);
     }
     let f = search::search(list, s, powers, key);
     if !f.standing {
-        return answers::refused_at(answers::KEY_NOT_STANDING, key, 0);
+        return answers::refused(Refusal::KeyNotStanding(key));
     }
     let moved = words::word(list, s, f.c, words::HIGH) - words::word(list, s, f.c, words::LOW);
     finish_cell(list, s, f.c);

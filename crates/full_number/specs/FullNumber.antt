@@ -1,7 +1,5 @@
 -- The full number: the logger's number comes round to 0 after 65,535, and the last full number tells which round it is in.
-use Rattle.std.specs.Prelude.{◌≡◌, ℕ, ◌+◌, ◌-◌, ◌%◌, ◌≤◌, cond, ◌&&◌, nat_le}
-use Rattle.full_number.specs.declared.FullNumber.{FullNumber}
-use Rattle.full_number.specs.declared.FullNumber.TheVariants.{Fits, Outside}
+use Rattle.std.specs.Prelude.{◌≡◌, ℕ, ◌+◌, ◌-◌, ◌%◌, ◌≤◌, cond, ◌&&◌, nat_le, None, Option, Some}
 
 -- one round of the logger's numbers
 abbrev pub numbers_per_round : ℕ
@@ -24,9 +22,9 @@ abbrev pub round_on : ℕ → ℕ → ℕ
 round_on last own = last + 32768 + (own + numbers_per_round - (last + 32768) % numbers_per_round) % numbers_per_round
 
 -- one round back, if it is then from 0 to the most
-abbrev pub round_back : ℕ → FullNumber
-round_back n = cond (nat_le numbers_per_round n && nat_le n (most_full + numbers_per_round)) (Fits (n - numbers_per_round)) Outside
+abbrev pub round_back : ℕ → Option ℕ
+round_back n = cond (nat_le numbers_per_round n && nat_le n (most_full + numbers_per_round)) (Some (n - numbers_per_round)) None
 
 -- the full number of a record's own after the last one; a first record's is its own and a round
-unfoldable pub full_number : ℕ → ℕ → FullNumber
-full_number last own = cond (nat_le last most_full) (round_back (round_on last own)) (Fits (own + numbers_per_round))
+unfoldable pub full_number : ℕ → ℕ → Option ℕ
+full_number last own = cond (nat_le last most_full) (round_back (round_on last own)) (Some (own + numbers_per_round))

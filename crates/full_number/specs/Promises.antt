@@ -1,7 +1,6 @@
 -- What is promised of the full number. proofs/Promises.antt proves each.
-use Rattle.std.specs.Prelude.{◌≡◌, ℕ, ◌+◌, ◌<◌, ◌≤◌, ◌↔◌}
+use Rattle.std.specs.Prelude.{◌≡◌, ℕ, ◌+◌, ◌<◌, ◌≤◌, ◌↔◌, Some}
 use Rattle.full_number.specs.FullNumber.{numbers_per_round, most_full, Full, round_on, full_number}
-use Rattle.full_number.specs.declared.FullNumber.TheVariants.{Fits}
 
 -- two numbers that are both the full number of a record's own are the same
 abbrev pub OneFullNumber : Type 0
@@ -13,8 +12,8 @@ SomeFullNumber = (last own : ℕ) → Full (last + numbers_per_round) own (round
 
 -- after an accepted record the full number is what it is to be, or there is none that fits
 abbrev pub FullNumberIs : Type 0
-FullNumberIs = (last own n : ℕ) → last ≤ most_full → (full_number last own ≡ Fits n) ↔ (Full last own n × (n ≤ most_full))
+FullNumberIs = (last own n : ℕ) → last ≤ most_full → (full_number last own ≡ Some n) ↔ (Full last own n × (n ≤ most_full))
 
 -- until a record is accepted it is the record's own and 65,536
 abbrev pub FirstNumber : Type 0
-FirstNumber = (last own : ℕ) → most_full < last → full_number last own ≡ Fits (own + numbers_per_round)
+FirstNumber = (last own : ℕ) → most_full < last → full_number last own ≡ Some (own + numbers_per_round)

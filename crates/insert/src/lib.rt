@@ -17,7 +17,7 @@ ghost use Rattle.search.specs.Found.{Sought};
 ghost use Rattle.new_cell.specs.NewCell.{Fits};
 ghost use Rattle.insert.specs.Inserting.{EndsInSome, PathWritten, ComesLast};
 
-use answers::Answer;
+use answers::{Answer, Refusal};
 use meaning::Slot;
 use search::Found;
 use settings::Settings;
@@ -137,7 +137,7 @@ fn insert_standing(
     ensures { Meets (insert_out list.old key value) result list.new }
 {
     if words::word(list, s, f.c, words::MARK) == words::LIVE {
-        return answers::refused_at(answers::KEY_LIVE, key, f.looked);
+        return answers::refused(Refusal::KeyLive(key, f.looked));
     }
     revive(list, s, powers, f, key, value);
     answers::accepted(key, 0, f.looked)
@@ -157,7 +157,7 @@ fn insert_new(
 {
     let n = list[words::FIRST_FREE];
     if n == 0 {
-        return answers::refused_at(answers::NO_FREE_CELL, key, f.looked);
+        return answers::refused(Refusal::NoFreeCell(key, f.looked));
     }
     add(list, s, powers, n, f, key, value);
     answers::accepted(key, 0, f.looked)
@@ -169,7 +169,7 @@ pub fn insert(list: &mut [u32], s: Settings, powers: &[u64], key: u32, value: u3
     ensures { Meets (insert_out list.old key value) result list.new }
 {
     if !s.has_key(key) {
-        return answers::refused(answers::BAD_KEY);
+        return answers::refused(Refusal::BadKey);
     }
     let f = search::search(list, s, powers, key);
     if f.standing {

@@ -1,4 +1,5 @@
 -- Each way out of a record has the outcome of the definition, by what it asks for.
+use Rattle.std.specs.Prelude.{None, Option, Some}
 use mathlib.Core.Path.{◌≡◌, refl, sym, subst, ◌∙◌, ap}
 use mathlib.Core.Bool.{cond}
 use mathlib.Core.List.{List}
@@ -9,12 +10,11 @@ use Rattle.entries.specs.Entries.{entry_key}
 use Rattle.entries.specs.declared.Entry.{Entry}
 use Rattle.notes.specs.Notes.{NoteWithin, Within}
 use Rattle.full_number.specs.FullNumber.{full_number}
-use Rattle.notes.specs.declared.Logged.{Logged}
-use Rattle.notes.specs.declared.Logged.TheVariants.{Note, NoNote}
-use Rattle.full_number.specs.declared.FullNumber.{FullNumber}
-use Rattle.full_number.specs.declared.FullNumber.TheVariants.{Fits, Outside}
+use Rattle.notes.specs.Notes.{Logged}
 use Rattle.meaning.specs.Reading.{reading_of}
-use Rattle.answers.specs.Refusals.{Outcome, Refusal, bad_record, number_outside, Meets, answer_of}
+use Rattle.answers.specs.Refusals.{Outcome, Meets, answer_of}
+use Rattle.answers.specs.declared.Refusal.{Refusal}
+use Rattle.answers.specs.declared.Refusal.TheVariants.{BadRecord, NumberOutside}
 use Rattle.meaning.specs.Operations.{insert_out}
 use Rattle.calls.specs.Records.{Lent, lent_of, nothing, insertion, number_asks, note_asks, asked_out, note_out}
 use Rattle.meaning.specs.Layer.Listed.{Listed}
@@ -22,20 +22,20 @@ use Rattle.answers.specs.declared.Answer.{Answer}
 use Rattle.insert_record.specs.Noted.{Noted}
 
 -- what a note that is made asks for
-pub note_within : {logged : Logged} {e : Entry} {own : ℕ} → logged ≡ Note e own → Within logged → NoteWithin e own
+pub note_within : {logged : Logged} {e : Entry} {own : ℕ} → logged ≡ Some (e, own) → Within logged → NoteWithin e own
 note_within is within = subst Within is within
 
-pub no_note_asks : {logged : Logged} (last : ℕ) → logged ≡ NoNote → note_asks last logged ≡ nothing bad_record
+pub no_note_asks : {logged : Logged} (last : ℕ) → logged ≡ None → note_asks last logged ≡ nothing BadRecord
 no_note_asks last is = ap (note_asks last) is
 
 pub outside_asks :
-    {logged : Logged} {e : Entry} {own : ℕ} {full : FullNumber} (last : ℕ) → logged ≡ Note e own → full ≡ full_number last own →
-    full ≡ Outside → note_asks last logged ≡ nothing number_outside
+    {logged : Logged} {e : Entry} {own : ℕ} {full : Option ℕ} (last : ℕ) → logged ≡ Some (e, own) → full ≡ full_number last own →
+    full ≡ None → note_asks last logged ≡ nothing NumberOutside
 outside_asks {e = e} last is number told = ap (note_asks last) is ∙ ap (number_asks e) (sym number ∙ told)
 
 pub note_asks_lem :
-    {logged : Logged} {e : Entry} {own number key : ℕ} {full : FullNumber} (last : ℕ) → logged ≡ Note e own → full ≡ full_number last own →
-    full ≡ Fits number → key ≡ entry_key e → note_asks last logged ≡ insertion key number
+    {logged : Logged} {e : Entry} {own number key : ℕ} {full : Option ℕ} (last : ℕ) → logged ≡ Some (e, own) → full ≡ full_number last own →
+    full ≡ Some number → key ≡ entry_key e → note_asks last logged ≡ insertion key number
 note_asks_lem {e = e} {number = number} last is numbers told keys =
     ap (note_asks last) is ∙ (ap (number_asks e) (sym numbers ∙ told) ∙ ap (λ key. insertion key number) (sym keys))
 

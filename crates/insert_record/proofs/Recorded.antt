@@ -3,7 +3,7 @@ use mathlib.Core.Path.{◌≡◌, subst}
 use mathlib.Core.List.{List}
 use Prim.Native.Nat.{ℕ}
 use Rattle.notes.specs.Notes.{note_by}
-use Rattle.notes.specs.declared.Logged.{Logged}
+use Rattle.notes.specs.Notes.{Logged}
 use Rattle.answers.specs.Refusals.{Meets}
 use Rattle.answers.specs.declared.Answer.{Answer}
 use Rattle.calls.specs.Records.{lent_of, note_out, record_out}

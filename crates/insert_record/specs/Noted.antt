@@ -1,6 +1,6 @@
 -- What a note does to the list's words and to the last number, whatever bytes it was read from.
 use Rattle.std.specs.Prelude.{List, ℕ}
-use Rattle.notes.specs.declared.Logged.{Logged}
+use Rattle.notes.specs.Notes.{Logged}
 use Rattle.answers.specs.Refusals.{Meets}
 use Rattle.calls.specs.Records.{lent_of, note_out}
 use Rattle.answers.specs.declared.Answer.{Answer}

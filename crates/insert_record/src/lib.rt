@@ -7,8 +7,7 @@ ghost use Rattle.notes.specs.Notes.{Within};
 ghost use Rattle.meaning.specs.Layer.Listed.{Listed};
 ghost use Rattle.insert_record.specs.Noted.{Noted};
 
-use answers::Answer;
-use full_number::FullNumber;
+use answers::{Answer, Refusal};
 use notes::Logged;
 use settings::Settings;
 
@@ -32,12 +31,12 @@ pub fn insert_record(
     requires { (Listed list.old s × Within logged) × PowersOf s powers.now }
     ensures { Noted logged list.old last.old result list.new last.new }
 {
-    let Logged::Note(e, own) = logged else {
-        return answers::refused(answers::BAD_RECORD);
+    let Some((e, own)) = logged else {
+        return answers::refused(Refusal::BadRecord);
     };
     let before = *last;
-    let FullNumber::Fits(number) = full_number::full_number(before, own) else {
-        return answers::refused(answers::NUMBER_OUTSIDE);
+    let Some(number) = full_number::full_number(before, own) else {
+        return answers::refused(Refusal::NumberOutside);
     };
     let answer = insert::insert(list, s, powers, entries::entry_key(e), number);
     advance(last, number, answer);

@@ -1,8 +1,9 @@
 -- Where the check starts and ends, as the code has it: the header, the head, the chain of free cells, and the answer.
+use Rattle.std.specs.Prelude.{None, Option, Some}
 use mathlib.Core.Path.{◌≡◌, refl, sym, ap, ◌∙◌}
 use mathlib.Core.Bool.{Bool, true, false, cond, ◌&&◌, not, and-false, false≢true}
 use mathlib.Core.List.{List, []}
-use Prim.Native.Nat.{ℕ, zero, suc, ◌-◌, ◌^◌, ◌≤◌, ◌<◌}
+use Prim.Native.Nat.{ℕ, zero, suc, ◌+◌, ◌-◌, ◌^◌, ◌≤◌, ◌<◌}
 use Rattle.settings.proofs.Numbers.{base_power_fits}
 use native.Mathlib.Nat.{sub-zero}
 use native.Mathlib.Omega.{arith}
@@ -24,8 +25,6 @@ use Rattle.account.specs.Loop.{left_over}
 use Rattle.account.proofs.AcceptedTests.{header_right_lem, head_right_lem}
 use Rattle.account.proofs.Following.{head_followed}
 use Rattle.account.proofs.Tree.{accepts_is_list}
-use Rattle.meaning.specs.declared.Reading.{Reading}
-use Rattle.meaning.specs.declared.Reading.TheVariants as variants
 use Rattle.is_list.specs.Standing.{header_of}
 use Rattle.cell_tests.proofs.Tests.{refuted}
 
@@ -45,24 +44,27 @@ module _ {ws : List ℕ} {s : Settings} (h : Shaped ws s) {agreed : ℕ} (run : 
 
 -- The free cells
 
-module _ (ws : List ℕ) (c : ℕ) where
-  pub chain_more :
-      (n : ℕ) {next : ℕ} → 0 < n → free_right ws c ≡ true → next ≡ word_at ws c 0 → chain_right ws n c ≡ chain_right ws (n - 1) next
+module _ (ws : List ℕ) (c : ℕ) {i n : ℕ} where
+  pub chain_more : {next : ℕ} → i < n → free_right ws c ≡ true → next ≡ word_at ws c 0 → chain_right ws (n - i) c ≡ chain_right ws (n - (i + 1)) next
   unfolding chain_right
-  chain_more zero h free e = absurd (omega arith)
-  chain_more (suc n) h free e =
-      let k : suc n - 1 ≡ n = omega arith in
+  chain_more h free e =
+      let k : n - i ≡ suc (n - (i + 1)) = omega arith in
       rw (k, free, e) refl
 
-  pub chain_broken : (n : ℕ) → 0 < n → free_right ws c ≡ false → chain_right ws n c ≡ false
+  pub chain_broken : i < n → free_right ws c ≡ false → chain_right ws (n - i) c ≡ false
   unfolding chain_right
-  chain_broken zero h free = absurd (omega arith)
-  chain_broken (suc n) h free = rw free refl
+  chain_broken h broken =
+      let k : n - i ≡ suc (n - (i + 1)) = omega arith in
+      rw (k, broken) refl
 
-  pub chain_end : (n : ℕ) → n ≤ 0 → chain_right ws n c ≡ eqb c 0
+  pub chain_end : n ≤ i → chain_right ws (n - i) c ≡ eqb c 0
   unfolding chain_right
-  chain_end zero h = refl
-  chain_end (suc n) h = absurd (omega arith)
+  chain_end h =
+      let k : n - i ≡ 0 = omega arith in
+      rw k refl
+
+-- .. as the loop over the chain goes
+pub ruleset chain_turns = (chain_more, chain_broken, chain_end)
 
 -- The header
 
@@ -76,22 +78,22 @@ unfolding header_right is_base
 header_is ws = refl
 
 module _ (ws : List ℕ) where
-  pub header_short : length ws < 5 → variants.NotAList ≡ header_of ws
+  pub header_short : length ws < 5 → None ≡ header_of ws
   header_short h = rw (refuted (header_right ws) (λ t. let e = (header_right_lem ws t).size in omega arith)) refl
 
   pub header_range :
-      {t : Bool} → t ≡ in_range (dimensions_at ws) (largest_at ws) (cells_at ws) → not t ≡ true → variants.NotAList ≡ header_of ws
+      {t : Bool} → t ≡ in_range (dimensions_at ws) (largest_at ws) (cells_at ws) → not t ≡ true → None ≡ header_of ws
   header_range {t} e f = rw (header_is ws, ← e, not-true t f) refl
 
-  pub header_length : (length ws ≡ length_of (dimensions_at ws) (cells_at ws) → ⊥) → variants.NotAList ≡ header_of ws
+  pub header_length : (length ws ≡ length_of (dimensions_at ws) (cells_at ws) → ⊥) → None ≡ header_of ws
   header_length other = rw (refuted (header_right ws) (λ t. other (header_right_lem ws t).size)) refl
 
-  pub header_base : {t : Bool} → t ≡ is_base (dimensions_at ws) (largest_at ws) (base_at ws) → not t ≡ true → variants.NotAList ≡ header_of ws
+  pub header_base : {t : Bool} → t ≡ is_base (dimensions_at ws) (largest_at ws) (base_at ws) → not t ≡ true → None ≡ header_of ws
   header_base {t} e f = simp (header_is ws, sym e, not-true t f, and-false) refl
 
   pub header_list :
       in_range (dimensions_at ws) (largest_at ws) (cells_at ws) ≡ true → length ws ≡ length_of (dimensions_at ws) (cells_at ws) →
-      is_base (dimensions_at ws) (largest_at ws) (base_at ws) ≡ true → variants.IsList (settings_at ws) ≡ header_of ws
+      is_base (dimensions_at ws) (largest_at ws) (base_at ws) ≡ true → Some (settings_at ws) ≡ header_of ws
   header_list range size base = rw (header_is ws, range, eq-eqb (length ws) (length_of (dimensions_at ws) (cells_at ws)) size, base) refl
 
 -- words whose header is that of a list with the settings s
@@ -102,10 +104,10 @@ pub record Headed (ws : List ℕ) (s : Settings) : Type 0 where
   pub power : s.base ^ s.dimensions < 2 ^ 64
   pub cells : 0 < s.cells
 
-pub headed : {ws : List ℕ} {s : Settings} {r : Reading} → r ≡ header_of ws → r ≡ variants.IsList s → Headed ws s
+pub headed : {ws : List ℕ} {s : Settings} {r : Option Settings} → r ≡ header_of ws → r ≡ Some s → Headed ws s
 headed {ws} {s} p q = at (header_right ws) refl (sym p ∙ q)
   where
-    at : (t : Bool) → header_right ws ≡ t → cond t (variants.IsList (settings_at ws)) variants.NotAList ≡ variants.IsList s → Headed ws s
+    at : (t : Bool) → header_right ws ≡ t → cond t (Some (settings_at ws)) None ≡ Some s → Headed ws s
     at true e f =
         let h = header_right_lem ws e in
         let k : settings_at ws ≡ s = cc in
@@ -126,7 +128,7 @@ headed {ws} {s} p q = at (header_right ws) refl (sym p ∙ q)
         })
     at false e f = absurd (let z : ◌≡◌ {A = ℕ} 0 1 = cc in omega arith)
 
-pub not_headed : (ws : List ℕ) {r : Reading} → r ≡ header_of ws → r ≡ variants.NotAList → header_right ws ≡ true → ⊥
+pub not_headed : (ws : List ℕ) {r : Option Settings} → r ≡ header_of ws → r ≡ None → header_right ws ≡ true → ⊥
 not_headed ws p q e = let z : ◌≡◌ {A = ℕ} 0 1 = cc in omega arith
 
 -- The answer

@@ -49,6 +49,9 @@ module _ (ws : List ℕ) (y : ℕ) {i n : ℕ} where
       let k : n - i ≡ 0 = omega arith in
       rw k refl
 
+-- .. as the loop over the path's words goes
+pub ruleset run_turns = (run_next, run_ends, run_all)
+
 pub agreed_before : (ws : List ℕ) (y : ℕ) {e agreed : ℕ} → agreed < e → agreed_at ws y e agreed ≡ agreed
 unfolding agreed_at
 agreed_before ws y {e} {agreed} h = rw (lt-ltb agreed e h) refl
@@ -123,7 +126,7 @@ module _ {ws : List ℕ} {s : Settings} (h : Shaped ws s) (y e : ℕ) (seen : Se
 
   pub enter_past :
       alone_right ws y e seen ≡ true → seen.reached ≡ true → seen.agreed ≤ s.dimensions →
-      Entered ws s y e seen (record { right = true; left = seen.left - 1; last = y; agreed = seen.agreed; reached = true })
+      Entered ws s y e seen (record { right = true; left = seen.left - 1; last = y; agreed = seen.agreed; reached = seen.reached })
   enter_past t past fits = entered_right t fits (met_past ws y e seen t past) (rw past refl)
 
   pub enter_position :
@@ -135,9 +138,12 @@ module _ {ws : List ℕ} {s : Settings} (h : Shaped ws s) (y e : ℕ) (seen : Se
 
   pub enter_other :
       {agreed : ℕ} → alone_right ws y e seen ≡ true → seen.reached ≡ false → (y ≡ position_at ws → ⊥) → agreed ≡ agreed_at ws y e seen.agreed →
-      agreed ≤ s.dimensions → Entered ws s y e seen (record { right = true; left = seen.left - 1; last = y; agreed = agreed; reached = false })
+      agreed ≤ s.dimensions → Entered ws s y e seen (record { right = true; left = seen.left - 1; last = y; agreed = agreed; reached = seen.reached })
   enter_other {agreed} t before other q fits =
       entered_right t fits (met_other ws y e seen t before other) (rw (before, ← q, ne_eqb y (position_at ws) other) refl)
+
+-- .. the ways in which a cell is met
+pub ruleset enter_cases = (enter_not, enter_lost, enter_past, enter_position, enter_other)
 
 -- Links that are put, one after the other
 

@@ -1,11 +1,9 @@
 -- Parts of the account on the words that have a function of their own, and what the one loop over the standing cells keeps and promises.
-use Rattle.std.specs.Prelude.{◌≡◌, true, cond, ◌&&◌, List, [], ◌∷◌, ℕ, zero, suc, ◌-◌, ◌≤◌, ◌<◌, eqb, length, get_or}
+use Rattle.std.specs.Prelude.{◌≡◌, true, cond, ◌&&◌, List, [], ◌∷◌, ℕ, zero, suc, ◌-◌, ◌≤◌, ◌<◌, eqb, length, get_or, None, Option, Some}
 use Rattle.settings.specs.Levels.{PowersOf}
 use Rattle.settings.specs.declared.Settings.{Settings}
 use Rattle.meaning.specs.Reading.{settings_at}
 use Rattle.meaning.specs.Words.{owed_at, high_at, link_at}
-use Rattle.meaning.specs.declared.Reading.{Reading}
-use Rattle.meaning.specs.declared.Reading.TheVariants as variants
 use Rattle.words.specs.Shaped.{Shaped}
 use Rattle.account.specs.declared.Seen.{Seen}
 use Rattle.account.specs.Tree.{header_right}
@@ -16,8 +14,8 @@ use Rattle.is_list.specs.declared.standing.Next.{Next}
 use Rattle.is_list.specs.declared.standing.Next.TheVariants.{Wrong, End, Goes}
 
 -- the settings that the header holds, where it is that of a list
-abbrev pub header_of : List ℕ → Reading
-header_of ws = cond (header_right ws) (variants.IsList (settings_at ws)) variants.NotAList
+abbrev pub header_of : List ℕ → Option Settings
+header_of ws = cond (header_right ws) (Some (settings_at ws)) None
 
 -- what has been seen lies within the list: the cell read last is one of its cells, and of its path words at most all agree
 pub record SeenWithin (s : Settings) (seen : Seen) : Type 0 where

@@ -2,35 +2,25 @@
 // children in turn, as crate account has it on the words; that account accepts exactly the lists.
 #![tactic(auto)]
 
-ghost use Rattle.std.specs.Prelude.{◌≡◌, false};
+ghost use Rattle.std.specs.Prelude.{◌≡◌, Some};
 ghost use Rattle.settings.specs.Levels.{PowersOf};
 ghost use Rattle.meaning.specs.Reading.{is_list};
-ghost use Rattle.meaning.specs.declared.Reading.TheVariants.{IsList};
 ghost use Rattle.is_list.specs.Standing.{header_of};
 ghost use Rattle.is_list.specs.Verdict.{Decided};
 
-use meaning::Reading;
-use settings::{Powers, Settings};
+use settings::{Levels, Settings};
 
 mod path; // path.rt: the words of path beside the way down
 mod standing; // standing.rt: the standing cells in order, from the head on
 mod free; // free.rt: the chain of free cells
 
-// What the check answers: whether the words are a list; if they are, its settings and the powers of its base.
-#[derive(Clone, Copy)]
-pub struct Verdict {
-    pub list: bool,
-    pub settings: Settings,
-    pub powers: Powers,
-}
-
-// The settings that the header holds, where D, K and C are in range, the length is exact and b is the least number whose power D is
+// The settings that the header holds; none unless D, K and C are in range, the length is exact and b is the least number whose power D is
 // above K.
-fn header(list: &[u32]) -> Reading
+fn header(list: &[u32]) -> Option<Settings>
     ensures { result ≡ header_of list.now }
 {
     if list.len() < words::HEADER_WORDS {
-        return Reading::NotAList;
+        return None;
     }
     let s = Settings {
         dimensions: list[0],
@@ -39,20 +29,20 @@ fn header(list: &[u32]) -> Reading
         base: list[3],
     };
     if !Settings::in_range(s.dimensions, s.largest, s.cells) {
-        return Reading::NotAList;
+        return None;
     }
     if list.len() != s.length() {
-        return Reading::NotAList;
+        return None;
     }
     if !Settings::is_base(s.base, s.dimensions, s.largest) {
-        return Reading::NotAList;
+        return None;
     }
-    Reading::IsList(s)
+    Some(s)
 }
 
 // Whether words with the header of a list with settings s are a list, by the tests of their cells.
 fn cells_right(list: &[u32], s: Settings, powers: &[u64]) -> bool
-    requires { (header_of list.now ≡ IsList s) × PowersOf s powers.now }
+    requires { (header_of list.now ≡ Some s) × PowersOf s powers.now }
     ensures { result ≡ is_list list.now }
 {
     if !cell_tests::head::head_right(list, s) {
@@ -72,34 +62,14 @@ fn cells_right(list: &[u32], s: Settings, powers: &[u64]) -> bool
     free::chain_right(list, s, seen.left, list[words::FIRST_FREE])
 }
 
-// What is answered of words that are no list: it says nothing else.
-fn no_list() -> Verdict
-    ensures { result.list ≡ false }
-{
-    Verdict {
-        list: false,
-        settings: Settings {
-            dimensions: 0,
-            largest: 0,
-            cells: 0,
-            base: 0,
-        },
-        powers: Powers { of: [0; 17] },
-    }
-}
-
-// Whether the lent words are a list; if they are, its settings and the powers of its base, which the check needs and the call is lent.
-pub fn is_list(list: &[u32]) -> Verdict
+// The levels of the list that the lent words are; none where they are no list. The check needs them, and the call is lent them.
+pub fn is_list(list: &[u32]) -> Option<Levels>
     ensures { Decided list.now result }
 {
-    let Reading::IsList(s) = header(list) else {
-        return no_list();
-    };
-    let powers = s.powers();
-    let list = cells_right(list, s, &powers.of);
-    Verdict {
-        list,
-        settings: s,
-        powers,
+    let levels = Levels::of(header(list)?);
+    if cells_right(list, levels.settings, &levels.powers) {
+        Some(levels)
+    } else {
+        None
     }
 }

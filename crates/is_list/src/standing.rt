@@ -39,22 +39,20 @@ pub fn at_head(list: &[u32], s: Settings) -> Seen
     ensures { (result ≡ at_head list.now) × SeenWithin s result }
 {
     let agreed = path::path_run(list, s, 0, 0);
-    let left = s.cells - 1;
+    let head = Seen {
+        right: true,
+        left: s.cells - 1,
+        last: 0,
+        agreed,
+        reached: false,
+    };
     if words::position(list, s) != 0 {
-        return Seen {
-            right: true,
-            left,
-            last: 0,
-            agreed,
-            reached: false,
-        };
+        return head;
     }
     Seen {
         right: agreed == s.dimensions,
-        left,
-        last: 0,
-        agreed,
         reached: true,
+        ..head
     }
 }
 
@@ -64,14 +62,12 @@ fn wrong(seen: Seen) -> Seen
 {
     Seen {
         right: false,
-        left: seen.left,
-        last: seen.last,
-        agreed: seen.agreed,
-        reached: seen.reached,
+        ..seen
     }
 }
 
 // What has been seen once cell y is met by link e. Past the position the path is no longer compared.
+#[tactic(auto, using(crate::proofs::InOrder::enter_cases, words::proofs::Shaped::shaped_dimensions, cell_tests::proofs::OneCell::alone))]
 fn enter(list: &[u32], s: Settings, powers: &[u64], y: u32, e: u32, seen: Seen) -> Seen
     requires { Shaped list.now s × (PowersOf s powers.now × ((e < s.dimensions) × SeenWithin s seen)) }
     ensures { Entered list.now s y e seen result }
@@ -79,15 +75,14 @@ fn enter(list: &[u32], s: Settings, powers: &[u64], y: u32, e: u32, seen: Seen) 
     if !standing::alone_right(list, s, powers, y, e, seen) {
         return wrong(seen);
     }
-    let left = seen.left - 1;
+    let met = Seen {
+        right: true,
+        left: seen.left - 1,
+        last: y,
+        ..seen
+    };
     if seen.reached {
-        return Seen {
-            right: true,
-            left,
-            last: y,
-            agreed: seen.agreed,
-            reached: true,
-        };
+        return met;
     }
     let agreed = path::agreed_at(list, s, y, e, seen.agreed);
     if y == words::position(list, s) {
@@ -95,20 +90,12 @@ fn enter(list: &[u32], s: Settings, powers: &[u64], y: u32, e: u32, seen: Seen) 
             return wrong(seen);
         }
         return Seen {
-            right: true,
-            left,
-            last: y,
             agreed,
             reached: true,
+            ..met
         };
     }
-    Seen {
-        right: true,
-        left,
-        last: y,
-        agreed,
-        reached: false,
-    }
+    Seen { agreed, ..met }
 }
 
 // Puts the links of cell x from number `from` on that are not 0 after the pending ones, the lowest number first; answers how many are pending then.

@@ -1,9 +1,9 @@
 -- What holds of the lines of the order program. The grammar speaks of all the fields of a line at once; the parser takes them one after the
 -- other, and each step hands on the fields that are left.
+use Rattle.std.specs.Prelude.{None, Some, Option}
 use mathlib.Core.Path.{◌≡◌, refl, sym, ◌∙◌}
 use mathlib.Core.Bool.{Bool, true, false, cond, ◌&&◌, and-false}
 use mathlib.Core.List.{List, [], ◌∷◌}
-use mathlib.Core.Option.{Option, none, some}
 use Prim.Native.Nat.{ℕ, ◌+◌, ◌-◌, ◌≤◌, ◌<◌}
 use native.Mathlib.Omega.{arith}
 use lib.Dec.{leb, ltb, eqb}
@@ -13,8 +13,6 @@ use Rattle.lists.specs.Lists.{same}
 use Rattle.text.specs.Fields.{fields_of, decimal_from, is_number}
 use Rattle.text.specs.Lines.{most_bytes}
 use Rattle.text.specs.Answers.{FieldEnd, number_of}
-use Rattle.text.specs.declared.fields.Numeral.TheVariants.{Value}
-use Rattle.text.specs.declared.fields.Numeral.TheVariants as numeral
 use Rattle.text.proofs.Numerals.{last_field, next_field, some_field, number_value}
 use Rattle.entries.specs.Entries.{least_class, most_class, least_unit, most_unit, least_serial, most_serial, is_class, is_unit, is_serial, InRange, entry}
 use Rattle.entries.specs.declared.Entry.{Entry}
@@ -68,13 +66,13 @@ module _ {line : List ℕ} {at end : ℕ} (least most : ℕ) (more : at < length
   unfolding fields_after
   first_field = rw (lt-ltb at (length line) more) (field_from ends)
 
-  pub number_read : {n : ℕ} → number_of least most (part line (at + 1) end) ≡ Value n → NumberAfter line at least most (Number n end)
+  pub number_read : {n : ℕ} → number_of least most (part line (at + 1) end) ≡ Some n → NumberAfter line at least most (Number n end)
   unfolding first_number
   number_read e =
       let v = number_value least most (part line (at + 1) end) e in
       record { is = rw (first_field, v.0, v.1) refl; within = ends.within }
 
-  pub number_none : number_of least most (part line (at + 1) end) ≡ numeral.Unreadable → NumberAfter line at least most NoNumber
+  pub number_none : number_of least most (part line (at + 1) end) ≡ None → NumberAfter line at least most NoNumber
   unfolding first_number number_of
   number_none e = record { is = rw first_field (at_test (is_number least most field) e); within = omega arith }
     where
@@ -82,8 +80,8 @@ module _ {line : List ℕ} {at end : ℕ} (least most : ℕ) (more : at < length
       field = part line (at + 1) end
 
       at_test :
-          (t : Bool) → cond t (Value (decimal_from 0 field)) numeral.Unreadable ≡ numeral.Unreadable →
-          ◌≡◌ {A = Option (ℕ × List (List ℕ))} none (cond t (some (decimal_from 0 field, fields_after line end)) none)
+          (t : Bool) → cond t (Some (decimal_from 0 field)) None ≡ None →
+          ◌≡◌ {A = Option (ℕ × List (List ℕ))} None (cond t (Some (decimal_from 0 field, fields_after line end)) None)
       at_test true v = cc
       at_test false v = refl
 
@@ -91,53 +89,53 @@ module _ {line : List ℕ} {at end : ℕ} (least most : ℕ) (more : at < length
 
 -- a class, then a unit, and then a serial
 abbrev with_serial : ℕ → ℕ → Option (ℕ × List (List ℕ)) → Option (Entry × List (List ℕ))
-with_serial class unit (some (serial, fields)) = some (record { class = class; unit = unit; serial = serial }, fields)
-with_serial class unit none = none
+with_serial class unit (Some (serial, fields)) = Some (record { class = class; unit = unit; serial = serial }, fields)
+with_serial class unit None = None
 
 abbrev with_unit : ℕ → Option (ℕ × List (List ℕ)) → Option (Entry × List (List ℕ))
-with_unit class (some (unit, fields)) = with_serial class unit (first_number least_serial most_serial fields)
-with_unit class none = none
+with_unit class (Some (unit, fields)) = with_serial class unit (first_number least_serial most_serial fields)
+with_unit class None = None
 
 abbrev with_class : Option (ℕ × List (List ℕ)) → Option (Entry × List (List ℕ))
-with_class (some (class, fields)) = with_unit class (first_number least_unit most_unit fields)
-with_class none = none
+with_class (Some (class, fields)) = with_unit class (first_number least_unit most_unit fields)
+with_class None = None
 
 entry_steps : (fields : List (List ℕ)) → first_entry fields ≡ with_class (first_number least_class most_class fields)
 unfolding first_entry first_number
 entry_steps [] = refl
 entry_steps (class ∷ []) = at-class (is_class class)
   where
-    at-class : (t : Bool) → none ≡ with_class (cond t (some (decimal_from 0 class, [])) none)
+    at-class : (t : Bool) → None ≡ with_class (cond t (Some (decimal_from 0 class, [])) None)
     at-class true = refl
     at-class false = refl
 entry_steps (class ∷ unit ∷ []) = at-class (is_class class)
   where
-    at_unit : (t : Bool) → none ≡ with_unit (decimal_from 0 class) (cond t (some (decimal_from 0 unit, [])) none)
+    at_unit : (t : Bool) → None ≡ with_unit (decimal_from 0 class) (cond t (Some (decimal_from 0 unit, [])) None)
     at_unit true = refl
     at_unit false = refl
 
-    at-class : (t : Bool) → none ≡ with_class (cond t (some (decimal_from 0 class, unit ∷ [])) none)
+    at-class : (t : Bool) → None ≡ with_class (cond t (Some (decimal_from 0 class, unit ∷ [])) None)
     at-class true = at_unit (is_unit unit)
     at-class false = refl
 entry_steps (class ∷ unit ∷ serial ∷ fields) = at-class (is_class class)
   where
     whole : Option (Entry × List (List ℕ))
-    whole = some (entry class unit serial, fields)
+    whole = Some (entry class unit serial, fields)
 
     at-serial :
-        (t : Bool) → cond t whole none ≡ with_serial (decimal_from 0 class) (decimal_from 0 unit) (cond t (some (decimal_from 0 serial, fields)) none)
+        (t : Bool) → cond t whole None ≡ with_serial (decimal_from 0 class) (decimal_from 0 unit) (cond t (Some (decimal_from 0 serial, fields)) None)
     at-serial true = refl
     at-serial false = refl
 
     at_unit :
-        (t : Bool) → cond (t && is_serial serial) whole none
-        ≡ with_unit (decimal_from 0 class) (cond t (some (decimal_from 0 unit, serial ∷ fields)) none)
+        (t : Bool) → cond (t && is_serial serial) whole None
+        ≡ with_unit (decimal_from 0 class) (cond t (Some (decimal_from 0 unit, serial ∷ fields)) None)
     at_unit true = at-serial (is_serial serial)
     at_unit false = refl
 
     at-class :
-        (t : Bool) → cond (t && (is_unit unit && is_serial serial)) whole none
-        ≡ with_class (cond t (some (decimal_from 0 class, unit ∷ serial ∷ fields)) none)
+        (t : Bool) → cond (t && (is_unit unit && is_serial serial)) whole None
+        ≡ with_class (cond t (Some (decimal_from 0 class, unit ∷ serial ∷ fields)) None)
     at-class true = at_unit (is_unit unit)
     at-class false = refl
 
@@ -166,8 +164,8 @@ module _ {line : List ℕ} {at : ℕ} {r : NumberRead} (first : NumberAfter line
 
 -- an entry, and then the end
 abbrev of_entry : (Entry → Kind) → Option (Entry × List (List ℕ)) → Parsed
-of_entry kind (some (e, fields)) = no_fields (kind e) fields
-of_entry kind none = Unreadable
+of_entry kind (Some (e, fields)) = no_fields (kind e) fields
+of_entry kind None = Unreadable
 
 entry_line_steps : (kind : Entry → Kind) (fields : List (List ℕ)) → entry_fields kind fields ≡ of_entry kind (first_entry fields)
 unfolding entry_fields first_entry no_fields
@@ -176,23 +174,23 @@ entry_line_steps kind (class ∷ []) = refl
 entry_line_steps kind (class ∷ unit ∷ []) = refl
 entry_line_steps kind (class ∷ unit ∷ serial ∷ []) = at_test (is_class class && (is_unit unit && is_serial serial))
   where
-    at_test : (t : Bool) → readable t (kind (entry class unit serial)) ≡ of_entry kind (cond t (some (entry class unit serial, [])) none)
+    at_test : (t : Bool) → readable t (kind (entry class unit serial)) ≡ of_entry kind (cond t (Some (entry class unit serial, [])) None)
     at_test true = refl
     at_test false = refl
 entry_line_steps kind (class ∷ unit ∷ serial ∷ further ∷ fields) = at_test (is_class class && (is_unit unit && is_serial serial))
   where
-    at_test : (t : Bool) → Unreadable ≡ of_entry kind (cond t (some (entry class unit serial, further ∷ fields)) none)
+    at_test : (t : Bool) → Unreadable ≡ of_entry kind (cond t (Some (entry class unit serial, further ∷ fields)) None)
     at_test true = refl
     at_test false = refl
 
 -- an entry, a value, and then the end
 abbrev of_value : Entry → Option (ℕ × List (List ℕ)) → Parsed
-of_value e (some (value, fields)) = no_fields (Insert e value) fields
-of_value e none = Unreadable
+of_value e (Some (value, fields)) = no_fields (Insert e value) fields
+of_value e None = Unreadable
 
 abbrev of_insert : Option (Entry × List (List ℕ)) → Parsed
-of_insert (some (e, fields)) = of_value e (first_number least_value most_value fields)
-of_insert none = Unreadable
+of_insert (Some (e, fields)) = of_value e (first_number least_value most_value fields)
+of_insert None = Unreadable
 
 insert_line_steps : (fields : List (List ℕ)) → insert_fields fields ≡ of_insert (first_entry fields)
 unfolding insert_fields first_entry first_number no_fields
@@ -201,7 +199,7 @@ insert_line_steps (class ∷ []) = refl
 insert_line_steps (class ∷ unit ∷ []) = refl
 insert_line_steps (class ∷ unit ∷ serial ∷ []) = at_test (is_class class && (is_unit unit && is_serial serial))
   where
-    at_test : (t : Bool) → Unreadable ≡ of_insert (cond t (some (entry class unit serial, [])) none)
+    at_test : (t : Bool) → Unreadable ≡ of_insert (cond t (Some (entry class unit serial, [])) None)
     at_test true = refl
     at_test false = refl
 insert_line_steps (class ∷ unit ∷ serial ∷ value ∷ []) = at_entry (is_class class) (is_unit unit) (is_serial serial)
@@ -209,13 +207,13 @@ insert_line_steps (class ∷ unit ∷ serial ∷ value ∷ []) = at_entry (is_cl
     kind : Kind
     kind = Insert (entry class unit serial) (decimal_from 0 value)
 
-    at_value : (t : Bool) → readable t kind ≡ of_value (entry class unit serial) (cond t (some (decimal_from 0 value, [])) none)
+    at_value : (t : Bool) → readable t kind ≡ of_value (entry class unit serial) (cond t (Some (decimal_from 0 value, [])) None)
     at_value true = refl
     at_value false = refl
 
     at_entry :
         (t u w : Bool) → readable (t && (u && (w && is_value value))) kind
-        ≡ of_insert (cond (t && (u && w)) (some (entry class unit serial, value ∷ [])) none)
+        ≡ of_insert (cond (t && (u && w)) (Some (entry class unit serial, value ∷ [])) None)
     at_entry true true true = at_value (is_value value)
     at_entry true true false = refl
     at_entry true false w = refl
@@ -223,11 +221,11 @@ insert_line_steps (class ∷ unit ∷ serial ∷ value ∷ []) = at_entry (is_cl
 insert_line_steps (class ∷ unit ∷ serial ∷ value ∷ further ∷ fields) = at_entry (is_class class && (is_unit unit && is_serial serial))
   where
     at_value :
-        (t : Bool) → Unreadable ≡ of_value (entry class unit serial) (cond t (some (decimal_from 0 value, further ∷ fields)) none)
+        (t : Bool) → Unreadable ≡ of_value (entry class unit serial) (cond t (Some (decimal_from 0 value, further ∷ fields)) None)
     at_value true = refl
     at_value false = refl
 
-    at_entry : (t : Bool) → Unreadable ≡ of_insert (cond t (some (entry class unit serial, value ∷ further ∷ fields)) none)
+    at_entry : (t : Bool) → Unreadable ≡ of_insert (cond t (Some (entry class unit serial, value ∷ further ∷ fields)) None)
     at_entry true = at_value (is_value value)
     at_entry false = refl
 

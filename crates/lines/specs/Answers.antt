@@ -1,6 +1,5 @@
 -- What the functions of the parser answer: the first of the fields that are left of a line, and where it ends.
-use Rattle.std.specs.Prelude.{cond, ◌&&◌, List, [], ◌∷◌, ◌≡◌, ℕ, ◌+◌, ◌≤◌, ltb, length, drop}
-use Rattle.std.proofs.Math.Option.{Option, none, some}
+use Rattle.std.specs.Prelude.{cond, ◌&&◌, List, [], ◌∷◌, ◌≡◌, ℕ, ◌+◌, ◌≤◌, ltb, length, drop, Option, None, Some}
 use Rattle.text.specs.Fields.{fields_of, decimal_from, is_number}
 use Rattle.entries.specs.Entries.{is_class, is_unit, is_serial, entry}
 use Rattle.entries.specs.declared.Entry.{Entry}
@@ -15,23 +14,23 @@ fields_after line at = cond (ltb at (length line)) (fields_of (drop (at + 1) lin
 
 -- the number that is the first of some fields, with the fields after it
 unfoldable pub first_number : ℕ → ℕ → List (List ℕ) → Option (ℕ × List (List ℕ))
-first_number least most [] = none
-first_number least most (field ∷ fields) = cond (is_number least most field) (some (decimal_from 0 field, fields)) none
+first_number least most [] = None
+first_number least most (field ∷ fields) = cond (is_number least most field) (Some (decimal_from 0 field, fields)) None
 
 -- the entry that is the first three of some fields, with the fields after it
 unfoldable pub first_entry : List (List ℕ) → Option (Entry × List (List ℕ))
-first_entry [] = none
-first_entry (class ∷ []) = none
-first_entry (class ∷ unit ∷ []) = none
+first_entry [] = None
+first_entry (class ∷ []) = None
+first_entry (class ∷ unit ∷ []) = None
 first_entry (class ∷ unit ∷ serial ∷ fields) =
-    cond (is_class class && (is_unit unit && is_serial serial)) (some (entry class unit serial, fields)) none
+    cond (is_class class && (is_unit unit && is_serial serial)) (Some (entry class unit serial, fields)) None
 
 -- What the code's values mean.
 
 -- a number read, with the fields of the line after it
 abbrev pub number_in : List ℕ → NumberRead → Option (ℕ × List (List ℕ))
-number_in line (Number n end) = some (n, fields_after line end)
-number_in line NoNumber = none
+number_in line (Number n end) = Some (n, fields_after line end)
+number_in line NoNumber = None
 
 -- where its field ends
 abbrev pub number_end : NumberRead → ℕ
@@ -40,8 +39,8 @@ number_end NoNumber = 0
 
 -- an entry read, with the fields of the line after it
 abbrev pub entry_in : List ℕ → EntryRead → Option (Entry × List (List ℕ))
-entry_in line (Fields e end) = some (e, fields_after line end)
-entry_in line NoEntry = none
+entry_in line (Fields e end) = Some (e, fields_after line end)
+entry_in line NoEntry = None
 
 -- where its third field ends
 abbrev pub entry_end : EntryRead → ℕ

@@ -8,7 +8,6 @@ ghost use Rattle.lines.specs.Answers.{fields_after, NumberAfter, EntryAfter};
 ghost use Rattle.lines.specs.declared.Kind.TheVariants.{Find, Finish};
 
 use entries::Entry;
-use text::fields::Numeral;
 
 #[derive(Clone, Copy)]
 pub enum Kind {
@@ -80,8 +79,8 @@ fn number_after(line: &[u8], at: usize, least: u32, most: u32) -> NumberRead
     let end = text::fields::field_end(line, start);
     let numeral = text::fields::number(&line[start..end], least, most);
     match numeral {
-        Numeral::Value(n) => return NumberRead::Number(n, end),
-        Numeral::Unreadable => return NumberRead::NoNumber,
+        Some(n) => return NumberRead::Number(n, end),
+        None => return NumberRead::NoNumber,
     }
 }
 

@@ -1,6 +1,6 @@
 -- Words that are all 0: bits of some of them are 0 then, and bits of all of them only then.
-use mathlib.Core.Path.{◌≡◌, refl}
-use mathlib.Core.Bool.{true}
+use mathlib.Core.Path.{◌≡◌, refl, ap}
+use mathlib.Core.Bool.{true, ◌&&◌}
 use mathlib.Core.List.{List, [], ◌∷◌}
 use Prim.Native.Nat.{ℕ, zero, suc, ◌+◌, ◌≤◌, ◌<◌}
 use native.Mathlib.Decide.{dec_le}
@@ -9,6 +9,7 @@ use lib.Bits.{bit_or, and_le_l, and_le_r, or_add_and}
 use lib.Dec.{eqb}
 use lib.ListN.{length, get_or}
 use borrow.Author.Tests.{eqb-true, eq-eqb}
+use Rattle.std.specs.List.{list_all}
 use Rattle.lists.specs.Zeros.{all_zero, ZeroFrom}
 use Rattle.lists.proofs.Tests.{both, and_both, tests_same}
 
@@ -34,11 +35,14 @@ unfolding all_zero
 zero_all [] at = refl
 zero_all (w ∷ ws) at = and_both (eqb w 0) (all_zero ws) (eq-eqb w 0 (at 0 (omega arith))) (zero_all ws (λ j h. at (suc j) (omega arith)))
 
-module _ (part : List ℕ) where
-  -- told of no word, and of one
-  pub zero_start : (i r : ℕ) → (all_zero part ≡ true → r ≡ 0) → ZeroFrom part i 0 r
-  zero_start i r none = record { told = λ e j p q. absurd (omega arith); none = none }
+-- the test of each word, as the library puts it
+pub zeros_tested : (ws : List ℕ) → list_all (λ w. eqb w 0) ws ≡ all_zero ws
+unfolding all_zero
+zeros_tested [] = refl
+zeros_tested (w ∷ ws) = ap (λ t. eqb w 0 && t) (zeros_tested ws)
 
+module _ (part : List ℕ) where
+  -- told of one word
   pub zero_one : (i : ℕ) → ZeroFrom part i 1 (get_or part i 0)
   zero_one i = record { told = λ e j p q. let same : j ≡ i = omega arith in rw same e; none = zero_at part i }
 

@@ -8,11 +8,7 @@ ghost use Rattle.lists.specs.Zeros.{all_zero, ZeroFrom};
 pub fn fill(part: &mut [u32], v: u32)
     ensures { part.new ≡ replicate (length part.old) v }
 {
-    let mut i = 0;
-    while i < part.len() {
-        part[i] = v;
-        i += 1;
-    }
+    part.fill(v);
 }
 
 // The bits of four words from i on, put together.
@@ -31,19 +27,6 @@ fn eight(part: &[u32], i: usize) -> u32
     four(part, i) | four(part, i + 4)
 }
 
-// The bits of a part of a few words, put together.
-fn few(part: &[u32]) -> u32
-    ensures { ZeroFrom part.now 0 (length part.now) result }
-{
-    let mut bits: u32 = 0;
-    let mut i = 0;
-    while i < part.len() {
-        bits = bits | part[i];
-        i += 1;
-    }
-    bits
-}
-
 // Whether every word of a part is 0. Their bits are put together, with no way out before the end. The last words are read first, and then
 // from the start in eights, so that no word is left over to be read by itself: some may be read twice.
 pub fn all_zero(part: &[u32]) -> bool
@@ -51,16 +34,14 @@ pub fn all_zero(part: &[u32]) -> bool
 {
     let n = part.len();
     if n < 4 {
-        return few(part) == 0;
+        return part.iter().all(|word| *word == 0);
     }
     if n < 8 {
         return (four(part, 0) | four(part, n - 4)) == 0;
     }
     let mut bits = eight(part, n - 8);
-    let mut i = 0;
-    while i + 8 < n {
-        bits = bits | eight(part, i);
-        i += 8;
+    for i in (0..n - 8).step_by(8) {
+        bits |= eight(part, i);
     }
     bits == 0
 }

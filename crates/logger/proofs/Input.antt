@@ -1,4 +1,5 @@
 -- What the functions of the program logger rest on: what a feed tells of is in range, the list stays one, and what a take leaves.
+use Rattle.std.specs.Prelude.{None, Option, Some}
 use mathlib.Core.Path.{◌≡◌, sym, ◌∙◌, ap, subst}
 use mathlib.Core.Bool.{Bool, true, false, cond, true≢false}
 use mathlib.Core.List.{List, [], ◌∷◌, ◌++◌}
@@ -10,11 +11,9 @@ use Rattle.text.proofs.Parts.{kept_by_bytes, kept_by_end}
 use Rattle.notes.specs.Notes.{note_by, Within}
 use Rattle.notes.specs.Export.{closes}
 use Rattle.notes.specs.Feeding.{handed_by, handed_at_end, record_handing, Holds, told_in, ToldWithin, Stepped, FeedEnded}
-use Rattle.notes.specs.declared.Logged.{Logged}
+use Rattle.notes.specs.Notes.{Logged}
 use Rattle.notes.specs.declared.feed.Feed.{Feed}
 use Rattle.notes.specs.declared.feed.Fed.{Fed}
-use Rattle.notes.specs.declared.feed.Told.{Told}
-use Rattle.notes.specs.declared.feed.Told.TheVariants.{NoRecord, Record}
 use Rattle.notes.proofs.Notes.{notes_within}
 use Rattle.meaning.specs.Operations.{take_out}
 use Rattle.calls.specs.Records.{Lent, note_out}
@@ -32,9 +31,9 @@ use Rattle.logger.specs.declared.Turn.TheVariants.{More, NoMore, NotWritten}
 
 -- What is told of is in range, since some bytes note it.
 
-all_told : (told : Told) → All Within (told_in told) → ToldWithin told
-all_told NoRecord within = tt
-all_told (Record logged) within = within.0
+all_told : (told : Option Logged) → All Within (told_in told) → ToldWithin told
+all_told None within = tt
+all_told (Some logged) within = within.0
 
 handed_within : (begun : List ℕ) (byte : ℕ) → All Within (handed_by begun byte)
 unfolding handed_by
@@ -53,7 +52,7 @@ pub byte_told_within : {feed : Feed} {byte : ℕ} {r : Fed} → Known (Holds fee
 byte_told_within {byte = byte} {r = r} known step =
     all_told r.told (subst (All Within) (sym (step.told known.begun known.is)) (handed_within known.begun byte))
 
-pub end_told_within : {feed : Feed} {r : Told} → Known (Holds feed) → FeedEnded feed r → ToldWithin r
+pub end_told_within : {feed : Feed} {r : Option Logged} → Known (Holds feed) → FeedEnded feed r → ToldWithin r
 end_told_within {r = r} known ended =
     all_told r (subst (All Within) (sym (ended.told known.begun known.is)) (end_within known.begun))
 

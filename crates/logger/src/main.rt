@@ -21,7 +21,8 @@ ghost use Rattle.calls.specs.Records.{note_out};
 ghost use Rattle.report.specs.Answered.{leaving, TextOf};
 ghost use Rattle.logger.specs.Input.{kept, TextOfTake, Took, Drained};
 
-use notes::feed::{Feed, Told};
+use notes::Logged;
+use notes::feed::Feed;
 use settings::Settings;
 use std::io::Read;
 use std::rt::Stdin;
@@ -51,7 +52,7 @@ pub enum Turn {
 
 // Writes what is printed for the record that ended, by one write, and nothing if none did; whether it was written whole. It takes the record
 // and what it left so that its contract can say whose text it is.
-fn write(text: &[u8], ended: Told, words: &[u32], last: u64) -> bool
+fn write(text: &[u8], ended: Option<Logged>, words: &[u32], last: u64) -> bool
     requires { TextOf note_out text.now (told_in ended) (kept words.now last) }
 {
     io::write_all(1, text)
@@ -65,7 +66,12 @@ fn write_take(text: &[u8], words: &[u32]) -> bool
 }
 
 // Enters the record that ended, if one did; whether the answer was written.
-fn enter_record(words: &mut [u32], settings: Settings, last: &mut u64, ended: Told) -> bool
+fn enter_record(
+    words: &mut [u32],
+    settings: Settings,
+    last: &mut u64,
+    ended: Option<Logged>,
+) -> bool
     requires { Listed words.old settings × ToldWithin ended }
     ensures { kept words.new last.new ≡ after_all (leaving note_out) (kept words.old last.old) (told_in ended) }
 {

@@ -1,4 +1,5 @@
 -- What is told of is entered: no record, or one; the answer put is the bytes that are printed. And so for a take.
+use Rattle.std.specs.Prelude.{None, Option, Some}
 use mathlib.Core.Path.{◌≡◌, ◌∙◌, ap}
 use mathlib.Core.List.{List, []}
 use Prim.Native.Nat.{ℕ, ◌≤◌}
@@ -7,9 +8,7 @@ use lib.ListN.{length}
 use Rattle.text.specs.Lines.{line_feed}
 use Rattle.notes.specs.Feeding.{told_in, ToldWithin}
 use Rattle.notes.specs.Notes.{Within}
-use Rattle.notes.specs.declared.Logged.{Logged}
-use Rattle.notes.specs.declared.feed.Told.{Told}
-use Rattle.notes.specs.declared.feed.Told.TheVariants.{NoRecord, Record}
+use Rattle.notes.specs.Notes.{Logged}
 use Rattle.answers.specs.Refusals.{Meets}
 use Rattle.meaning.specs.Operations.{take_out}
 use Rattle.calls.specs.Records.{Lent, lent_of, note_out}
@@ -21,15 +20,15 @@ use Rattle.report.specs.Answered.{Answered}
 use Rattle.report.proofs.Answered.{none_answered, one_answered}
 use Rattle.logger_step.specs.Printed.{TakeAnswered}
 
-pub told_within : {told : Told} {logged : Logged} → told ≡ Record logged → ToldWithin told → Within logged
+pub told_within : {told : Option Logged} {logged : Logged} → told ≡ Some logged → ToldWithin told → Within logged
 told_within is within = rw is at within
 
-pub no_record_answered : (lent : Lent) (out : List ℕ) {told : Told} → told ≡ NoRecord → Answered note_out (told_in told) lent lent out 0
+pub no_record_answered : (lent : Lent) (out : List ℕ) {told : Option Logged} → told ≡ None → Answered note_out (told_in told) lent lent out 0
 no_record_answered lent out e = rw e (none_answered note_out lent out)
 
 module _ {room out : List ℕ} {r : ℕ} {a : Answer} (put : Put room 0 (answer_text a line_feed) out r) (fits : r ≤ length room) where
   pub record_answered :
-      {ws after : List ℕ} {last now-last : ℕ} {told : Told} {logged : Logged} → told ≡ Record logged → Noted logged ws last a after now-last →
+      {ws after : List ℕ} {last now-last : ℕ} {told : Option Logged} {logged : Logged} → told ≡ Some logged → Noted logged ws last a after now-last →
       Answered note_out (told_in told) (lent_of ws [] last) (lent_of after [] now-last) out r
   record_answered {ws} {last = last} {logged = logged} e noted = rw e (one_answered note_out logged (lent_of ws [] last) put fits (noted.meets []))
 

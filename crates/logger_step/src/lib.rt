@@ -13,8 +13,7 @@ ghost use Rattle.logger_step.specs.Printed.{TakeAnswered};
 
 use answers::Answer;
 use notes::Logged;
-use notes::feed::Told;
-use settings::Settings;
+use settings::{Levels, Settings};
 
 // What a take puts: how many bytes, and whether there may be more to take.
 #[derive(Clone, Copy)]
@@ -28,23 +27,24 @@ fn note(list: &mut [u32], s: Settings, last: &mut u64, logged: Logged) -> Answer
     requires { Listed list.old s × Within logged }
     ensures { Noted logged list.old last.old result list.new last.new }
 {
-    let powers = s.powers();
-    insert_record::insert_record(list, s, &powers.of, logged, last)
+    let levels = Levels::of(s);
+    insert_record::insert_record(list, s, &levels.powers, logged, last)
 }
 
 // Enters the record that is told of, if one is: puts the bytes that are printed for it into `out`, from the first on; how many they are.
-pub fn note_text(list: &mut [u32], s: Settings, last: &mut u64, told: Told, out: &mut [u8]) -> usize
+pub fn note_text(
+    list: &mut [u32],
+    s: Settings,
+    last: &mut u64,
+    told: Option<Logged>,
+    out: &mut [u8],
+) -> usize
     requires { Listed list.old s × (ToldWithin told × (answer_bytes ≤ length out.old)) }
     ensures { Answered note_out (told_in told) (lent_of list.old [] last.old) (lent_of list.new [] last.new) out.new result }
 {
     match told {
-        Told::NoRecord => return 0,
-        Told::Record(logged) => return report::put_answer(
-            out,
-            0,
-            note(list, s, last, logged),
-            b'\n',
-        ),
+        None => return 0,
+        Some(logged) => return report::put_answer(out, 0, note(list, s, last, logged), b'\n'),
     }
 }
 

@@ -9,7 +9,7 @@ ghost use Rattle.calls.specs.Records.{lent_of, record_out};
 ghost use Rattle.calls.specs.Saved.{file_lent, write_out, read_out};
 ghost use Rattle.calls.specs.Batch.{batch_lent, batch_out};
 
-use answers::Answer;
+use answers::{Answer, Refusal};
 
 // Makes the lent words a fresh list with D dimensions, largest key K and C cells.
 pub fn mdlist_set_up(d: u32, k: u32, c: u32, list: &mut [u32]) -> Answer
@@ -22,74 +22,63 @@ pub fn mdlist_set_up(d: u32, k: u32, c: u32, list: &mut [u32]) -> Answer
 pub fn mdlist_insert(list: &mut [u32], key: u32, value: u32) -> Answer
     ensures { Meets (insert_out list.old key value) result list.new }
 {
-    let verdict = is_list::is_list(list);
-    if !verdict.list {
-        return answers::refused(answers::NOT_A_LIST);
-    }
-    let powers = verdict.powers;
-    insert::insert(list, verdict.settings, &powers.of, key, value)
+    let Some(levels) = is_list::is_list(list) else {
+        return answers::refused(Refusal::NotAList);
+    };
+    insert::insert(list, levels.settings, &levels.powers, key, value)
 }
 
 // Finds a live key's value; writes nothing.
 pub fn mdlist_find(list: &[u32], key: u32) -> Answer
     ensures { Meets (find_out list.now key) result list.now }
 {
-    let verdict = is_list::is_list(list);
-    if !verdict.list {
-        return answers::refused(answers::NOT_A_LIST);
-    }
-    let powers = verdict.powers;
-    find::find(list, verdict.settings, &powers.of, key)
+    let Some(levels) = is_list::is_list(list) else {
+        return answers::refused(Refusal::NotAList);
+    };
+    find::find(list, levels.settings, &levels.powers, key)
 }
 
 // Moves the links that a key's cell still owes.
 pub fn mdlist_finish(list: &mut [u32], key: u32) -> Answer
     ensures { Meets (finish_out list.old key) result list.new }
 {
-    let verdict = is_list::is_list(list);
-    if !verdict.list {
-        return answers::refused(answers::NOT_A_LIST);
-    }
-    let powers = verdict.powers;
-    finish::finish(list, verdict.settings, &powers.of, key)
+    let Some(levels) = is_list::is_list(list) else {
+        return answers::refused(Refusal::NotAList);
+    };
+    finish::finish(list, levels.settings, &levels.powers, key)
 }
 
 // Takes the least live key.
 pub fn mdlist_take(list: &mut [u32]) -> Answer
     ensures { Meets (take_out list.old) result list.new }
 {
-    let verdict = is_list::is_list(list);
-    if !verdict.list {
-        return answers::refused(answers::NOT_A_LIST);
-    }
-    take::take(list, verdict.settings)
+    let Some(levels) = is_list::is_list(list) else {
+        return answers::refused(Refusal::NotAList);
+    };
+    take::take(list, levels.settings)
 }
 
 // Finishes all that is owed, moves the position to the greatest dead cell below every live key, and frees the cells before it.
 pub fn mdlist_sweep(list: &mut [u32]) -> Answer
     ensures { Meets (sweep_out list.old) result list.new }
 {
-    let verdict = is_list::is_list(list);
-    if !verdict.list {
-        return answers::refused(answers::NOT_A_LIST);
-    }
-    let powers = verdict.powers;
-    sweep::sweep(list, verdict.settings, &powers.of)
+    let Some(levels) = is_list::is_list(list) else {
+        return answers::refused(Refusal::NotAList);
+    };
+    sweep::sweep(list, levels.settings, &levels.powers)
 }
 
 // Puts what a record of the logger's export notes into the list, with its full number as the value; `last` is the last full number.
 pub fn mdlist_record(list: &mut [u32], record: &[u8], last: &mut u64) -> Answer
     ensures { Meets (record_out (lent_of list.old «record».now last.old)) result (lent_of list.new «record».now last.new) }
 {
-    let verdict = is_list::is_list(list);
-    if !verdict.list {
-        return answers::refused(answers::NOT_A_LIST);
-    }
-    let powers = verdict.powers;
+    let Some(levels) = is_list::is_list(list) else {
+        return answers::refused(Refusal::NotAList);
+    };
     insert_record::insert_record(
         list,
-        verdict.settings,
-        &powers.of,
+        levels.settings,
+        &levels.powers,
         notes::note_by(record),
         last,
     )
@@ -99,11 +88,10 @@ pub fn mdlist_record(list: &mut [u32], record: &[u8], last: &mut u64) -> Answer
 pub fn mdlist_write(list: &[u32], file: &mut [u8]) -> Answer
     ensures { Meets (write_out (file_lent list.now file.old)) result (file_lent list.now file.new) }
 {
-    let verdict = is_list::is_list(list);
-    if !verdict.list {
-        return answers::refused(answers::NOT_A_LIST);
-    }
-    write_file::write_file(list, verdict.settings, file)
+    let Some(levels) = is_list::is_list(list) else {
+        return answers::refused(Refusal::NotAList);
+    };
+    write_file::write_file(list, levels.settings, file)
 }
 
 // Makes the lent words the list that a file keeps, whatever they held.
@@ -117,13 +105,11 @@ pub fn mdlist_read(file: &[u8], list: &mut [u32]) -> Answer
 pub fn mdlist_batch(list: &mut [u32], calls: &[u32], answers: &mut [u32]) -> Answer
     ensures { Meets (batch_out calls.now (batch_lent list.old answers.old)) result (batch_lent list.new answers.new) }
 {
-    let verdict = is_list::is_list(list);
-    if !verdict.list {
-        return answers::refused(answers::NOT_A_LIST);
-    }
-    let powers = verdict.powers;
+    let Some(levels) = is_list::is_list(list) else {
+        return answers::refused(Refusal::NotAList);
+    };
     if batch::fit(calls, answers) {
-        return batch::batch(list, verdict.settings, &powers.of, calls, answers);
+        return batch::batch(list, levels.settings, &levels.powers, calls, answers);
     }
-    answers::refused(answers::BAD_BATCH)
+    answers::refused(Refusal::BadBatch)
 }

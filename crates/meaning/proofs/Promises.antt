@@ -13,7 +13,8 @@ use Rattle.meaning.specs.Row.{smaller_than}
 use Rattle.meaning.specs.State.{State}
 use Rattle.meaning.specs.Picture.{picture}
 use Rattle.meaning.specs.Reading.{read, is_list, standing_keys}
-use Rattle.answers.specs.Refusals.{Outcome, bad_key, refused}
+use Rattle.answers.specs.Refusals.{Outcome, refused}
+use Rattle.answers.specs.declared.Refusal.TheVariants.{BadKey}
 use Rattle.meaning.specs.Operations.{looked, insert_out, find_out}
 use Rattle.meaning.specs.Rule.{rule}
 use Rattle.meaning.specs.Words.{key_at, dimensions_at, largest_at, base_at}
@@ -128,7 +129,7 @@ counted_by : (s : State) (key : ℕ) (o p : Outcome (List ℕ)) → 1 ≤ key �
 counted_by s key o p h l e c = record { least = h; most = l; count = ap (λ (t : Outcome (List ℕ)). t.answered.count) e ∙ c }
 
 -- a key out of range answers no looked
-not_looked : (s : State) (key : ℕ) (o : Outcome (List ℕ)) → o ≡ refused bad_key (picture s) → answers_looked o.answered.refusal ≡ true → Counts s key o
+not_looked : (s : State) (key : ℕ) (o : Outcome (List ℕ)) → o ≡ refused BadKey (picture s) → answers_looked o.answered.refusal ≡ true → Counts s key o
 not_looked s key o e l = absurd (let z : true ≡ false = sym l ∙ ap (λ (t : Outcome (List ℕ)). answers_looked t.answered.refusal) e in true≢false z)
 
 insert_counts : (s : State) → Sound s → (key value : ℕ) → answers_looked (insert_out (picture s) key value).answered.refusal ≡ true →

@@ -1,38 +1,36 @@
 -- The six operations: for every list of words and all numbers, the four numbers answered and every word afterwards. The operations,
 -- Refusals.
-use Rattle.std.specs.Prelude.{Bool, true, false, cond, ◌&&◌, not, ℕ, ◌-◌, eqb, leb, ltb, length, drop}
+use Rattle.settings.specs.declared.Settings.{Settings}
+use Rattle.std.specs.Prelude.{Bool, true, false, cond, ◌&&◌, not, ℕ, ◌-◌, eqb, leb, ltb, length, drop, None, Some, Option}
 use mathlib.Core.List.{List, [], ◌∷◌, ◌++◌, map, reverse_aux, drop_last}
-use Rattle.std.proofs.Math.Option.{Option, none, some}
 use Rattle.settings.specs.Numbers.{is_key, length_of}
 use Rattle.settings.specs.Checked.{settings_of, checked_of}
-use Rattle.settings.specs.declared.Checked.{Checked}
-use Rattle.settings.specs.declared.Checked.TheVariants.{Accepted, OutOfRange}
 use Rattle.lists.specs.Lists.{those, numbers_from, first_number}
 use Rattle.meaning.specs.Keys.{shared}
 use Rattle.meaning.specs.Row.{Node, last_of, Place, settled_link, low, high, place_of, node_at, put, smaller_than}
 use Rattle.meaning.specs.State.{State, key_of, position_key, places_of}
 use Rattle.meaning.specs.Picture.{picture}
 use Rattle.meaning.specs.Reading.{read, reading_of}
-use Rattle.answers.specs.Refusals.{Outcome, accepted, out_of_range, wrong_length, not_a_list, bad_key, key_live, no_free_cell, nothing_live, key_not_live}
-use Rattle.answers.specs.Refusals.{key_not_standing, refused}
+use Rattle.answers.specs.Refusals.{Outcome, accepted}
+use Rattle.answers.specs.declared.Refusal.TheVariants.{OutOfRange, WrongLength, NotAList, BadKey, KeyLive, NoFreeCell, NothingLive, KeyNotLive}
+use Rattle.answers.specs.Refusals.{refused}
+use Rattle.answers.specs.declared.Refusal.TheVariants.{KeyNotStanding}
 use Rattle.answers.specs.declared.Operation.{Operation}
 use Rattle.answers.specs.declared.Operation.TheVariants.{Insert, Find, Finish, Take, Sweep}
 use Rattle.meaning.specs.Rule.{rule}
-use Rattle.meaning.specs.declared.Reading.{Reading}
-use Rattle.meaning.specs.declared.Reading.TheVariants.{IsList, NotAList}
 use Rattle.meaning.specs.declared.Slot.{Slot}
 
 -- Refusal 3: the buffer is not a list. It goes by what the words are read as.
-unfoldable pub on_reading : List ℕ → (State → Outcome (List ℕ)) → Reading → Outcome (List ℕ)
-on_reading ws act (IsList s) = act (read ws)
-on_reading ws act NotAList = refused not_a_list ws
+unfoldable pub on_reading : List ℕ → (State → Outcome (List ℕ)) → Option Settings → Outcome (List ℕ)
+on_reading ws act (Some s) = act (read ws)
+on_reading ws act None = refused NotAList ws
 
 unfoldable pub on_list : List ℕ → (State → Outcome (List ℕ)) → Outcome (List ℕ)
 on_list ws act = on_reading ws act (reading_of ws)
 
 -- Refusal 4: key 0 or above K.
 unfoldable pub on_key : List ℕ → State → ℕ → Outcome (List ℕ) → Outcome (List ℕ)
-on_key ws s key done = cond (is_key s.settings.largest key) done (refused bad_key ws)
+on_key ws s key done = cond (is_key s.settings.largest key) done (refused BadKey ws)
 
 -- Looked 5: looked is over the keys that stand before the call; by the rule, Looked 4.
 unfoldable pub looked : State → ℕ → ℕ
@@ -45,13 +43,13 @@ unfoldable pub fresh : ℕ → ℕ → ℕ → State
 fresh D K C = record { settings = settings_of D K C; row = []; free = numbers_from 1 (C - 1); position = 0 }
 
 -- by what the checked constructor of the settings answers
-unfoldable pub set_up_by : List ℕ → Checked → Outcome (List ℕ)
-set_up_by ws (Accepted s) =
+unfoldable pub set_up_by : List ℕ → Option Settings → Outcome (List ℕ)
+set_up_by ws (Some s) =
     elim (eqb (length ws) (length_of s.dimensions s.cells)) [
       | true ↦ accepted 0 0 0 (picture (fresh s.dimensions s.largest s.cells))
-      | false ↦ refused wrong_length ws
+      | false ↦ refused WrongLength ws
     ]
-set_up_by ws OutOfRange = refused out_of_range ws
+set_up_by ws None = refused OutOfRange ws
 
 unfoldable pub set_up_out : ℕ → ℕ → ℕ → List ℕ → Outcome (List ℕ)
 set_up_out D K C ws = set_up_by ws (checked_of D K C)
@@ -72,12 +70,12 @@ with_row s row = record { settings = s.settings; row = row; free = s.free; posit
 
 -- The operations 4: the number of links moved, high minus low, or 0 if nothing was owed
 unfoldable pub links_moved : State → Option Place → ℕ
-links_moved s none = 0
-links_moved s (some x) = high s.settings.base s.settings.dimensions x - low x
+links_moved s None = 0
+links_moved s (Some x) = high s.settings.base s.settings.dimensions x - low x
 
 unfoldable pub finish_at : List ℕ → State → ℕ → Option Node → Outcome (List ℕ)
-finish_at ws s key none = refused (key_not_standing key) ws
-finish_at ws s key (some x) =
+finish_at ws s key None = refused (KeyNotStanding key) ws
+finish_at ws s key (Some x) =
     accepted key 0 (links_moved s (place_of x.cell (places_of s s.row))) (picture (with_row s (finished x.cell s.row)))
 
 -- The operations 4: finish answers the key and the links moved; the key may be dead.
@@ -87,8 +85,8 @@ finish_out ws key = on_list ws (λ s. on_key ws s key (finish_at ws s key (node_
 -- Find.
 
 unfoldable pub find_at : List ℕ → State → ℕ → Option Node → Outcome (List ℕ)
-find_at ws s key none = refused (key_not_live key (looked s key)) ws
-find_at ws s key (some x) = cond x.live (accepted key x.value (looked s key) ws) (refused (key_not_live key (looked s key)) ws)
+find_at ws s key None = refused (KeyNotLive key (looked s key)) ws
+find_at ws s key (Some x) = cond x.live (accepted key x.value (looked s key) ws) (refused (KeyNotLive key (looked s key)) ws)
 
 -- The operations 3: find answers the key's value and looked, and writes nothing.
 unfoldable pub find_out : List ℕ → ℕ → Outcome (List ℕ)
@@ -103,13 +101,13 @@ leads_to b D d c (x ∷ standing) = cond (eqb (settled_link b D x d) c) x.node.c
 
 -- the dimension of cell c
 unfoldable pub dimension_at : Option Place → ℕ
-dimension_at none = 0
-dimension_at (some x) = x.dimension
+dimension_at None = 0
+dimension_at (Some x) = x.dimension
 
 -- settled link d of a cell
 unfoldable pub settled_link_at : ℕ → ℕ → ℕ → Option Place → ℕ
-settled_link_at b D d none = 0
-settled_link_at b D d (some x) = settled_link b D x d
+settled_link_at b D d None = 0
+settled_link_at b D d (Some x) = settled_link b D x d
 
 -- How cells hang together 4: the parent of cell c in the settled shape of some standing cells
 unfoldable pub parent_in : State → ℕ → List Node → ℕ
@@ -159,13 +157,13 @@ added s key value t =
 
 unfoldable pub insert_new : List ℕ → State → ℕ → ℕ → Outcome (List ℕ)
 insert_new ws s key value =
-    cond (eqb (length s.free) 0) (refused (no_free_cell key (looked s key)) ws)
+    cond (eqb (length s.free) 0) (refused (NoFreeCell key (looked s key)) ws)
     (accepted key 0 (looked s key) (picture (added s key value (slot_for s key))))
 
 unfoldable pub insert_at : List ℕ → State → ℕ → ℕ → Option Node → Outcome (List ℕ)
-insert_at ws s key value none = insert_new ws s key value
-insert_at ws s key value (some x) =
-    cond x.live (refused (key_live key (looked s key)) ws) (accepted key 0 (looked s key) (picture (revived s x value)))
+insert_at ws s key value None = insert_new ws s key value
+insert_at ws s key value (Some x) =
+    cond x.live (refused (KeyLive key (looked s key)) ws) (accepted key 0 (looked s key) (picture (revived s x value)))
 
 -- The operations 2: insert answers the key and looked.
 unfoldable pub insert_out : List ℕ → ℕ → ℕ → Outcome (List ℕ)
@@ -200,7 +198,7 @@ taken s x =
     record { settings = s.settings; row = map (λ y. cond (eqb y.cell x.cell) (dead_node y) y) s.row; free = s.free; position = x.cell }
 
 unfoldable pub take_from : List ℕ → State → List Node → Outcome (List ℕ)
-take_from ws s [] = refused (nothing_live (keys_above (position_key s) s.row)) ws
+take_from ws s [] = refused (NothingLive (keys_above (position_key s) s.row)) ws
 take_from ws s (x ∷ later) = accepted x.key x.value (keys_passed (position_key s) x.key s.row) (picture (taken s x))
 
 -- The operations 5: take hands out the least live key.

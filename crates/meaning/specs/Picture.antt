@@ -1,7 +1,6 @@
 -- Every word of the buffer of a state: The words, How cells hang together, Debts, The position.
-use Rattle.std.specs.Prelude.{Bool, cond, ℕ, suc, ◌-◌, eqb, ltb, replicate}
+use Rattle.std.specs.Prelude.{Bool, cond, ℕ, suc, ◌-◌, eqb, ltb, replicate, Option, None, Some}
 use mathlib.Core.List.{List, [], ◌∷◌, ◌++◌, map, flat_map}
-use Rattle.std.proofs.Math.Option.{Option, none, some}
 use Rattle.settings.specs.Numbers.{cell_words}
 use Rattle.lists.specs.Lists.{numbers_from, first_number}
 use Rattle.meaning.specs.Keys.{shared}
@@ -30,8 +29,8 @@ free_words D next = next ∷ replicate (cell_words D - 1) 0
 
 -- the words of cell c: of a standing cell by its place, else of a free one
 unfoldable pub words_of : ℕ → ℕ → List ℕ → ℕ → Option Place → List ℕ
-words_of b D free c none = free_words D (next_free c free)
-words_of b D free c (some x) = standing_words b D x
+words_of b D free c None = free_words D (next_free c free)
+words_of b D free c (Some x) = standing_words b D x
 
 -- the first of some nodes that shares at least n coordinates with a key; 0 if there is none
 unfoldable pub first_with : ℕ → ℕ → ℕ → ℕ → List Node → ℕ

@@ -1,8 +1,7 @@
 -- What is promised of one call on a list, in one place: each statement with its sentence. proofs/Promises.antt proves every one of them, for
 -- every D, K and C in range at once. What is promised over sequences of calls is the page of the same name in crate calls.
-use Rattle.std.specs.Prelude.{◌≡◌, Bool, true, ◌||◌, ◌↔◌, ℕ, ◌+◌, ◌*◌, ◌-◌, ◌≤◌, ◌<◌, eqb, length, drop}
+use Rattle.std.specs.Prelude.{◌≡◌, Bool, true, ◌||◌, ◌↔◌, ℕ, ◌+◌, ◌*◌, ◌-◌, ◌≤◌, ◌<◌, eqb, length, drop, None, Some}
 use mathlib.Core.List.{List, ◌∷◌, map, reverse_aux}
-use Rattle.std.proofs.Math.Option.{none, some}
 use Rattle.lists.specs.Lists.{occurrences, first_number}
 use Rattle.lists.specs.Compared.{agreed, precedes}
 use Rattle.meaning.specs.Keys.{coordinates, shared}
@@ -119,13 +118,13 @@ TakeWrites =
 -- position's.
 abbrev pub ReviveWrites : Type 0
 ReviveWrites =
-    (ws : List ℕ) → is_list ws ≡ true → (key value : ℕ) → (node_at key (read ws).row ≡ none → ⊥)
+    (ws : List ℕ) → is_list ws ≡ true → (key value : ℕ) → (node_at key (read ws).row ≡ None → ⊥)
     → (insert_out ws key value).answered.refusal ≡ 0 → Revived ws (insert_out ws key value).left key value
 
 -- An insert of a key that does not stand: the parent, p, c, q and the links moved; every other word of a cell as before.
 abbrev pub InsertWrites : Type 0
 InsertWrites =
-    (ws : List ℕ) → is_list ws ≡ true → (key value : ℕ) → node_at key (read ws).row ≡ none
+    (ws : List ℕ) → is_list ws ≡ true → (key value : ℕ) → node_at key (read ws).row ≡ None
     → (insert_out ws key value).answered.refusal ≡ 0 → Inserted ws (insert_out ws key value).left key value (slot_for (read ws) key)
 
 -- A finish of a key that stands: its cell's debt is finished and no other.
@@ -164,13 +163,13 @@ SweptCellsFirst =
 -- .. and an insert of a key that does not stand uses the first cell of the chain.
 pub record UsesFirst (ws after : List ℕ) (key : ℕ) : Type 0 where
   pub node : Node
-  pub stands : node_at key (read after).row ≡ some node
+  pub stands : node_at key (read after).row ≡ Some node
   pub cell : node.cell ≡ first_number (read ws).free
   pub free : (read after).free ≡ drop 1 (read ws).free
 
 abbrev pub InsertUsesFirst : Type 0
 InsertUsesFirst =
-    (ws : List ℕ) → is_list ws ≡ true → (key value : ℕ) → node_at key (read ws).row ≡ none
+    (ws : List ℕ) → is_list ws ≡ true → (key value : ℕ) → node_at key (read ws).row ≡ None
     → (insert_out ws key value).answered.refusal ≡ 0 → UsesFirst ws (insert_out ws key value).left key
 
 -- 7. Key order is the lexicographic order of the coordinates; a key's coordinates determine it.
@@ -208,7 +207,7 @@ pub record FellBack (ws : List ℕ) (key value : ℕ) : Type 0 where
   pub taken : (take_out ws).answered ≡ answer 0 key value 1
   -- the parent of the key's cell is not above the position: a position there would have a take pass as much or more
   pub parent :
-      (x : Node) → node_at key (read ws).row ≡ some x → (k : ℕ) →
+      (x : Node) → node_at key (read ws).row ≡ Some x → (k : ℕ) →
       let parent = key_of (parent_in (read ws) x.cell (read ws).row) (head_node ∷ (read ws).row) in
       (parent ≤ position_key (read ws)) × (keys_passed (position_key (read ws)) k (read ws).row ≤ keys_passed parent k (read ws).row)
 

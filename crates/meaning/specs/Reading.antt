@@ -1,5 +1,5 @@
 -- The state that a buffer's words hold, and when a buffer is a list: A list 1.
-use Rattle.std.specs.Prelude.{Bool, true, false, cond, ◌&&◌, not, List, [], ◌∷◌, map, ℕ, zero, suc, ◌+◌, eqb, length, get_or, drop}
+use Rattle.std.specs.Prelude.{Bool, true, false, cond, ◌&&◌, not, List, [], ◌∷◌, map, ℕ, zero, suc, ◌+◌, eqb, length, get_or, drop, None, Option, Some}
 use Rattle.settings.specs.Numbers.{in_range, length_of, header_words, cell_words}
 use Rattle.settings.specs.declared.Settings.{Settings}
 use Rattle.lists.specs.Lists.{blocks, same}
@@ -8,8 +8,6 @@ use Rattle.meaning.specs.State.{State, valid}
 use Rattle.meaning.specs.Picture.{picture}
 use Rattle.meaning.specs.Words.{dimensions_at, largest_at, cells_at, base_at, first_free_at, position_at, key_field, value_field, mark_field, owed_field}
 use Rattle.meaning.specs.Words.{free_mark, live_mark}
-use Rattle.meaning.specs.declared.Reading.{Reading}
-use Rattle.meaning.specs.declared.Reading.TheVariants.{IsList, NotAList}
 
 -- The words 1: a standing cell by its words; it owes if its owed word is not 0
 abbrev pub node_of : ℕ → List ℕ → Node
@@ -64,5 +62,5 @@ unfoldable pub is_list : List ℕ → Bool
 is_list ws = elim (sized ws) [ true ↦ valid (read ws) && same (picture (read ws)) ws | false ↦ false ]
 
 -- what the words are read as: a list with its settings, or no list
-unfoldable pub reading_of : List ℕ → Reading
-reading_of ws = cond (is_list ws) (IsList (settings_at ws)) NotAList
+unfoldable pub reading_of : List ℕ → Option Settings
+reading_of ws = cond (is_list ws) (Some (settings_at ws)) None

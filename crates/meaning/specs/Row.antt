@@ -1,6 +1,5 @@
 -- The standing cells in the order of their keys, their dimensions, their settled links and their debts: How cells hang together, Debts.
-use Rattle.std.specs.Prelude.{Bool, false, cond, ◌&&◌, List, [], ◌∷◌, ℕ, eqb, leb, ltb}
-use Rattle.std.proofs.Math.Option.{Option, none, some}
+use Rattle.std.specs.Prelude.{Bool, false, cond, ◌&&◌, List, [], ◌∷◌, ℕ, eqb, leb, ltb, Option, None, Some}
 use Rattle.lists.specs.Lists.{those}
 use Rattle.meaning.specs.Keys.{shared}
 
@@ -85,13 +84,13 @@ link b D x d =
 
 -- the place of the standing cell with number c
 unfoldable pub place_of : ℕ → List Place → Option Place
-place_of c [] = none
-place_of c (p ∷ ps) = cond (eqb p.node.cell c) (some p) (place_of c ps)
+place_of c [] = None
+place_of c (p ∷ ps) = cond (eqb p.node.cell c) (Some p) (place_of c ps)
 
 -- the standing cell with a key
 unfoldable pub node_at : ℕ → List Node → Option Node
-node_at key [] = none
-node_at key (x ∷ row) = cond (eqb x.key key) (some x) (node_at key row)
+node_at key [] = None
+node_at key (x ∷ row) = cond (eqb x.key key) (Some x) (node_at key row)
 
 -- the standing cell of next smaller key than a key; the head if there is no other
 abbrev pub smaller_than : ℕ → List Node → Node

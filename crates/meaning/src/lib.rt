@@ -1,15 +1,6 @@
-// The types that the definitions and the code share: what a buffer is read as, one step of the walk, where it comes to rest, and the slot of a
+// The types that the definitions and the code share: one step of the walk, where it comes to rest, and the slot of a
 // new cell.
 #![tactic(auto)]
-
-use settings::Settings;
-
-// What a buffer is read as: a list with its settings, or none, which is refused by number 3.
-#[derive(Clone, Copy)]
-pub enum Reading {
-    IsList(Settings),
-    NotAList,
-}
 
 // One step of the walk, from a cell and a coordinate: along the cell's link to a cell, up by one coordinate, or the walk's end.
 #[derive(Clone, Copy)]

@@ -16,11 +16,10 @@ fn write_links(part: &mut [u32], q: u32, c: u32)
     requires { (c ≡ 0 → ⊥) → q < length part.old }
     ensures { part.new ≡ new_links (length part.old) q c }
 {
-    lists::fill(part, 0);
-    if c == 0 {
-        return;
+    part.fill(0);
+    if c != 0 {
+        part[q as usize] = c;
     }
-    part[q as usize] = c;
 }
 
 // Owed, low and high of cell n.
@@ -43,9 +42,9 @@ fn write_fields(list: &mut [u32], s: Settings, t: Slot, key: u32, value: u32)
     words::store(list, s, t.n, words::MARK, words::LIVE);
     if t.p < t.q {
         write_debt(list, s, t.n, t.c, t.p, t.q);
-        return;
+    } else {
+        write_debt(list, s, t.n, 0, 0, 0);
     }
-    write_debt(list, s, t.n, 0, 0, 0);
 }
 
 // The links of cell n become those of a new cell.

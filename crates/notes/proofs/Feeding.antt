@@ -1,5 +1,6 @@
 -- The feed hands on what the records of an export note, however the export is cut into parts: what it knows of the record begun is what its
 -- bytes say, and each byte keeps that so.
+use Rattle.std.specs.Prelude.{None, Option, Some}
 use mathlib.Core.Path.{◌≡◌, refl, sym, ◌∙◌, ap}
 use mathlib.Core.Bool.{Bool, true, false, cond, ◌&&◌, not}
 use mathlib.Core.List.{List, [], ◌∷◌, ◌++◌, map, flatten, append_assoc}
@@ -14,12 +15,10 @@ use Rattle.notes.specs.Reader.{reader_from, reader_on, reader_after, note_at}
 use Rattle.notes.specs.Export.{even_quotes, ends_in_return, closes, records_after, records_of, notes_of}
 use Rattle.notes.specs.Feeding.{begun_after, handed_by, handed_at_end, record_handing, is_begun, feed_of, Holds, Stepped, FeedEnded, told_in}
 use Rattle.notes.specs.Promises.{ExportInParts}
-use Rattle.notes.specs.declared.Logged.{Logged}
+use Rattle.notes.specs.Notes.{Logged}
 use Rattle.notes.specs.declared.Reader.{Reader}
 use Rattle.notes.specs.declared.feed.Feed.{Feed}
 use Rattle.notes.specs.declared.feed.Fed.{Fed}
-use Rattle.notes.specs.declared.feed.Told.{Told}
-use Rattle.notes.specs.declared.feed.Told.TheVariants.{NoRecord, Record}
 use Rattle.notes.proofs.Notes.{reader_notes}
 
 -- An export
@@ -142,7 +141,7 @@ module _ (begun : List ℕ) (byte : ℕ) where
 module _ {feed : Feed} {byte : ℕ} {reader : Reader} where
   pub steps_closed :
       {logged : Logged} {next : Feed} → eqb byte line_feed && (feed.returned && feed.even) ≡ true → reader ≡ reader_on feed.reader byte →
-      next ≡ feed_of [] → logged ≡ note_at reader → Stepped feed byte (record { feed = next; told = Record logged })
+      next ≡ feed_of [] → logged ≡ note_at reader → Stepped feed byte (record { feed = next; told = Some logged })
   steps_closed test read starts notes =
       record {
         begun = λ begun is. starts ∙ ap feed_of (sym (closed_begun begun byte (feed_closing begun byte is test)));
@@ -157,7 +156,7 @@ module _ {feed : Feed} {byte : ℕ} {reader : Reader} where
       even ≡ cond (eqb byte quote) (not feed.even) feed.even →
       Stepped feed byte (record {
         feed = record { reader = reader; even = even; returned = eqb byte carriage_return; begun = true };
-        told = NoRecord;
+        told = None;
       })
   steps_open test read evens =
       record {
@@ -167,7 +166,7 @@ module _ {feed : Feed} {byte : ℕ} {reader : Reader} where
       }
 
 module _ {feed : Feed} where
-  pub begun_ends : {logged : Logged} → feed.begun ≡ true → logged ≡ note_at feed.reader → FeedEnded feed (Record logged)
+  pub begun_ends : {logged : Logged} → feed.begun ≡ true → logged ≡ note_at feed.reader → FeedEnded feed (Some logged)
   unfolding feed_of handed_at_end
   begun_ends {logged} some notes = record { told = at }
     where
@@ -175,12 +174,12 @@ module _ {feed : Feed} where
       at [] is = let never : true ≡ false = sym some ∙ ap (λ (f : Feed). f.begun) is in cc
       at (b ∷ begun) is = ap (λ (l : Logged). l ∷ []) (notes ∙ (ap (λ (f : Feed). note_at f.reader) is ∙ reader_notes (b ∷ begun)))
 
-  pub none_ends : feed.begun ≡ false → FeedEnded feed NoRecord
+  pub none_ends : feed.begun ≡ false → FeedEnded feed None
   none_ends none = record { told = λ begun is. sym (nothing_begun begun (ap (λ (f : Feed). f.begun) (sym is) ∙ none)) }
 
 -- `feed_byte` was called with each byte of an export, one after the other, and then `finish`; `told` is what they told of, in order.
 pub data Run : Feed → List ℕ → List Logged → Type 0 where
-  ends : {feed : Feed} {r : Told} {told : List Logged} → FeedEnded feed r → told ≡ told_in r → Run feed [] told
+  ends : {feed : Feed} {r : Option Logged} {told : List Logged} → FeedEnded feed r → told ≡ told_in r → Run feed [] told
   goes :
       {feed : Feed} {byte : ℕ} {r : Fed} {export : List ℕ} {told more : List Logged} →
       Stepped feed byte r → Run r.feed export more → told ≡ told_in r.told ++ more → Run feed (byte ∷ export) told

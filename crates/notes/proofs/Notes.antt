@@ -1,5 +1,6 @@
 -- The reading of a record byte by byte notes what the record's fields say: the bytes of a field take its place on as far as its digits do, and
 -- from place to place the five fields are gone through.
+use Rattle.std.specs.Prelude.{None, Some}
 use mathlib.Core.Path.{◌≡◌, refl, ◌∙◌}
 use mathlib.Core.Bool.{Bool, true, false, cond, ◌&&◌}
 use mathlib.Core.List.{List, [], ◌∷◌}
@@ -9,7 +10,6 @@ use Rattle.text.specs.Fields.{decimal_from, is_number}
 use Rattle.text.specs.Answers.{digit_on, digits_on, ended_at, number_of}
 use Rattle.text.specs.declared.fields.Begun.{Begun}
 use Rattle.text.specs.declared.fields.Begun.TheVariants.{NoDigit}
-use Rattle.text.specs.declared.fields.Numeral.TheVariants.{Value, Unreadable}
 use Rattle.text.proofs.Numerals.{number_by_digits, number_within}
 use Rattle.entries.specs.Entries.{least_class, most_class, least_unit, most_unit, least_serial, most_serial, is_class, is_unit, is_serial, entry_of, entry}
 use Rattle.entries.specs.declared.Entry.{Entry}
@@ -22,8 +22,7 @@ use Rattle.records.specs.declared.Adds.TheVariants.{ItsByte, AField, NoPart}
 use Rattle.notes.specs.Notes.{least_number, most_number, is_logger_number, five_fields, note_of, note_by, Within}
 use Rattle.notes.specs.Reader.{place_on, past, place_after, place_by, reader_from, reader_on, reader_after, numbered, note_in, note_at}
 use Rattle.notes.specs.Promises.{NotesWithin}
-use Rattle.notes.specs.declared.Logged.{Logged}
-use Rattle.notes.specs.declared.Logged.TheVariants.{Note, NoNote}
+use Rattle.notes.specs.Notes.{Logged}
 use Rattle.notes.specs.declared.Place.{Place}
 use Rattle.notes.specs.declared.Place.TheVariants.{AtClass, AtUnit, AtSerial, AtText, AtNumber, NoPlace}
 use Rattle.notes.specs.declared.Reader.{Reader}
@@ -36,13 +35,13 @@ place_over = after_all place_on
 
 -- what fields note from a place on, the first of them being what is left of the field at hand
 unfoldable note_from : Place → List (List ℕ) → Logged
-note_from place [] = NoNote
+note_from place [] = None
 note_from place (field ∷ []) = note_in (place_over place field)
 note_from place (field ∷ next ∷ values) = note_from (place_after (place_over place field)) (next ∷ values)
 
 abbrev said_from_place : Place → Said → Logged
 said_from_place place (fields values) = note_from place values
-said_from_place place no_record = NoNote
+said_from_place place no_record = None
 
 -- there is always a field
 abbrev SomeField : Said → Type 0
@@ -85,7 +84,7 @@ reader_says : (bytes : List ℕ) (reader : Reader) → note_at (reader_after rea
 unfolding after_all reader_on said_from note_at note_from
 reader_says [] reader = at (may_end reader.stand)
   where
-    at : (t : Bool) → cond t (note_in reader.place) NoNote ≡ said_from_place reader.place (cond t (fields ([] ∷ [])) no_record)
+    at : (t : Bool) → cond t (note_in reader.place) None ≡ said_from_place reader.place (cond t (fields ([] ∷ [])) no_record)
     at true = refl
     at false = refl
 reader_says (byte ∷ bytes) reader =
@@ -126,7 +125,7 @@ unfolding after_all place_on
 none_over [] = refl
 none_over (byte ∷ field) = none_over field
 
-no_place : (values : List (List ℕ)) → note_from NoPlace values ≡ NoNote
+no_place : (values : List (List ℕ)) → note_from NoPlace values ≡ None
 unfolding note_from note_in place_after
 no_place [] = refl
 no_place (field ∷ []) = rw (none_over field) refl
@@ -136,14 +135,14 @@ no_place (field ∷ next ∷ values) = rw (none_over field) (no_place (next ∷ 
 past_number :
     (least most : ℕ) (field : List ℕ) (place : ℕ → Place) (values : List (List ℕ)) →
     note_from (past (ended_at least (digits_on most NoDigit field)) place) values ≡
-    cond (is_number least most field) (note_from (place (decimal_from 0 field)) values) NoNote
+    cond (is_number least most field) (note_from (place (decimal_from 0 field)) values) None
 unfolding number_of
 past_number least most field place values = rw (number_by_digits least most field) (at (is_number least most field))
   where
     at :
         (t : Bool) →
-        note_from (past (cond t (Value (decimal_from 0 field)) Unreadable) place) values ≡
-        cond t (note_from (place (decimal_from 0 field)) values) NoNote
+        note_from (past (cond t (Some (decimal_from 0 field)) None) place) values ≡
+        cond t (note_from (place (decimal_from 0 field)) values) None
     at true = refl
     at false = no_place values
 
@@ -151,7 +150,7 @@ module _ (next : List ℕ) (values : List (List ℕ)) where
   past_class :
       (class : List ℕ) →
       note_from (AtClass NoDigit) (class ∷ next ∷ values) ≡
-      cond (is_class class) (note_from (AtUnit (decimal_from 0 class) NoDigit) (next ∷ values)) NoNote
+      cond (is_class class) (note_from (AtUnit (decimal_from 0 class) NoDigit) (next ∷ values)) None
   unfolding note_from place_after
   past_class class =
       rw (class_over NoDigit class) (past_number least_class most_class class (λ n. AtUnit n NoDigit) (next ∷ values))
@@ -159,7 +158,7 @@ module _ (next : List ℕ) (values : List (List ℕ)) where
   past_unit :
       (class : ℕ) (unit : List ℕ) →
       note_from (AtUnit class NoDigit) (unit ∷ next ∷ values) ≡
-      cond (is_unit unit) (note_from (AtSerial class (decimal_from 0 unit) NoDigit) (next ∷ values)) NoNote
+      cond (is_unit unit) (note_from (AtSerial class (decimal_from 0 unit) NoDigit) (next ∷ values)) None
   unfolding note_from place_after
   past_unit class unit =
       rw (unit_over class NoDigit unit) (past_number least_unit most_unit unit (λ n. AtSerial class n NoDigit) (next ∷ values))
@@ -167,7 +166,7 @@ module _ (next : List ℕ) (values : List (List ℕ)) where
   past_serial :
       (class unit : ℕ) (serial : List ℕ) →
       note_from (AtSerial class unit NoDigit) (serial ∷ next ∷ values) ≡
-      cond (is_serial serial) (note_from (AtText (entry_of class unit (decimal_from 0 serial))) (next ∷ values)) NoNote
+      cond (is_serial serial) (note_from (AtText (entry_of class unit (decimal_from 0 serial))) (next ∷ values)) None
   unfolding note_from place_after
   past_serial class unit serial =
       rw (serial_over class unit NoDigit serial)
@@ -177,45 +176,45 @@ module _ (next : List ℕ) (values : List (List ℕ)) where
   unfolding note_from place_after
   past_text e text = rw (text_over e text) refl
 
-  past_fifth : (e : Entry) (number : List ℕ) → note_from (AtNumber e NoDigit) (number ∷ next ∷ values) ≡ NoNote
+  past_fifth : (e : Entry) (number : List ℕ) → note_from (AtNumber e NoDigit) (number ∷ next ∷ values) ≡ None
   unfolding note_from place_after
   past_fifth e number = rw (number_over e NoDigit number) (no_place (next ∷ values))
 
 -- the fifth field
 last_number :
     (e : Entry) (number : List ℕ) →
-    note_from (AtNumber e NoDigit) (number ∷ []) ≡ cond (is_logger_number number) (Note e (decimal_from 0 number)) NoNote
+    note_from (AtNumber e NoDigit) (number ∷ []) ≡ cond (is_logger_number number) (Some (e, decimal_from 0 number)) None
 unfolding note_from note_in number_of
 last_number e number =
     rw (number_over e NoDigit number, number_by_digits least_number most_number number) (at (is_logger_number number))
   where
-    at : (t : Bool) → numbered e (cond t (Value (decimal_from 0 number)) Unreadable) ≡ cond t (Note e (decimal_from 0 number)) NoNote
+    at : (t : Bool) → numbered e (cond t (Some (decimal_from 0 number)) None) ≡ cond t (Some (e, decimal_from 0 number)) None
     at true = refl
     at false = refl
 
 -- a field before it that is the last one
 module _ (field : List ℕ) where
-  last_class : note_from (AtClass NoDigit) (field ∷ []) ≡ NoNote
+  last_class : note_from (AtClass NoDigit) (field ∷ []) ≡ None
   unfolding note_from note_in
   last_class = rw (class_over NoDigit field) refl
 
-  last_unit : (class : ℕ) → note_from (AtUnit class NoDigit) (field ∷ []) ≡ NoNote
+  last_unit : (class : ℕ) → note_from (AtUnit class NoDigit) (field ∷ []) ≡ None
   unfolding note_from note_in
   last_unit class = rw (unit_over class NoDigit field) refl
 
-  last_serial : (class unit : ℕ) → note_from (AtSerial class unit NoDigit) (field ∷ []) ≡ NoNote
+  last_serial : (class unit : ℕ) → note_from (AtSerial class unit NoDigit) (field ∷ []) ≡ None
   unfolding note_from note_in
   last_serial class unit = rw (serial_over class unit NoDigit field) refl
 
-  last_text : (e : Entry) → note_from (AtText e) (field ∷ []) ≡ NoNote
+  last_text : (e : Entry) → note_from (AtText e) (field ∷ []) ≡ None
   unfolding note_from note_in
   last_text e = rw (text_over e field) refl
 
-either : (t : Bool) → cond t NoNote NoNote ≡ NoNote
+either : (t : Bool) → cond {A = Logged} t None None ≡ None
 either true = refl
 either false = refl
 
-both : (t u : Bool) (x : Logged) → cond t (cond u x NoNote) NoNote ≡ cond (t && u) x NoNote
+both : (t u : Bool) (x : Logged) → cond t (cond u x None) None ≡ cond (t && u) x None
 both true u x = refl
 both false u x = refl
 
@@ -245,10 +244,10 @@ from_the_first (class ∷ unit ∷ serial ∷ text ∷ number ∷ []) =
       past_serial text (number ∷ []) (decimal_from 0 class) (decimal_from 0 unit) serial,
       past_text number [] (entry class unit serial) text,
       last_number (entry class unit serial) number,
-      both (is_serial serial) (is_logger_number number) (Note (entry class unit serial) (decimal_from 0 number)),
-      both (is_unit unit) (is_serial serial && is_logger_number number) (Note (entry class unit serial) (decimal_from 0 number)),
+      both (is_serial serial) (is_logger_number number) (Some (entry class unit serial, decimal_from 0 number)),
+      both (is_unit unit) (is_serial serial && is_logger_number number) (Some (entry class unit serial, decimal_from 0 number)),
     )
-    (both (is_class class) (is_unit unit && (is_serial serial && is_logger_number number)) (Note (entry class unit serial) (decimal_from 0 number)))
+    (both (is_class class) (is_unit unit && (is_serial serial && is_logger_number number)) (Some (entry class unit serial, decimal_from 0 number)))
 from_the_first (class ∷ unit ∷ serial ∷ text ∷ number ∷ further ∷ values) =
     past_class unit (serial ∷ text ∷ number ∷ further ∷ values) class ∙
     rw (
@@ -272,11 +271,11 @@ reader_notes bytes = reader_says bytes reader_from ∙ at (said_from AtField byt
 
 -- A note's entry and number are in range.
 
-both_within : (t u : Bool) (x : Logged) → (t ≡ true → Within (cond u x NoNote)) → Within (cond (t && u) x NoNote)
+both_within : (t u : Bool) (x : Logged) → (t ≡ true → Within (cond u x None)) → Within (cond (t && u) x None)
 both_within true u x h = h refl
 both_within false u x h = tt
 
-one_within : (t : Bool) (x : Logged) → (t ≡ true → Within x) → Within (cond t x NoNote)
+one_within : (t : Bool) (x : Logged) → (t ≡ true → Within x) → Within (cond t x None)
 one_within true x h = h refl
 one_within false x h = tt
 

@@ -3,7 +3,7 @@ use Rattle.std.specs.Prelude.{Bool, true, false, cond, ◌&&◌, not, List, [], 
 use Rattle.text.specs.Lines.{line_feed}
 use Rattle.records.specs.Grammar.{quote, carriage_return}
 use Rattle.notes.specs.Notes.{note_by}
-use Rattle.notes.specs.declared.Logged.{Logged}
+use Rattle.notes.specs.Notes.{Logged}
 
 -- an even number of quotes
 unfoldable pub even_quotes : List ℕ → Bool

@@ -1,14 +1,12 @@
 -- The feed: what is known of a record while its bytes come in, and what each byte hands on.
-use Rattle.std.specs.Prelude.{◌≡◌, Bool, true, false, cond, List, [], ◌∷◌, ◌++◌, ℕ}
+use Rattle.std.specs.Prelude.{◌≡◌, Bool, true, false, cond, List, [], ◌∷◌, ◌++◌, ℕ, None, Option, Some}
 use Rattle.text.specs.Parts.{Handing}
 use Rattle.notes.specs.Notes.{note_by, Within}
 use Rattle.notes.specs.Reader.{reader_from, reader_after}
 use Rattle.notes.specs.Export.{even_quotes, ends_in_return, closes}
-use Rattle.notes.specs.declared.Logged.{Logged}
+use Rattle.notes.specs.Notes.{Logged}
 use Rattle.notes.specs.declared.feed.Feed.{Feed}
 use Rattle.notes.specs.declared.feed.Fed.{Fed}
-use Rattle.notes.specs.declared.feed.Told.{Told}
-use Rattle.notes.specs.declared.feed.Told.TheVariants.{NoRecord, Record}
 
 -- the record begun after one byte of the export
 unfoldable pub begun_after : List ℕ → ℕ → List ℕ
@@ -42,14 +40,14 @@ abbrev pub Holds : Feed → List ℕ → Type 0
 Holds feed begun = feed ≡ feed_of begun
 
 -- what is told of
-abbrev pub told_in : Told → List Logged
-told_in NoRecord = []
-told_in (Record logged) = logged ∷ []
+abbrev pub told_in : Option Logged → List Logged
+told_in None = []
+told_in (Some logged) = logged ∷ []
 
 -- what is told of is in range
-abbrev pub ToldWithin : Told → Type 0
-ToldWithin NoRecord = Unit {0}
-ToldWithin (Record logged) = Within logged
+abbrev pub ToldWithin : Option Logged → Type 0
+ToldWithin None = Unit {0}
+ToldWithin (Some logged) = Within logged
 
 -- A byte takes a feed one step on, whatever record is begun.
 pub record Stepped (feed : Feed) (byte : ℕ) (r : Fed) : Type 0 where
@@ -57,5 +55,5 @@ pub record Stepped (feed : Feed) (byte : ℕ) (r : Fed) : Type 0 where
   pub told : (begun : List ℕ) → Holds feed begun → told_in r.told ≡ handed_by begun byte
 
 -- The end of the export.
-pub record FeedEnded (feed : Feed) (r : Told) : Type 0 where
+pub record FeedEnded (feed : Feed) (r : Option Logged) : Type 0 where
   pub told : (begun : List ℕ) → Holds feed begun → told_in r ≡ handed_at_end begun

@@ -1,11 +1,13 @@
 -- What a record notes: an entry, and the number that the logger gave it.
-use Rattle.std.specs.Prelude.{Bool, cond, ◌&&◌, List, [], ◌∷◌, ℕ, ◌≤◌}
+use Rattle.std.specs.Prelude.{Bool, cond, ◌&&◌, List, [], ◌∷◌, ℕ, ◌≤◌, None, Option, Some}
 use Rattle.text.specs.Fields.{decimal_from, is_number}
 use Rattle.entries.specs.Entries.{is_class, is_unit, is_serial, entry, InRange}
 use Rattle.entries.specs.declared.Entry.{Entry}
 use Rattle.records.specs.Reading.{Said, fields, no_record, said_by}
-use Rattle.notes.specs.declared.Logged.{Logged}
-use Rattle.notes.specs.declared.Logged.TheVariants.{Note, NoNote}
+
+-- What a record notes: an entry and the logger's number; nothing where it breaks the grammar or a field's range.
+abbrev pub Logged : Type 0
+Logged = Option (Entry × ℕ)
 
 -- The logger's number has 16 bits.
 abbrev pub least_number : ℕ
@@ -19,19 +21,19 @@ is_logger_number field = is_number least_number most_number field
 
 -- Exactly five fields: class, unit, serial, text, logger number. The text may be any.
 unfoldable pub five_fields : List (List ℕ) → Logged
-five_fields [] = NoNote
-five_fields (class ∷ []) = NoNote
-five_fields (class ∷ unit ∷ []) = NoNote
-five_fields (class ∷ unit ∷ serial ∷ []) = NoNote
-five_fields (class ∷ unit ∷ serial ∷ text ∷ []) = NoNote
+five_fields [] = None
+five_fields (class ∷ []) = None
+five_fields (class ∷ unit ∷ []) = None
+five_fields (class ∷ unit ∷ serial ∷ []) = None
+five_fields (class ∷ unit ∷ serial ∷ text ∷ []) = None
 five_fields (class ∷ unit ∷ serial ∷ text ∷ number ∷ []) =
     cond (is_class class && (is_unit unit && (is_serial serial && is_logger_number number)))
-    (Note (entry class unit serial) (decimal_from 0 number)) NoNote
-five_fields (class ∷ unit ∷ serial ∷ text ∷ number ∷ further ∷ values) = NoNote
+    (Some (entry class unit serial, decimal_from 0 number)) None
+five_fields (class ∷ unit ∷ serial ∷ text ∷ number ∷ further ∷ values) = None
 
 abbrev pub note_of : Said → Logged
 note_of (fields values) = five_fields values
-note_of no_record = NoNote
+note_of no_record = None
 
 -- what the bytes of a record note
 unfoldable pub note_by : List ℕ → Logged
@@ -43,5 +45,5 @@ pub record NoteWithin (e : Entry) (n : ℕ) : Type 0 where
   pub number : n ≤ most_number
 
 abbrev pub Within : Logged → Type 0
-Within (Note e number) = NoteWithin e number
-Within NoNote = Unit {0}
+Within (Some (e, number)) = NoteWithin e number
+Within None = Unit {0}

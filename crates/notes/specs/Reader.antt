@@ -1,10 +1,8 @@
 -- The reading of a record's five fields byte by byte: what is known so far, and what a byte makes of it. No byte need be kept.
-use Rattle.std.specs.Prelude.{cond, List, ℕ}
+use Rattle.std.specs.Prelude.{cond, List, ℕ, None, Option, Some}
 use Rattle.text.specs.Parts.{after_all}
 use Rattle.text.specs.Answers.{digit_on, ended_at}
 use Rattle.text.specs.declared.fields.Begun.TheVariants.{NoDigit}
-use Rattle.text.specs.declared.fields.Numeral.{Numeral}
-use Rattle.text.specs.declared.fields.Numeral.TheVariants.{Value, Unreadable}
 use Rattle.entries.specs.Entries.{least_class, most_class, least_unit, most_unit, least_serial, most_serial, entry_of}
 use Rattle.entries.specs.declared.Entry.{Entry}
 use Rattle.records.specs.Reading.{step_on, may_end}
@@ -12,8 +10,7 @@ use Rattle.records.specs.declared.Stand.TheVariants.{AtField}
 use Rattle.records.specs.declared.Adds.{Adds}
 use Rattle.records.specs.declared.Adds.TheVariants.{ItsByte, AField, NoPart}
 use Rattle.notes.specs.Notes.{least_number, most_number}
-use Rattle.notes.specs.declared.Logged.{Logged}
-use Rattle.notes.specs.declared.Logged.TheVariants.{Note, NoNote}
+use Rattle.notes.specs.Notes.{Logged}
 use Rattle.notes.specs.declared.Place.{Place}
 use Rattle.notes.specs.declared.Place.TheVariants.{AtClass, AtUnit, AtSerial, AtText, AtNumber, NoPlace}
 use Rattle.notes.specs.declared.Reader.{Reader}
@@ -28,9 +25,9 @@ place_on (AtNumber e begun) byte = AtNumber e (digit_on most_number begun byte)
 place_on NoPlace byte = NoPlace
 
 -- a field that has to be a number, and the place after it
-abbrev pub past : Numeral → (ℕ → Place) → Place
-past (Value n) place = place n
-past Unreadable place = NoPlace
+abbrev pub past : Option ℕ → (ℕ → Place) → Place
+past (Some n) place = place n
+past None place = NoPlace
 
 -- the field at hand has ended, and another begins
 unfoldable pub place_after : Place → Place
@@ -59,19 +56,19 @@ reader_on reader byte =
 abbrev pub reader_after : Reader → List ℕ → Reader
 reader_after = after_all reader_on
 
-abbrev pub numbered : Entry → Numeral → Logged
-numbered e (Value number) = Note e number
-numbered e Unreadable = NoNote
+abbrev pub numbered : Entry → Option ℕ → Logged
+numbered e (Some number) = Some (e, number)
+numbered e None = None
 
 -- what a record notes whose last field ends here
 unfoldable pub note_in : Place → Logged
-note_in (AtClass begun) = NoNote
-note_in (AtUnit class begun) = NoNote
-note_in (AtSerial class unit begun) = NoNote
-note_in (AtText e) = NoNote
+note_in (AtClass begun) = None
+note_in (AtUnit class begun) = None
+note_in (AtSerial class unit begun) = None
+note_in (AtText e) = None
 note_in (AtNumber e begun) = numbered e (ended_at least_number begun)
-note_in NoPlace = NoNote
+note_in NoPlace = None
 
 -- what a record notes that ends here
 unfoldable pub note_at : Reader → Logged
-note_at reader = cond (may_end reader.stand) (note_in reader.place) NoNote
+note_at reader = cond (may_end reader.stand) (note_in reader.place) None

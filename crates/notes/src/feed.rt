@@ -17,18 +17,11 @@ pub struct Feed {
     pub begun: bool,
 }
 
-// What a byte, or the end of the export, ends: no record, or a record that notes this.
-#[derive(Clone, Copy)]
-pub enum Told {
-    NoRecord,
-    Record(Logged),
-}
-
-// What one byte leads to: the feed for the next byte, and what it ends.
+// What one byte leads to: the feed for the next byte, and what the record notes that it ends, if it ends one.
 #[derive(Clone, Copy)]
 pub struct Fed {
     pub feed: Feed,
-    pub told: Told,
+    pub told: Option<Logged>,
 }
 
 // At the start of the export, and after each record.
@@ -75,7 +68,7 @@ pub fn feed_byte(feed: Feed, byte: u8) -> Fed
     if closes(feed, byte) {
         return Fed {
             feed: start(),
-            told: Told::Record(super::note_at(reader)),
+            told: Some(super::note_at(reader)),
         };
     }
     Fed {
@@ -85,17 +78,17 @@ pub fn feed_byte(feed: Feed, byte: u8) -> Fed
             returned: byte == records::CARRIAGE_RETURN,
             begun: true,
         },
-        told: Told::NoRecord,
+        told: None,
     }
 }
 
-// The end of the export: a record begun counts, and there is none where nothing follows the last one.
-pub fn finish(feed: Feed) -> Told
+// The end of the export: what the record begun notes; none where nothing follows the last one.
+pub fn finish(feed: Feed) -> Option<Logged>
     ensures { FeedEnded feed result }
 {
     let reader = feed.reader;
     if feed.begun {
-        return Told::Record(super::note_at(reader));
+        return Some(super::note_at(reader));
     }
-    Told::NoRecord
+    None
 }

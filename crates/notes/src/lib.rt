@@ -11,14 +11,10 @@ ghost use Rattle.notes.specs.Reader.{place_on, place_after, place_by, reader_fro
 
 use entries::Entry;
 use records::{Adds, Stand};
-use text::fields::{Begun, Numeral};
+use text::fields::Begun;
 
 // What a record notes: an entry and the logger's number; or nothing, since it breaks the grammar or a field's range.
-#[derive(Clone, Copy)]
-pub enum Logged {
-    Note(Entry, u32),
-    NoNote,
-}
+pub type Logged = Option<(Entry, u32)>;
 
 // The field that the reading is in, with what the fields before it said and what is known of its own number.
 #[derive(Clone, Copy)]
@@ -87,7 +83,7 @@ fn place_on(place: Place, byte: u8) -> Place
 fn after_class(begun: Begun) -> Place
     ensures { result ≡ place_after (AtClass begun) }
 {
-    let Numeral::Value(class) = text::fields::ended_at(begun, entries::LEAST_CLASS) else {
+    let Some(class) = text::fields::ended_at(begun, entries::LEAST_CLASS) else {
         return Place::NoPlace;
     };
     Place::AtUnit(class, Begun::NoDigit)
@@ -96,7 +92,7 @@ fn after_class(begun: Begun) -> Place
 fn after_unit(class: u32, begun: Begun) -> Place
     ensures { result ≡ place_after (AtUnit class begun) }
 {
-    let Numeral::Value(unit) = text::fields::ended_at(begun, entries::LEAST_UNIT) else {
+    let Some(unit) = text::fields::ended_at(begun, entries::LEAST_UNIT) else {
         return Place::NoPlace;
     };
     Place::AtSerial(class, unit, Begun::NoDigit)
@@ -105,7 +101,7 @@ fn after_unit(class: u32, begun: Begun) -> Place
 fn after_serial(class: u32, unit: u32, begun: Begun) -> Place
     ensures { result ≡ place_after (AtSerial class unit begun) }
 {
-    let Numeral::Value(serial) = text::fields::ended_at(begun, entries::LEAST_SERIAL) else {
+    let Some(serial) = text::fields::ended_at(begun, entries::LEAST_SERIAL) else {
         return Place::NoPlace;
     };
     Place::AtText(entries::entry_of(class, unit, serial))
@@ -153,10 +149,8 @@ pub fn reader_on(reader: Reader, byte: u8) -> Reader
 fn numbered(e: Entry, begun: Begun) -> Logged
     ensures { result ≡ note_in (AtNumber e begun) }
 {
-    let Numeral::Value(number) = text::fields::ended_at(begun, LEAST_NUMBER) else {
-        return Logged::NoNote;
-    };
-    Logged::Note(e, number)
+    let number = text::fields::ended_at(begun, LEAST_NUMBER)?;
+    Some((e, number))
 }
 
 // What a record notes whose last field ends here.
@@ -164,12 +158,12 @@ fn note_in(place: Place) -> Logged
     ensures { result ≡ note_in place }
 {
     match place {
-        Place::AtClass(_) => return Logged::NoNote,
-        Place::AtUnit(_, _) => return Logged::NoNote,
-        Place::AtSerial(_, _, _) => return Logged::NoNote,
-        Place::AtText(_) => return Logged::NoNote,
+        Place::AtClass(_) => return None,
+        Place::AtUnit(_, _) => return None,
+        Place::AtSerial(_, _, _) => return None,
+        Place::AtText(_) => return None,
         Place::AtNumber(e, begun) => return numbered(e, begun),
-        Place::NoPlace => return Logged::NoNote,
+        Place::NoPlace => return None,
     }
 }
 
@@ -182,7 +176,7 @@ pub fn note_at(reader: Reader) -> Logged
     if records::may_end(stand) {
         return note_in(place);
     }
-    Logged::NoNote
+    None
 }
 
 // What the bytes of a record note.

@@ -1,8 +1,8 @@
 -- No line of the program is answered 4: what each operation answers follows from the book, an entry's key is from 1 to K, and K stays as it is.
+use Rattle.std.specs.Prelude.{Option, None, Some}
 use mathlib.Core.Path.{◌≡◌, refl, sym, ap, ◌∙◌}
 use mathlib.Core.Bool.{Bool, true, false, cond}
 use mathlib.Core.List.{List, [], ◌∷◌}
-use mathlib.Core.Option.{Option, none, some}
 use Prim.Native.Nat.{ℕ, suc, ◌≤◌}
 use native.Mathlib.Omega.{arith}
 use lib.Dec.{ltb}
@@ -54,20 +54,20 @@ kind_reply_lem (Insert e value) i k top =
     let w = key_within e i in in_range_lem (entry_key e) k _ (omega arith) (omega arith) (at (standing_at (entry_key e) k.row))
   where
     at : (o : Option StandingKey) → NotFour (insert_book (entry_key e) value k o).answered
-    at none = either (ltb (suc (length k.row)) k.cells) _ _ (λ q. omega arith) (λ q. omega arith)
-    at (some x) = either x.live _ _ (λ q. omega arith) (λ q. omega arith)
+    at None = either (ltb (suc (length k.row)) k.cells) _ _ (λ q. omega arith) (λ q. omega arith)
+    at (Some x) = either x.live _ _ (λ q. omega arith) (λ q. omega arith)
 kind_reply_lem (Find e) i k top =
     let w = key_within e i in in_range_lem (entry_key e) k _ (omega arith) (omega arith) (at (standing_at (entry_key e) k.row))
   where
     at : (o : Option StandingKey) → NotFour (find_book (entry_key e) k o).answered
-    at none = λ q. omega arith
-    at (some x) = either x.live _ _ (λ q. omega arith) (λ q. omega arith)
+    at None = λ q. omega arith
+    at (Some x) = either x.live _ _ (λ q. omega arith) (λ q. omega arith)
 kind_reply_lem (Finish e) i k top =
     let w = key_within e i in in_range_lem (entry_key e) k _ (omega arith) (omega arith) (at (standing_at (entry_key e) k.row))
   where
     at : (o : Option StandingKey) → NotFour (finish_book (entry_key e) k o).answered
-    at none q = omega arith
-    at (some x) q = omega arith
+    at None q = omega arith
+    at (Some x) q = omega arith
 kind_reply_lem Take i k top = at (live_on k.row)
   where
     at : (rest : List StandingKey) → NotFour (take_book k rest).answered

@@ -1,7 +1,8 @@
 -- What one line of the order program answers and leaves: The order program 1 and 4.
 use Rattle.std.specs.Prelude.{List, ℕ}
 use Rattle.text.specs.Lines.{Handed, line, too_long}
-use Rattle.answers.specs.Refusals.{Outcome, line_not_readable, refused}
+use Rattle.answers.specs.Refusals.{Outcome, refused}
+use Rattle.answers.specs.declared.Refusal.TheVariants.{LineNotReadable}
 use Rattle.answers.specs.declared.Operation.{Operation}
 use Rattle.answers.specs.declared.Operation.TheVariants as operations
 use Rattle.meaning.specs.Operations.{operation_out}
@@ -25,7 +26,7 @@ kind_outcome kind ws = operation_out (kind_operation kind) ws
 
 -- Refusal 10, which is given before the list is called
 abbrev pub unreadable : List ℕ → Outcome (List ℕ)
-unreadable ws = refused line_not_readable ws
+unreadable ws = refused LineNotReadable ws
 
 abbrev pub parsed_outcome : Parsed → List ℕ → Outcome (List ℕ)
 parsed_outcome (Readable l) ws = kind_outcome l.kind ws

@@ -13,9 +13,9 @@ ghost use Rattle.report.specs.Report.{answer_bytes};
 ghost use Rattle.report.specs.Answered.{Answered};
 ghost use Rattle.order_step.specs.Step.{kind_operation, line_outcome};
 
-use answers::{Answer, Operation};
+use answers::{Answer, Operation, Refusal};
 use lines::{Kind, Parsed};
-use settings::Settings;
+use settings::{Levels, Settings};
 use text::feed::Told;
 
 // The operation that a kind of line asks for.
@@ -36,7 +36,7 @@ fn operation_of(kind: Kind) -> Operation
 fn long_line(list: &[u32]) -> Answer
     ensures { Meets (line_outcome too_long list.now) result list.now }
 {
-    answers::refused(answers::LINE_NOT_READABLE)
+    answers::refused(Refusal::LineNotReadable)
 }
 
 // A line of at most 64 bytes, or any other that is handed over whole.
@@ -45,11 +45,11 @@ fn step(list: &mut [u32], s: Settings, bytes: &[u8]) -> Answer
     ensures { Meets (line_outcome (line bytes.now) list.old) result list.new }
 {
     let Parsed::Readable(l) = lines::parse(bytes) else {
-        return answers::refused(answers::LINE_NOT_READABLE);
+        return answers::refused(Refusal::LineNotReadable);
     };
     let kind = l.kind;
-    let powers = s.powers();
-    operate::operate(list, s, &powers.of, operation_of(kind))
+    let levels = Levels::of(s);
+    operate::operate(list, s, &levels.powers, operation_of(kind))
 }
 
 // Answers the line that is told of, if one is: puts the bytes that are printed for it into `out`, from the first on; how many they are.

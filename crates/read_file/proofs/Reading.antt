@@ -1,5 +1,6 @@
 -- Each way out of reading a file has the outcome of the definition, by what the bytes are read as; and the pairs of a file, put one after
 -- the other.
+use Rattle.std.specs.Prelude.{None, Some, Option}
 use mathlib.Core.Path.{◌≡◌, refl, sym, ap, ◌∙◌, subst}
 use mathlib.Core.Bool.{Bool, true, false, cond}
 use mathlib.Core.List.{List, [], ◌∷◌, ◌++◌}
@@ -15,7 +16,6 @@ use Rattle.lists.specs.Lists.{same}
 use Rattle.lists.proofs.Same.{same_eq}
 use Rattle.lists.proofs.Tests.{both}
 use Rattle.files.specs.Files.{Pair, before, file_length, file_of, settings_in, pairs_from, pairs_in, keeps, is_file, contents_of}
-use Rattle.files.specs.declared.Contents.TheVariants.{IsFile, NotAFile}
 use Rattle.files.proofs.Written.{file_length_lem}
 use Rattle.files.proofs.Pairs.{pair_at, pairs_in_length, pairs_more}
 use Rattle.files.proofs.Files.{keepable, tested, tested_table, pairs_behind}
@@ -43,7 +43,7 @@ pub record Told (bytes : List ℕ) (s : Settings) (n : ℕ) : Type 0 where
   pub long : length bytes ≡ file_length n
   pub pairs : pairs_in bytes ≡ pairs_from n (drop (before n) bytes)
 
-pub told : {bytes : List ℕ} {s : Settings} {n : ℕ} → contents_of bytes ≡ IsFile s n → Told bytes s n
+pub told : {bytes : List ℕ} {s : Settings} {n : ℕ} → contents_of bytes ≡ Some (s, n) → Told bytes s n
 unfolding contents_of is_file
 told {bytes} {s} {n} e = at (is_file bytes) refl e
   where
@@ -63,8 +63,16 @@ told {bytes} {s} {n} e = at (is_file bytes) refl e
               ∙ ap (λ m. pairs_from m (drop (before m) bytes)) (sym (pairs_in_length bytes) ∙ count);
         }
 
-    at : (t : Bool) → is_file bytes ≡ t → cond t (IsFile (settings_in bytes) (length (pairs_in bytes))) NotAFile ≡ IsFile s n → Told bytes s n
-    at true is e = own (cc) (cc) is
+    settings_said : Option (Settings × ℕ) → Settings
+    settings_said (Some said) = said.0
+    settings_said None = s
+
+    number_said : Option (Settings × ℕ) → ℕ
+    number_said (Some said) = said.1
+    number_said None = n
+
+    at : (t : Bool) → is_file bytes ≡ t → cond {A = Option (Settings × ℕ)} t (Some (settings_in bytes, length (pairs_in bytes))) None ≡ Some (s, n) → Told bytes s n
+    at true is e = own (ap settings_said e) (ap number_said e) is
     at false is e = absurd (let z : ◌≡◌ {A = ℕ} 0 1 = cc in omega arith)
 
 module _ {bytes : List ℕ} {s : Settings} {n : ℕ} (t : Told bytes s n) where
@@ -140,11 +148,11 @@ module _ {bytes : List ℕ} {s : Settings} {n : ℕ} (t : Told bytes s n) where
 -- The ways out
 
 module _ (ws bytes : List ℕ) {r : Answer} where
-  pub bad_file_meets : contents_of bytes ≡ NotAFile → r ≡ answer 11 0 0 0 → Meets (read_out (file_lent ws bytes)) r (file_lent ws bytes)
+  pub bad_file_meets : contents_of bytes ≡ None → r ≡ answer 11 0 0 0 → Meets (read_out (file_lent ws bytes)) r (file_lent ws bytes)
   unfolding read_out
   bad_file_meets e a = rw e (record { answered = a; left = refl })
 
-  module _ {s : Settings} {n : ℕ} (e : contents_of bytes ≡ IsFile s n) where
+  module _ {s : Settings} {n : ℕ} (e : contents_of bytes ≡ Some (s, n)) where
     pub wrong_length_meets : (length ws ≡ length_of s.dimensions s.cells → ⊥) → r ≡ answer 2 0 0 0 →
         Meets (read_out (file_lent ws bytes)) r (file_lent ws bytes)
     unfolding read_out

@@ -2,19 +2,17 @@
 // from word p of the path of the key before, p being what the two keys share.
 #![tactic(auto)]
 
-ghost use Rattle.std.specs.Prelude.{◌≡◌, []};
+ghost use Rattle.std.specs.Prelude.{◌≡◌, [], Some};
 ghost use Rattle.settings.specs.Levels.{PowersOf};
 ghost use Rattle.files.specs.Files.{pairs_in, contents_of};
-ghost use Rattle.files.specs.declared.Contents.TheVariants.{IsFile};
 ghost use Rattle.meaning.specs.Picture.{picture};
 ghost use Rattle.answers.specs.Refusals.{Meets};
 ghost use Rattle.calls.specs.Saved.{file_lent, read_out};
 ghost use Rattle.calls.specs.Layer.ReadState.{read_state};
 ghost use Rattle.read_file.specs.Putting.{NextOfSome, PairPut};
 
-use answers::Answer;
-use files::Contents;
-use settings::Settings;
+use answers::{Answer, Refusal};
+use settings::{Levels, Settings};
 
 // The next pair: its key is above all that stand, `last` is the key before and `path` begins with that one's path, which becomes the new key's.
 fn put_pair(
@@ -38,19 +36,17 @@ fn put_pair(
 
 // The n pairs of a file, into a list that holds none.
 fn put_pairs(list: &mut [u32], s: Settings, file: &[u8], n: u32)
-    requires { (list.old ≡ picture (read_state s [])) × (contents_of file.now ≡ IsFile s n) }
+    requires { (list.old ≡ picture (read_state s [])) × (contents_of file.now ≡ Some (s, n)) }
     ensures { list.new ≡ picture (read_state s (pairs_in file.now)) }
 {
-    let powers = s.powers();
+    let levels = Levels::of(s);
     let mut path = [0u32; 16];
-    let mut last: u32 = 0;
-    let mut i: u32 = 0;
-    while i < n {
+    let mut last = 0;
+    for i in 0..n {
         let key = files::key_at(file, n, i);
         let value = files::value_at(file, n, i);
-        put_pair(list, s, &powers.of, last, &mut path, key, value);
+        put_pair(list, s, &levels.powers, last, &mut path, key, value);
         last = key;
-        i += 1;
     }
 }
 
@@ -59,11 +55,11 @@ pub fn read_file(file: &[u8], list: &mut [u32]) -> Answer
     ensures { Meets (read_out (file_lent list.old file.now)) result (file_lent list.new file.now) }
 {
     let contents = files::read_contents(file);
-    let Contents::IsFile(s, n) = contents else {
-        return answers::refused(answers::BAD_FILE);
+    let Some((s, n)) = contents else {
+        return answers::refused(Refusal::BadFile);
     };
     if list.len() != s.length() {
-        return answers::refused(answers::WRONG_LENGTH);
+        return answers::refused(Refusal::WrongLength);
     }
     // accepted: the settings of a file are in range, and the length is right
     set_up::set_up(s.dimensions, s.largest, s.cells, list);

@@ -1,23 +1,23 @@
 -- The check: words of the right shape, whose keys and marks are right, whose position stands and whose unused words are 0 are a row; and a row is all that.
 use mathlib.Core.Path.{◌≡◌, refl, sym, ap, ◌∙◌}
-use mathlib.Core.Bool.{Bool, true, false, cond, ◌&&◌, false≢true}
-use mathlib.Core.List.{List, [], ◌∷◌, ◌++◌, map, flat_map}
+use mathlib.Core.Bool.{Bool, true, false, cond, ◌&&◌}
+use mathlib.Core.List.{List, [], ◌∷◌, ◌++◌, map}
 use Prim.Native.Nat.{ℕ, zero, suc, ◌+◌, ◌*◌, ◌-◌, ◌≤◌, ◌<◌}
-use native.Mathlib.Decide.{ℕ_discrete}
-use native.Mathlib.Numerals.{add-one}
 use native.Mathlib.Omega.{arith}
-use lib.Dec.{eqb, leb, ltb}
+use lib.Dec.{eqb, ltb}
 use lib.ListN.{length, get_or, drop, replicate, length-drop, drop_of_length-le}
 use lib.Seq.{drop-cons}
-use borrow.Author.Tests.{ltb-true, lt-ltb, eqb-true, eq-eqb, ne_eqb}
+use borrow.Author.Tests.{lt-ltb, eqb-true}
+use Rattle.std.specs.Prelude.{flat_map}
 use Rattle.lists.specs.Lists.{every, numbers_from, same}
-use Rattle.lists.specs.Zeros.{all_zero}
+use Rattle.std.specs.List.{list_all}
+use Rattle.std.proofs.lemmas.Bool.Decides.{nat_tests}
 use Rattle.lists.proofs.Tests.{both, and_both}
 use Rattle.lists.proofs.Same.{same_refl}
 use Rattle.settings.specs.Numbers.{in_range}
 use Rattle.book.specs.Book.{StandingKey, Book}
-use Rattle.row.specs.Row.{row_length, key_words, row_words, key_in, book_in, ascending, at_position, right_mark, holds, is_row}
-use Rattle.row.specs.Places.{Shaped, HasShape, word_of, right_key, right_keys}
+use Rattle.row.specs.Row.{key_words, row_words, key_in, book_in, ascending, at_position, right_mark, holds, is_row}
+use Rattle.row.specs.Places.{Shaped, word_of, place_at, right_key, right_keys}
 use Rattle.row.proofs.Written.{unused, words_split, words_drop, words_length, word_back, row_written, row_holds, read_length}
 
 -- What a row may hold, part by part
@@ -31,15 +31,7 @@ pub record Held (D : ℕ) (k : Book) : Type 0 where
 pub held : (D : ℕ) (k : Book) → holds D k ≡ true → Held D k
 unfolding holds
 held D k e =
-    let p1 =
-    both (in_range D k.largest k.cells && ltb (length k.row) k.cells && ascending 0 k.largest k.row && at_position k.position k.row)
-    (every (right_mark k.position) k.row) e in
-    let p2 =
-    both (in_range D k.largest k.cells && ltb (length k.row) k.cells && ascending 0 k.largest k.row) (at_position k.position k.row)
-    p1.0 in
-    let p3 = both (in_range D k.largest k.cells && ltb (length k.row) k.cells) (ascending 0 k.largest k.row) p2.0 in
-    let p4 = both (in_range D k.largest k.cells) (ltb (length k.row) k.cells) p3.0 in
-    record { range = p4.0; room = ltb-true (length k.row) k.cells p4.1; rise = p3.1; position = p2.1; marks = p1.1 }
+    record { range = grind (arith, nat_tests); room = grind (arith, nat_tests); rise = grind (arith, nat_tests); position = grind (arith, nat_tests); marks = grind (arith, nat_tests) }
 
 pub may_hold : (D : ℕ) (k : Book) → Held D k → holds D k ≡ true
 unfolding holds
@@ -62,20 +54,10 @@ mark_written false = refl
 
 mark_told :
     (mark value : ℕ) (above : Bool) → cond (eqb mark 1) above (eqb mark 2 && eqb value 0) ≡ true → (cond (eqb mark 1) above (eqb value 0) ≡ true) × Marked mark
-mark_told mark value above e = at (eqb mark 1) refl e
-  where
-    at : (t : Bool) → eqb mark 1 ≡ t → cond t above (eqb mark 2 && eqb value 0) ≡ true → (cond t above (eqb value 0) ≡ true) × (cond t 1 2 ≡ mark)
-    at true is e = (e, sym (eqb-true mark 1 is))
-    at false is e =
-        let t = both (eqb mark 2) (eqb value 0) e in
-        (t.1, sym (eqb-true mark 2 t.0))
+mark_told mark value above e = grind (arith, nat_tests)
 
 mark_kept : (mark value : ℕ) (above : Bool) → cond (eqb mark 1) above (eqb value 0) ≡ true → Marked mark → cond (eqb mark 1) above (eqb mark 2 && eqb value 0) ≡ true
-mark_kept mark value above e m = at (eqb mark 1) e m
-  where
-    at : (t : Bool) → cond t above (eqb value 0) ≡ true → cond t 1 2 ≡ mark → cond t above (eqb mark 2 && eqb value 0) ≡ true
-    at true e m = e
-    at false e m = and_both (eqb mark 2) (eqb value 0) (eq-eqb mark 2 (sym m)) e
+mark_kept mark value above e m = grind (arith, nat_tests)
 
 module _ (ws : List ℕ) where
   pub right_told :
@@ -85,23 +67,11 @@ module _ (ws : List ℕ) where
   unfolding right_keys right_key ascending every numbers_from
   right_told zero low i e = (refl, (refl, λ j p q. absurd (omega arith)))
   right_told (suc n) low i e =
-      let key = get_or ws (word_of i) 0 in
-      let t = both (right_key ws low i) (right_keys ws key (suc i) n) e in
-      let s =
-      both (ltb low key && leb key (get_or ws 1 0)) (cond (eqb (mark_at ws i) 1) (ltb (get_or ws 4 0) key) (eqb (mark_at ws i) 2 && eqb (get_or ws (word_of i + 1) 0) 0))
-      t.0 in
-      let m = mark_told (mark_at ws i) (get_or ws (word_of i + 1) 0) (ltb (get_or ws 4 0) key) s.1 in
-      let more = right_told n key (suc i) t.1 in (
-        and_both (ltb low key && leb key (get_or ws 1 0)) (ascending key (get_or ws 1 0) (keys_from ws (suc i) n)) s.0 more.0,
-        (
-          and_both (right_mark (get_or ws 4 0) (key_in ws i)) (every (right_mark (get_or ws 4 0)) (keys_from ws (suc i) n)) m.0 more.1.0,
-          λ j p q. at j (ℕ_discrete i j) p q m.1 more.1.1,
-        ),
-      )
-    where
-      at : (j : ℕ) → Dec (i ≡ j) → i ≤ j → j < i + suc n → Marked (mark_at ws i) → ((l : ℕ) → suc i ≤ l → l < suc i + n → Marked (mark_at ws l)) → Marked (mark_at ws j)
-      at j (yes e) p q here later = rw (← e) here
-      at j (no ne) p q here later = later j (omega arith) (omega arith)
+      let x = place_at ws i in
+      let t = both (right_key ws low x) (right_keys ws x.key (suc i) n) e in
+      let more = right_told n x.key (suc i) t.1 in
+      let here = mark_told x.mark x.value (ltb (get_or ws 4 0) x.key) in
+      (grind (arith, nat_tests), (grind (arith, nat_tests), λ j p q. grind (arith, nat_tests, more.1.1 j)))
 
   pub right_kept :
       (n low i : ℕ) → ascending low (get_or ws 1 0) (keys_from ws i n) ≡ true → every (right_mark (get_or ws 4 0)) (keys_from ws i n) ≡ true →
@@ -109,20 +79,18 @@ module _ (ws : List ℕ) where
   unfolding right_keys right_key ascending every numbers_from
   right_kept zero low i a e m = refl
   right_kept (suc n) low i a e m =
-      let key = get_or ws (word_of i) 0 in
-      let t = both (ltb low key && leb key (get_or ws 1 0)) (ascending key (get_or ws 1 0) (keys_from ws (suc i) n)) a in
-      let s = both (right_mark (get_or ws 4 0) (key_in ws i)) (every (right_mark (get_or ws 4 0)) (keys_from ws (suc i) n)) e in
-      let third = mark_kept (mark_at ws i) (get_or ws (word_of i + 1) 0) (ltb (get_or ws 4 0) key) s.0 (m i (omega arith) (omega arith)) in
-      and_both (right_key ws low i) (right_keys ws key (suc i) n)
-      (and_both (ltb low key && leb key (get_or ws 1 0))
-      (cond (eqb (mark_at ws i) 1) (ltb (get_or ws 4 0) key) (eqb (mark_at ws i) 2 && eqb (get_or ws (word_of i + 1) 0) 0)) t.0 third)
-      (right_kept n key (suc i) t.1 s.1 (λ j p q. m j (omega arith) (omega arith)))
+      let x = place_at ws i in
+      let more = right_kept n x.key (suc i) in
+      let here = mark_kept x.mark x.value (ltb (get_or ws 4 0) x.key) in
+      let marked = m i (omega arith) (omega arith) in
+      let later = λ (j : ℕ) (p : suc i ≤ j) (q : j < suc i + n). m j (omega arith) (omega arith) in
+      grind (arith, nat_tests)
 
   -- the words of the keys, written again
   keys_again :
       (n i : ℕ) → word_of (i + n) ≤ length ws → ((j : ℕ) → i ≤ j → j < i + n → Marked (mark_at ws j)) →
       drop (word_of i) ws ≡ flat_map key_words (keys_from ws i n) ++ drop (word_of (i + n)) ws
-  unfolding numbers_from flat_map
+  unfolding numbers_from
   keys_again zero i h m = let none : i + 0 ≡ i = omega arith in rw none refl
   keys_again (suc n) i h m =
       let at = word_of i in
@@ -150,37 +118,22 @@ front_words (a ∷ b ∷ c ∷ []) h = absurd (omega arith)
 front_words (a ∷ b ∷ c ∷ d ∷ []) h = absurd (omega arith)
 front_words (a ∷ b ∷ c ∷ d ∷ e ∷ ws) h = refl
 
-zero_words : (ws : List ℕ) → all_zero ws ≡ true → ws ≡ replicate (length ws) 0
-unfolding all_zero
+zero_words : (ws : List ℕ) → list_all (λ w. eqb w 0) ws ≡ true → ws ≡ replicate (length ws) 0
 zero_words [] e = refl
 zero_words (w ∷ ws) e =
-    let t = both (eqb w 0) (all_zero ws) e in
+    let t = both (eqb w 0) (list_all (λ w. eqb w 0) ws) e in
     λ i. eqb-true w 0 t.0 i ∷ zero_words ws t.1 i
 
-zeros_zero : (n : ℕ) → all_zero (replicate n 0) ≡ true
-unfolding all_zero
+zeros_zero : (n : ℕ) → list_all (λ w. eqb w 0) (replicate n 0) ≡ true
 zeros_zero zero = refl
 zeros_zero (suc n) = zeros_zero n
-
-module _ (part : List ℕ) (i : ℕ) where
-  pub zero_here : i < length part → (get_or part i 0 ≡ 0 → ⊥) → all_zero (drop i part) ≡ false
-  unfolding all_zero
-  zero_here h ne = rw (drop-cons part i 0 h, ne_eqb (get_or part i 0) 0 ne) refl
-
-  pub zero_on : i < length part → get_or part i 0 ≡ 0 → all_zero (drop i part) ≡ all_zero (drop (i + 1) part)
-  unfolding all_zero
-  zero_on h e = rw (add-one i, drop-cons part i 0 h, eq-eqb (get_or part i 0) 0 e) refl
-
-  pub zero_end : length part ≤ i → all_zero (drop i part) ≡ true
-  unfolding all_zero
-  zero_end h = rw (drop_of_length-le part h) refl
 
 -- Both ways
 
 module _ (ws : List ℕ) where
   pub checked :
       Shaped ws → right_keys ws 0 0 (get_or ws 3 0) ≡ true → at_position (get_or ws 4 0) (book_in ws).row ≡ true →
-      all_zero (drop (word_of (get_or ws 3 0)) ws) ≡ true → is_row ws ≡ true
+      list_all (λ w. eqb w 0) (drop (word_of (get_or ws 3 0)) ws) ≡ true → is_row ws ≡ true
   unfolding is_row book_in
   checked shape keys position zeros =
       let n = get_or ws 3 0 in
@@ -209,6 +162,15 @@ module _ (ws : List ℕ) where
       let few : get_or ws 3 0 < get_or ws 2 0 = omega (arith, read_length ws, h.room) in
       record { range = h.range; long = ap length (row_written ws e) ∙ words_length (get_or ws 0 0) (book_in ws) h.room; room = few }
 
+  pub row_range : is_row ws ≡ true → in_range (get_or ws 0 0) (get_or ws 1 0) (get_or ws 2 0) ≡ true
+  row_range e = (row_shaped e).range
+
+  pub row_long : is_row ws ≡ true → length ws ≡ 5 + 3 * (get_or ws 2 0 - 1)
+  row_long e = (row_shaped e).long
+
+  pub row_room : is_row ws ≡ true → get_or ws 3 0 < get_or ws 2 0
+  row_room e = (row_shaped e).room
+
   pub row_keys : is_row ws ≡ true → right_keys ws 0 0 (get_or ws 3 0) ≡ true
   unfolding book_in
   row_keys e =
@@ -227,35 +189,16 @@ module _ (ws : List ℕ) where
   unfolding book_in
   row_position e = (held (get_or ws 0 0) (book_in ws) (row_holds ws e)).position
 
-  pub row_zeros : is_row ws ≡ true → all_zero (drop (word_of (get_or ws 3 0)) ws) ≡ true
-  unfolding flat_map
+  pub row_zeros : is_row ws ≡ true → list_all (λ w. eqb w 0) (drop (word_of (get_or ws 3 0)) ws) ≡ true
   row_zeros e =
       let k = book_in ws in
       let n = get_or ws 3 0 in
       let all : length k.row ≤ n = omega (arith, read_length ws) in
       let rest : drop (word_of n) (row_words (get_or ws 0 0) k) ≡ unused k =
       words_drop (get_or ws 0 0) k n (omega (arith, read_length ws)) ∙ ap (λ r. flat_map key_words r ++ unused k) (drop_of_length-le k.row all) in
-      ap (λ l. all_zero (drop (word_of n) l)) (row_written ws e) ∙ (rw rest (zeros_zero (3 * (k.cells - 1 - length k.row))))
-
--- Told of the shape
-
-pub shape_no : (ws : List ℕ) → (Shaped ws → ⊥) → HasShape ws false
-shape_no ws other = record { told = λ e. absurd (false≢true e); kept = λ e. absurd (other (row_shaped ws e)) }
-
-pub shape_is :
-    (ws : List ℕ) → in_range (get_or ws 0 0) (get_or ws 1 0) (get_or ws 2 0) ≡ true → length ws ≡ row_length (get_or ws 2 0) → HasShape ws (ltb (get_or ws 3 0) (get_or ws 2 0))
-shape_is ws range long =
-    record {
-      told = λ e. record { range = range; long = long; room = ltb-true (get_or ws 3 0) (get_or ws 2 0) e };
-      kept = λ e. lt-ltb (get_or ws 3 0) (get_or ws 2 0) (row_shaped ws e).room;
-    }
+      ap (λ l. list_all (λ w. eqb w 0) (drop (word_of n) l)) (row_written ws e) ∙ (rw rest (zeros_zero (3 * (k.cells - 1 - length k.row))))
 
 -- Told of the keys
 pub keys_rise : (ws : List ℕ) → right_keys ws 0 0 (get_or ws 3 0) ≡ true → ascending 0 (get_or ws 1 0) (book_in ws).row ≡ true
 unfolding book_in
 keys_rise ws e = (right_told ws (get_or ws 3 0) 0 0 e).0
-
--- a test that cannot hold
-pub refuted : (t : Bool) → (t ≡ true → ⊥) → false ≡ t
-refuted true never = absurd (never refl)
-refuted false never = refl

@@ -4,8 +4,8 @@ pub mod Searching
 pub mod Turns
 pub mod Found
 pub mod Checking
-pub mod Moving
 pub mod Changed
 pub mod Outcomes
 pub mod Staying
 pub mod Promises
+pub mod Laws

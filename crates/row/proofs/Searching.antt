@@ -1,15 +1,15 @@
 -- The search: what a key's place in ascending keys says of them, and the place of the first live key.
-use mathlib.Core.Path.{◌≡◌, refl, ap, ◌∙◌}
-use mathlib.Core.Bool.{Bool, true, false, cond, ◌&&◌, ◌||◌, and-false}
+use Rattle.std.specs.Prelude.{Option, None, Some}
+use mathlib.Core.Path.{◌≡◌, refl, ap}
+use mathlib.Core.Bool.{Bool, true, false, cond, ◌&&◌}
 use mathlib.Core.List.{List, [], ◌∷◌, ◌++◌, map, drop_last}
-use mathlib.Core.Option.{Option, none, some}
 use Prim.Native.Nat.{ℕ, zero, suc, ◌≤◌, ◌<◌}
 use native.Mathlib.Omega.{arith}
 use lib.Dec.{eqb, leb, ltb}
 use lib.ListN.{length, get_or, take, drop, set}
-use borrow.Author.Tests.{ltb-true, leb-true, leb-false, lt-ltb, le-ltb, le-leb, lt-leb, eq-eqb, ne_eqb}
+use borrow.Author.Tests.{le-ltb, eq-eqb, ne_eqb}
+use Rattle.std.proofs.lemmas.Bool.Decides.{nat_tests}
 use Rattle.lists.specs.Lists.{those}
-use Rattle.lists.proofs.Tests.{both}
 use Rattle.lists.proofs.All.{All, all_map}
 use Rattle.lists.proofs.Those.{those_none}
 use Rattle.book.specs.Book.{StandingKey, standing_key, last_in, standing_at, put_key, marked, dead_before, live_on, standing_above, standing_between, last_only}
@@ -22,10 +22,7 @@ pub ascending_first :
     (low K : ℕ) (x : StandingKey) (row : List StandingKey) → ascending low K (x ∷ row) ≡ true →
     (low < x.key) × ((x.key ≤ K) × (ascending x.key K row ≡ true))
 unfolding ascending
-ascending_first low K x row a =
-    let t = both (ltb low x.key && leb x.key K) (ascending x.key K row) a in
-    let s = both (ltb low x.key) (leb x.key K) t.0 in
-    (ltb-true low x.key s.0, (leb-true x.key K s.1, t.1))
+ascending_first low K x row a = grind (arith, nat_tests)
 
 pub keys_above_lem : (low K : ℕ) (row : List StandingKey) → ascending low K row ≡ true → All (λ x. low < x.key) row
 keys_above_lem low K [] a = tt
@@ -47,22 +44,12 @@ key_above low K (x ∷ row) (suc i) z a h =
 pub place_within : (key : ℕ) (row : List StandingKey) → place_of key row ≤ length row
 unfolding place_of
 place_within key [] = omega arith
-place_within key (x ∷ row) = at (leb key x.key) (place_within key row)
-  where
-    at : (t : Bool) → place_of key row ≤ length row → cond t 0 (suc (place_of key row)) ≤ suc (length row)
-    at true more = omega arith
-    at false more = omega arith
+place_within key (x ∷ row) = grind (arith, place_within key row)
 
 pub place_put : (x : StandingKey) (row : List StandingKey) → put_key x row ≡ take (place_of x.key row) row ++ (x ∷ drop (place_of x.key row) row)
 unfolding place_of put_key
 place_put x [] = refl
-place_put x (y ∷ row) = at (leb x.key y.key) (place_put x row)
-  where
-    at : (t : Bool) → put_key x row ≡ take (place_of x.key row) row ++ (x ∷ drop (place_of x.key row) row) →
-        cond t (x ∷ y ∷ row) (y ∷ put_key x row)
-        ≡ take (cond t 0 (suc (place_of x.key row))) (y ∷ row) ++ (x ∷ drop (cond t 0 (suc (place_of x.key row))) (y ∷ row))
-    at true more = refl
-    at false more = ap (λ (r : List StandingKey). y ∷ r) more
+place_put x (y ∷ row) = grind (arith, place_put x row)
 
 -- the keys below a key are those before its place
 pub place_below : (key low K : ℕ) (row : List StandingKey) → ascending low K row ≡ true → those (λ x. ltb x.key key) row ≡ take (place_of key row) row
@@ -70,71 +57,47 @@ unfolding those place_of
 place_below key low K [] a = refl
 place_below key low K (x ∷ row) a =
     let t = ascending_first low K x row a in
-    at (leb key x.key) refl (keys_above_lem x.key K row t.1.1) (place_below key x.key K row t.1.1)
-  where
-    at : (t : Bool) → leb key x.key ≡ t → All (λ y. x.key < y.key) row → those (λ y. ltb y.key key) row ≡ take (place_of key row) row →
-        those (λ y. ltb y.key key) (x ∷ row) ≡ take (cond t 0 (suc (place_of key row))) (x ∷ row)
-    at true e above more =
-        let here = leb-true key x.key e in
-        those_none (λ y. ltb y.key key) (x ∷ row) (le-ltb x.key key here, all_map (λ y h. le-ltb y.key key (omega arith)) row above)
-    at false e above more = rw (lt-ltb x.key key (leb-false key x.key e)) (ap (λ (r : List StandingKey). x ∷ r) more)
+    let above = keys_above_lem x.key K row t.1.1 in
+    let more = place_below key x.key K row t.1.1 in
+    let None = λ (h : key ≤ x.key). those_none (λ y. ltb y.key key) row (all_map (λ y p. le-ltb y.key key (omega arith)) row above) in
+    grind (arith, nat_tests, more, None)
 
 -- the key at its place, if it is this one, is the one that stands; if it is another, none does
 pub place_found :
     (key : ℕ) (row : List StandingKey) (z : StandingKey) →
-    place_of key row < length row → (get_or row (place_of key row) z).key ≡ key → standing_at key row ≡ some (get_or row (place_of key row) z)
+    place_of key row < length row → (get_or row (place_of key row) z).key ≡ key → standing_at key row ≡ Some (get_or row (place_of key row) z)
 unfolding place_of standing_at
 place_found key [] z h e = absurd (omega arith)
-place_found key (x ∷ row) z h e = at (leb key x.key) refl h e (place_found key row z)
-  where
-    at : (t : Bool) → leb key x.key ≡ t → cond t 0 (suc (place_of key row)) < suc (length row) → (get_or (x ∷ row) (cond t 0 (suc (place_of key row))) z).key ≡ key →
-        (place_of key row < length row → (get_or row (place_of key row) z).key ≡ key → standing_at key row ≡ some (get_or row (place_of key row) z)) →
-        cond (eqb x.key key) (some x) (standing_at key row) ≡ some (get_or (x ∷ row) (cond t 0 (suc (place_of key row))) z)
-    at true l h e more = rw (eq-eqb x.key key e) refl
-    at false l h e more =
-        let below = leb-false key x.key l in
-        rw (ne_eqb x.key key (λ q. omega arith)) (more (omega arith) e)
+place_found key (x ∷ row) z h e = grind (arith, nat_tests, place_found key row z)
+
+no_later : (key : ℕ) (row : List StandingKey) → All (λ y. key < y.key) row → standing_at key row ≡ None
+unfolding standing_at
+no_later key [] above = refl
+no_later key (y ∷ row) above =
+    let h = above.0 in
+    grind (arith, nat_tests, no_later key row above.1)
 
 pub place_absent :
     (key low K : ℕ) (row : List StandingKey) (z : StandingKey) → ascending low K row ≡ true →
-    (place_of key row < length row → (get_or row (place_of key row) z).key ≡ key → ⊥) → standing_at key row ≡ none
+    (place_of key row < length row → (get_or row (place_of key row) z).key ≡ key → ⊥) → standing_at key row ≡ None
 unfolding place_of standing_at
 place_absent key low K [] z a other = refl
 place_absent key low K (x ∷ row) z a other =
     let t = ascending_first low K x row a in
-    at (leb key x.key) refl other (keys_above_lem x.key K row t.1.1) (place_absent key x.key K row z t.1.1)
-  where
-    no-later : (r : List StandingKey) → All (λ y. key < y.key) r → standing_at key r ≡ none
-    no-later [] above = refl
-    no-later (y ∷ r) above =
-        let h = above.0 in
-        rw (ne_eqb y.key key (λ q. omega arith)) (no-later r above.1)
-
-    at : (t : Bool) → leb key x.key ≡ t →
-        (cond t 0 (suc (place_of key row)) < suc (length row) → (get_or (x ∷ row) (cond t 0 (suc (place_of key row))) z).key ≡ key → ⊥) →
-        All (λ y. x.key < y.key) row →
-        ((place_of key row < length row → (get_or row (place_of key row) z).key ≡ key → ⊥) → standing_at key row ≡ none) →
-        cond (eqb x.key key) (some x) (standing_at key row) ≡ none
-    at true l other above more =
-        let here = leb-true key x.key l in
-        rw (ne_eqb x.key key (other (omega arith))) (no-later row (all_map (λ y h. omega arith) row above))
-    at false l other above more =
-        let below = leb-false key x.key l in
-        rw (ne_eqb x.key key (λ q. omega arith)) (more (λ h. other (omega arith)))
+    let above = keys_above_lem x.key K row t.1.1 in
+    let None = λ (h : key < x.key). no_later key row (all_map (λ y p. omega arith) row above) in
+    let more = place_absent key x.key K row z t.1.1 in
+    grind (arith, nat_tests, None, more, other)
 
 -- that a key stands, by the key that is found
 abbrev pub found : Option StandingKey → Bool
-found none = false
-found (some x) = true
+found None = false
+found (Some x) = true
 
 pub stands_found : (key : ℕ) (row : List StandingKey) → stands key row ≡ found (standing_at key row)
 unfolding stands standing_at
 stands_found key [] = refl
-stands_found key (x ∷ row) = at (eqb x.key key) (stands_found key row)
-  where
-    at : (t : Bool) → stands key row ≡ found (standing_at key row) → (t || stands key row) ≡ found (cond t (some x) (standing_at key row))
-    at true more = refl
-    at false more = more
+stands_found key (x ∷ row) = grind (arith, stands_found key row)
 
 -- a key that stands at place i, marked
 pub marked_at :
@@ -187,50 +150,27 @@ unfolding those
 between_up_to bottom low K [] i z a h = absurd (omega arith)
 between_up_to bottom low K (x ∷ row) zero z a h =
     let t = ascending_first bottom K x row a in
-    let past : All (λ y. (ltb low y.key && leb y.key x.key) ≡ false) row =
-    all_map (λ y h. ap (λ b. ltb low y.key && b) (lt-leb y.key x.key h) ∙ and-false (ltb low y.key)) row (keys_above_lem x.key K row t.1.1) in
-    rw (le-leb x.key x.key (omega arith), those_none (λ y. ltb low y.key && leb y.key x.key) row past) (at (ltb low x.key))
-  where
-    at : (t : Bool) → length (cond (t && true) (x ∷ []) []) ≡ length (cond t (x ∷ []) [])
-    at true = refl
-    at false = refl
+    let past : All (λ y. (ltb low y.key && leb y.key x.key) ≡ false) row = all_map (λ y h. grind (arith, nat_tests)) row (keys_above_lem x.key K row t.1.1) in
+    rw (those_none (λ y. ltb low y.key && leb y.key x.key) row past) (grind (arith, nat_tests))
 between_up_to bottom low K (x ∷ row) (suc i) z a h =
     let t = ascending_first bottom K x row a in
     let above = key_above x.key K row i z t.1.1 (omega arith) in
-    rw (le-leb x.key (get_or row i z).key (omega arith)) (at (ltb low x.key) (between_up_to x.key low K row i z t.1.1 (omega arith)))
-  where
-    at : (t : Bool) → standing_between low (get_or row i z).key row ≡ standing_above low (take (suc i) row) →
-        length (cond (t && true) (x ∷ those (λ y. ltb low y.key && leb y.key (get_or row i z).key) row)
-        (those (λ y. ltb low y.key && leb y.key (get_or row i z).key) row))
-        ≡ length (cond t (x ∷ those (λ y. ltb low y.key) (take (suc i) row)) (those (λ y. ltb low y.key) (take (suc i) row)))
-    at true more = ap suc more
-    at false more = more
+    let more = between_up_to x.key low K row i z t.1.1 (omega arith) in
+    grind (arith, nat_tests)
 
 -- The first live key: the dead ones before it, and what is from it on
 
 pub dead_taken : (row : List StandingKey) → dead_before row ≡ take (length (dead_before row)) row
 unfolding dead_before
 dead_taken [] = refl
-dead_taken (x ∷ row) = at x.live (dead_taken row)
-  where
-    at : (t : Bool) → dead_before row ≡ take (length (dead_before row)) row → cond t [] (x ∷ dead_before row) ≡ take (length (cond t [] (x ∷ dead_before row))) (x ∷ row)
-    at true more = refl
-    at false more = ap (λ (r : List StandingKey). x ∷ r) more
+dead_taken (x ∷ row) = grind (arith, dead_taken row)
 
 pub live_dropped : (row : List StandingKey) → live_on row ≡ drop (length (dead_before row)) row
 unfolding dead_before live_on
 live_dropped [] = refl
-live_dropped (x ∷ row) = at x.live (live_dropped row)
-  where
-    at : (t : Bool) → live_on row ≡ drop (length (dead_before row)) row → cond t (x ∷ row) (live_on row) ≡ drop (length (cond t [] (x ∷ dead_before row))) (x ∷ row)
-    at true more = refl
-    at false more = more
+live_dropped (x ∷ row) = grind (arith, live_dropped row)
 
 pub dead_within : (row : List StandingKey) → length (dead_before row) ≤ length row
 unfolding dead_before
 dead_within [] = omega arith
-dead_within (x ∷ row) = at x.live (dead_within row)
-  where
-    at : (t : Bool) → length (dead_before row) ≤ length row → length (cond t [] (x ∷ dead_before row)) ≤ suc (length row)
-    at true more = omega arith
-    at false more = omega arith
+dead_within (x ∷ row) = grind (arith, dead_within row)

@@ -1,34 +1,32 @@
 -- What a row may hold it may hold after every operation.
-use mathlib.Core.Path.{◌≡◌, refl, sym, ap, ◌∙◌}
+use Rattle.std.specs.Prelude.{Option, None, Some}
+use mathlib.Core.Path.{◌≡◌, refl, ap, ◌∙◌}
 use mathlib.Core.Bool.{Bool, true, false, cond, ◌&&◌, ◌||◌}
 use mathlib.Core.List.{List, [], ◌∷◌, ◌++◌}
-use mathlib.Core.Option.{Option, none, some}
 use Prim.Native.Nat.{ℕ, zero, suc, ◌≤◌, ◌<◌}
 use native.Mathlib.Omega.{arith}
 use lib.Dec.{eqb, leb, ltb}
 use lib.ListN.{length, get_or, take, drop, length-map, length-drop}
 use lib.Seq.{drop-cons}
-use borrow.Author.Tests.{ltb-true, leb-true, leb-false, eqb-true, eqb-false, lt-ltb, le-leb, eq-eqb}
-use Rattle.lists.proofs.Tests.{both, cond_has}
+use borrow.Author.Tests.{ltb-true, leb-true, lt-ltb, le-leb, eq-eqb}
+use Rattle.lists.proofs.Tests.{both}
 use Rattle.lists.proofs.All.{All, every_all, all_every, all_map, all_zip, all_mapped}
 use Rattle.settings.specs.Numbers.{is_key}
 use Rattle.answers.specs.declared.Operation.{Operation}
 use Rattle.answers.specs.declared.Operation.TheVariants.{Insert, Find, Finish, Take, Sweep}
-use Rattle.answers.specs.Refusals.{Outcome, accepted, refused, bad_key, key_live, no_free_cell, key_not_live}
-use Rattle.book.specs.Book.{StandingKey, standing_key, Book, with_row, last_in, key_below, standing_at, on_book_key, put_key, marked, position_with, insert_book, find_book, finish_book, dead_before, live_on, take_book, last_only, sweep_book, operation_book}
+use Rattle.answers.specs.Refusals.{accepted, refused}
+use Rattle.answers.specs.declared.Refusal.TheVariants.{BadKey, KeyLive, NoFreeCell}
+use Rattle.book.specs.Book.{StandingKey, standing_key, Book, with_row, last_in, standing_at, on_book_key, put_key, marked, position_with, insert_book, find_book, finish_book, dead_before, live_on, take_book, last_only, sweep_book, operation_book}
 use Rattle.row.specs.Row.{ascending, stands, at_position, right_mark}
 use Rattle.row.specs.Places.{place_of}
 use Rattle.row.proofs.Searching.{ascending_first, keys_above_lem, place_within, place_below, last_before, last_kept, dead_taken, live_dropped, dead_within}
 use Rattle.row.proofs.Checking.{Held}
+use Rattle.std.proofs.lemmas.Bool.Decides.{nat_tests}
 
 -- Marks, for another position
 
 mark_again : (p q : ℕ) (y : StandingKey) → right_mark p y ≡ true → (y.live ≡ true → q < y.key) → right_mark q y ≡ true
-mark_again p q y e above = at y.live refl e
-  where
-    at : (t : Bool) → y.live ≡ t → cond t (ltb p y.key) (eqb y.value 0) ≡ true → cond t (ltb q y.key) (eqb y.value 0) ≡ true
-    at true l e = lt-ltb q y.key (above l)
-    at false l e = e
+mark_again p q y e above = grind (arith, nat_tests)
 
 live_above : (p : ℕ) (y : StandingKey) → right_mark p y ≡ true → y.live ≡ true → p < y.key
 live_above p y e l = ltb-true p y.key (rw l at e)
@@ -55,77 +53,41 @@ rise_drop low K (x ∷ row) (suc j) a =
     let first = t.0 in
     rise_lower x.key low K (drop j row) (omega arith) (rise_drop x.key K row j t.1.1)
 
-absent_first : (key : ℕ) (y : StandingKey) (row : List StandingKey) → standing_at key (y ∷ row) ≡ none → (eqb y.key key ≡ false) × (standing_at key row ≡ none)
+absent_first : (key : ℕ) (y : StandingKey) (row : List StandingKey) → standing_at key (y ∷ row) ≡ None → (eqb y.key key ≡ false) × (standing_at key row ≡ None)
 unfolding standing_at
-absent_first key y row e = at (eqb y.key key) e
-  where
-    at : (t : Bool) → cond t (some y) (standing_at key row) ≡ none → (t ≡ false) × (standing_at key row ≡ none)
-    at true e = absurd (let z : ◌≡◌ {A = ℕ} 0 1 = cc in omega arith)
-    at false e = (refl, e)
+absent_first key y row e = grind (arith, nat_tests)
 
 rise_put :
-    (low K : ℕ) (x : StandingKey) (row : List StandingKey) → ascending low K row ≡ true → low < x.key → x.key ≤ K → standing_at x.key row ≡ none →
+    (low K : ℕ) (x : StandingKey) (row : List StandingKey) → ascending low K row ≡ true → low < x.key → x.key ≤ K → standing_at x.key row ≡ None →
     ascending low K (put_key x row) ≡ true
 unfolding put_key ascending
 rise_put low K x [] a p q absent = rise_first low K x [] p q refl
 rise_put low K x (y ∷ row) a p q absent =
-    at (leb x.key y.key) refl (ascending_first low K y row a) (absent_first x.key y row absent) (λ r s. rise_put y.key K x row r s q)
-  where
-    at : (t : Bool) → leb x.key y.key ≡ t → (low < y.key) × ((y.key ≤ K) × (ascending y.key K row ≡ true)) →
-        (eqb y.key x.key ≡ false) × (standing_at x.key row ≡ none) →
-        (ascending y.key K row ≡ true → y.key < x.key → standing_at x.key row ≡ none → ascending y.key K (put_key x row) ≡ true) →
-        ascending low K (cond t (x ∷ y ∷ row) (y ∷ put_key x row)) ≡ true
-    at true e first other more =
-        let up_to_lem = leb-true x.key y.key e in
-        let ne : y.key ≡ x.key → ⊥ = eqb-false y.key x.key other.0 in
-        rise_first low K x (y ∷ row) p q (rise_first x.key K y row (omega arith) first.1.0 first.1.1)
-    at false e first other more = rise_first low K y (put_key x row) first.0 first.1.0 (more first.1.1 (leb-false x.key y.key e) other.1)
+    let t = ascending_first low K y row a in
+    let other = absent_first x.key y row absent in
+    grind (arith, nat_tests, t, other, rise_put y.key K x row t.1.1)
 
 -- A key put in
 
 put_length : (x : StandingKey) (row : List StandingKey) → length (put_key x row) ≡ suc (length row)
 unfolding put_key
 put_length x [] = refl
-put_length x (y ∷ row) = at (leb x.key y.key) (put_length x row)
-  where
-    at : (t : Bool) → length (put_key x row) ≡ suc (length row) → length (cond t (x ∷ y ∷ row) (y ∷ put_key x row)) ≡ suc (suc (length row))
-    at true more = refl
-    at false more = ap suc more
-
-or_right : (s t : Bool) → t ≡ true → (s || t) ≡ true
-or_right true t e = refl
-or_right false t e = e
-
-or_more : (s t u : Bool) → (s || t) ≡ true → (t ≡ true → u ≡ true) → (s || u) ≡ true
-or_more true t u e more = refl
-or_more false t u e more = more e
+put_length x (y ∷ row) = grind (arith, put_length x row)
 
 put_stands : (q : ℕ) (x : StandingKey) (row : List StandingKey) → stands q row ≡ true → stands q (put_key x row) ≡ true
 unfolding put_key stands
-put_stands q x [] s = absurd (let z : ◌≡◌ {A = ℕ} 0 1 = cc in omega arith)
-put_stands q x (y ∷ row) s = at (leb x.key y.key) (put_stands q x row)
-  where
-    at : (t : Bool) → (stands q row ≡ true → stands q (put_key x row) ≡ true) → stands q (cond t (x ∷ y ∷ row) (y ∷ put_key x row)) ≡ true
-    at true more = or_right (eqb x.key q) (stands q (y ∷ row)) s
-    at false more = or_more (eqb y.key q) (stands q row) (stands q (put_key x row)) s more
+put_stands q x [] s = absurd cc
+put_stands q x (y ∷ row) s = grind (arith, nat_tests, put_stands q x row)
 
 put_all : (P : StandingKey → Type 0) (x : StandingKey) (row : List StandingKey) → P x → All P row → All P (put_key x row)
 unfolding put_key
 put_all P x [] p a = (p, tt)
-put_all P x (y ∷ row) p a = at (leb x.key y.key) (put_all P x row p a.1)
-  where
-    at : (t : Bool) → All P (put_key x row) → All P (cond t (x ∷ y ∷ row) (y ∷ put_key x row))
-    at true more = (p, a)
-    at false more = (a.0, more)
+put_all P x (y ∷ row) p a = grind (arith, nat_tests, put_all P x row p a.1)
 
 -- A key marked: the keys are the same
 
 key_kept : (key value : ℕ) (live : Bool) (x : StandingKey) → (cond (eqb x.key key) (standing_key key value live) x).key ≡ x.key
-key_kept key value live x = at (eqb x.key key) refl
-  where
-    at : (t : Bool) → eqb x.key key ≡ t → (cond t (standing_key key value live) x).key ≡ x.key
-    at true e = sym (eqb-true x.key key e)
-    at false e = refl
+key_kept key value live x = grind (arith, nat_tests)
 
 marked_rise : (key value : ℕ) (live : Bool) (low K : ℕ) (row : List StandingKey) → ascending low K (marked key value live row) ≡ ascending low K row
 unfolding marked ascending
@@ -150,12 +112,7 @@ marked_right :
 unfolding marked
 marked_right key value live p q row right old above =
     all_mapped (λ y. right_mark q y ≡ true) (λ x. cond (eqb x.key key) (standing_key key value live) x) row
-    (all_zip (λ y e h. at y (eqb y.key key) refl e h) row old above)
-  where
-    at : (y : StandingKey) (t : Bool) → eqb y.key key ≡ t → right_mark p y ≡ true → ((y.key ≡ key → ⊥) → y.live ≡ true → q < y.key) →
-        right_mark q (cond t (standing_key key value live) y) ≡ true
-    at y true is e h = right
-    at y false is e h = mark_again p q y e (h (eqb-false y.key key is))
+    (all_zip (λ y e h. grind (arith, nat_tests)) row old above)
 
 -- The position after an insert
 
@@ -163,19 +120,13 @@ stands_place : (row : List StandingKey) (j : ℕ) (z : StandingKey) → j < leng
 unfolding stands
 stands_place [] j z h = absurd (omega arith)
 stands_place (x ∷ row) zero z h = rw (eq-eqb x.key x.key refl) refl
-stands_place (x ∷ row) (suc j) z h = or_right (eqb x.key (get_or row j z).key) (stands (get_or row j z).key row) (stands_place row j z (omega arith))
+stands_place (x ∷ row) (suc j) z h = grind (arith, nat_tests, stands_place row j z)
 
 place_before_lem : (key : ℕ) (row : List StandingKey) (j : ℕ) (z : StandingKey) → j < place_of key row → (get_or row j z).key < key
 unfolding place_of
 place_before_lem key [] j z h = absurd (omega arith)
-place_before_lem key (x ∷ row) j z h = at (leb key x.key) refl j h (λ l. place_before_lem key row l z)
-  where
-    at :
-        (t : Bool) → leb key x.key ≡ t → (l : ℕ) → l < cond t 0 (suc (place_of key row)) → ((m : ℕ) → m < place_of key row → (get_or row m z).key < key) →
-        (get_or (x ∷ row) l z).key < key
-    at true e l h more = absurd (omega arith)
-    at false e zero h more = leb-false key x.key e
-    at false e (suc l) h more = more l (omega arith)
+place_before_lem key (x ∷ row) zero z h = grind (arith, nat_tests)
+place_before_lem key (x ∷ row) (suc j) z h = grind (arith, nat_tests, place_before_lem key row j z)
 
 below_place :
     (key : ℕ) (row : List StandingKey) → 0 < key → (i : ℕ) → i ≤ place_of key row → (at_position (last_in (take i row)) row ≡ true) × (last_in (take i row) < key)
@@ -185,7 +136,7 @@ below_place key row positive (suc j) h =
     let z = standing_key 0 0 true in
     let within : j < length row = omega (arith, place_within key row) in
     rw (last_before row j z within)
-    (or_right (eqb (get_or row j z).key 0) (stands (get_or row j z).key row) (stands_place row j z within), place_before_lem key row j z (omega arith))
+    (grind (arith, nat_tests, stands_place row j z within), place_before_lem key row j z (omega arith))
 
 -- Take
 
@@ -193,7 +144,7 @@ first_live :
     (low K : ℕ) (row : List StandingKey) (x : StandingKey) (later : List StandingKey) → ascending low K row ≡ true → live_on row ≡ x ∷ later →
     (stands x.key row ≡ true) × All (λ y. (y.key ≡ x.key → ⊥) → y.live ≡ true → x.key < y.key) row
 unfolding live_on stands
-first_live low K [] x later a e = absurd (let z : ◌≡◌ {A = ℕ} 0 1 = cc in omega arith)
+first_live low K [] x later a e = absurd cc
 first_live low K (y ∷ row) x later a e =
     let t = ascending_first low K y row a in
     at y.live refl e (keys_above_lem y.key K row t.1.1) (first_live y.key K row x later t.1.1)
@@ -203,26 +154,19 @@ first_live low K (y ∷ row) x later a e =
         ((eqb y.key x.key || stands x.key row) ≡ true) ×
         (((y.key ≡ x.key → ⊥) → y.live ≡ true → x.key < y.key) × All (λ w. (w.key ≡ x.key → ⊥) → w.live ≡ true → x.key < w.key) row)
     at true l e above more =
-        let same : y ≡ x = cc in
-        let key : y.key ≡ x.key = ap (λ w. w.key) same in
-        (rw (eq-eqb y.key x.key key) refl, ((λ ne live. absurd (ne key)), all_map (λ w h ne live. omega arith) row above))
+        let key : y.key ≡ x.key = cc in
+        (grind (arith, nat_tests), (grind (arith, nat_tests), all_map (λ w h ne live. omega arith) row above))
     at false l e above more =
         let rest = more e in
-        (or_right (eqb y.key x.key) (stands x.key row) rest.0, ((λ ne live. absurd (let z : ◌≡◌ {A = ℕ} 0 1 = cc in omega arith)), rest.1))
+        (grind (arith, nat_tests), (grind (arith, nat_tests), rest.1))
 
 -- Sweep
 
 dead_place : (row : List StandingKey) (j : ℕ) (z : StandingKey) → j < length (dead_before row) → (get_or row j z).live ≡ false
 unfolding dead_before
 dead_place [] j z h = absurd (omega arith)
-dead_place (x ∷ row) j z h = at x.live refl j h (λ l. dead_place row l z)
-  where
-    at :
-        (t : Bool) → x.live ≡ t → (l : ℕ) → l < length (cond t [] (x ∷ dead_before row)) → ((m : ℕ) → m < length (dead_before row) → (get_or row m z).live ≡ false) →
-        (get_or (x ∷ row) l z).live ≡ false
-    at true e l h more = absurd (omega arith)
-    at false e zero h more = e
-    at false e (suc l) h more = more l (omega arith)
+dead_place (x ∷ row) zero z h = grind (arith, nat_tests)
+dead_place (x ∷ row) (suc j) z h = grind (arith, nat_tests, dead_place row j z)
 
 all_drop : (P : StandingKey → Type 0) (row : List StandingKey) (j : ℕ) → All P row → All P (drop j row)
 all_drop P row zero a = a
@@ -245,21 +189,11 @@ first_stands x row = rw (eq-eqb x.key x.key refl) refl
 -- what finds and finishes leave
 pub find_left : (key : ℕ) (k : Book) → (operation_book (Find key) k).left ≡ k
 unfolding operation_book on_book_key find_book
-find_left key k = at (is_key k.largest key) (standing_at key k.row)
-  where
-    at : (t : Bool) (o : Option StandingKey) → (cond t (find_book key k o) (refused bad_key k)).left ≡ k
-    at true none = refl
-    at true (some x) = cond_has (λ (o : Outcome Book). o.left ≡ k) x.live (accepted key x.value 0 k) (refused (key_not_live key 0) k) refl refl
-    at false o = refl
+find_left key k = grind arith
 
 pub finish_left : (key : ℕ) (k : Book) → (operation_book (Finish key) k).left ≡ k
 unfolding operation_book on_book_key finish_book
-finish_left key k = at (is_key k.largest key) (standing_at key k.row)
-  where
-    at : (t : Bool) (o : Option StandingKey) → (cond t (finish_book key k o) (refused bad_key k)).left ≡ k
-    at true none = refl
-    at true (some x) = refl
-    at false o = refl
+finish_left key k = grind arith
 
 module _ (D : ℕ) (k : Book) (h : Held D k) where
   old : All (λ y. right_mark k.position y ≡ true) k.row
@@ -268,22 +202,15 @@ module _ (D : ℕ) (k : Book) (h : Held D k) where
   -- the position after an insert: the head or a standing key, below the key, and no higher than before
   inserted_position : (key : ℕ) → 0 < key → (at_position (position_with key k) k.row ≡ true) × ((position_with key k < key) × (position_with key k ≤ k.position))
   unfolding position_with
-  inserted_position key positive = at (leb key k.position) refl
-    where
-      at : (t : Bool) → leb key k.position ≡ t →
-          (at_position (cond t (key_below key k.row) k.position) k.row ≡ true)
-          × ((cond t (key_below key k.row) k.position < key) × (cond t (key_below key k.row) k.position ≤ k.position))
-      at true e =
-          let low = leb-true key k.position e in
-          let b = below_place key k.row positive (place_of key k.row) (omega arith) in
-          let under = b.1 in
-          rw (place_below key 0 k.largest k.row h.rise) (b.0, (b.1, omega arith))
-      at false e = (h.position, (leb-false key k.position e, omega arith))
+  inserted_position key positive =
+      let below = below_place key k.row positive (place_of key k.row) (omega arith) in
+      let taken = place_below key 0 k.largest k.row h.rise in
+      grind (arith, nat_tests, h.position)
 
   placed : (q : ℕ) (row other : List StandingKey) → (stands q row ≡ true → stands q other ≡ true) → at_position q row ≡ true → at_position q other ≡ true
-  placed q row other kept e = or_more (eqb q 0) (stands q row) (stands q other) e kept
+  placed q row other kept e = grind (arith, nat_tests)
 
-  new_held : (key value : ℕ) → is_key k.largest key ≡ true → standing_at key k.row ≡ none → suc (length k.row) < k.cells →
+  new_held : (key value : ℕ) → is_key k.largest key ≡ true → standing_at key k.row ≡ None → suc (length k.row) < k.cells →
       Held D (with_row k (put_key (standing_key key value true) k.row) (position_with key k))
   new_held key value good absent room =
       let g = both (leb 1 key) (leb key k.largest) good in
@@ -346,11 +273,11 @@ module _ (D : ℕ) (k : Book) (h : Held D k) where
         range = h.range;
         room = let left = length-drop j row in let some_left = h.room in omega arith;
         rise = rise_drop 0 k.largest row j h.rise;
-        position = or_right (eqb x.key 0) (stands x.key (drop j row)) (rw split (first_stands x (drop (suc j) row)));
+        position = grind (arith, nat_tests, split, first_stands x (drop (suc j) row));
         marks =
             all_every (right_mark x.key) (drop j row)
             (rw split (
-              mark_again k.position x.key x marks.0 (λ l. absurd (let c : ◌≡◌ {A = ℕ} 0 1 = cc in omega arith)),
+              mark_again k.position x.key x marks.0 (λ l. absurd cc),
               all_zip (λ y e above. mark_again k.position x.key y e (λ l. above)) (drop (suc j) row) marks.1
                   (above_place 0 k.largest row j z h.rise within),
             ));
@@ -358,16 +285,16 @@ module _ (D : ℕ) (k : Book) (h : Held D k) where
 
   insert_held : (key value : ℕ) → is_key k.largest key ≡ true → (o : Option StandingKey) → standing_at key k.row ≡ o → Held D (insert_book key value k o).left
   unfolding insert_book
-  insert_held key value good none absent = at (ltb (suc (length k.row)) k.cells) refl
+  insert_held key value good None absent = at (ltb (suc (length k.row)) k.cells) refl
     where
       at : (t : Bool) → ltb (suc (length k.row)) k.cells ≡ t →
           Held D
-          (cond t (accepted key 0 0 (with_row k (put_key (standing_key key value true) k.row) (position_with key k))) (refused (no_free_cell key 0) k)).left
+          (cond t (accepted key 0 0 (with_row k (put_key (standing_key key value true) k.row) (position_with key k))) (refused (NoFreeCell key 0) k)).left
       at true e = new_held key value good absent (ltb-true (suc (length k.row)) k.cells e)
       at false e = h
-  insert_held key value good (some x) there = at x.live
+  insert_held key value good (Some x) there = at x.live
     where
-      at : (t : Bool) → Held D (cond t (refused (key_live key 0) k) (accepted key 0 0 (with_row k (marked key value true k.row) (position_with key k)))).left
+      at : (t : Bool) → Held D (cond t (refused (KeyLive key 0) k) (accepted key 0 0 (with_row k (marked key value true k.row) (position_with key k)))).left
       at true = h
       at false =
           let q = inserted_position key (leb-true 1 key (both (leb 1 key) (leb key k.largest) good).0) in
@@ -380,13 +307,13 @@ module _ (D : ℕ) (k : Book) (h : Held D k) where
   take_held [] e = h
   take_held (x ∷ later) e =
       let f = first_live 0 k.largest k.row x later h.rise e in
-      marked_held x.key 0 false x.key (or_right (eqb x.key 0) (stands x.key k.row) f.0) refl f.1
+      marked_held x.key 0 false x.key (grind (arith, nat_tests)) refl f.1
 
   pub stays_held : (operation : Operation) → Held D (operation_book operation k).left
   unfolding operation_book on_book_key sweep_book
   stays_held (Insert key value) = at (is_key k.largest key) refl
     where
-      at : (t : Bool) → is_key k.largest key ≡ t → Held D (cond t (insert_book key value k (standing_at key k.row)) (refused bad_key k)).left
+      at : (t : Bool) → is_key k.largest key ≡ t → Held D (cond t (insert_book key value k (standing_at key k.row)) (refused BadKey k)).left
       at true good = insert_held key value good (standing_at key k.row) refl
       at false bad = h
   stays_held (Find key) = rw (find_left key k) h

@@ -1,5 +1,5 @@
 -- One turn of the loops over the keys: what the key at place i says of the keys from it on.
-use mathlib.Core.Path.{◌≡◌, refl}
+use mathlib.Core.Path.{◌≡◌, refl, ap, ◌∙◌}
 use mathlib.Core.Bool.{Bool, true, ◌&&◌}
 use mathlib.Core.List.{List, [], ◌∷◌}
 use Prim.Native.Nat.{ℕ, suc, ◌+◌, ◌-◌, ◌≤◌, ◌<◌}
@@ -11,9 +11,10 @@ use lib.Seq.{take-suc}
 use borrow.Author.Tests.{lt-ltb, le-ltb, le-leb, lt-leb, eq-eqb, ne_eqb}
 use Rattle.lists.specs.Lists.{those}
 use Rattle.lists.proofs.Those.{those_append}
-use Rattle.book.specs.Book.{StandingKey, dead_before, standing_above}
+use Rattle.book.specs.Book.{StandingKey, last_in, dead_before, standing_above}
 use Rattle.row.specs.Row.{key_in, book_in}
-use Rattle.row.specs.Places.{word_of, place_of, right_key, right_keys}
+use Rattle.row.specs.Places.{word_of, place_at, place_of, right_key, right_keys}
+use Rattle.row.proofs.Searching.{last_before}
 use Rattle.row.proofs.Written.{read_length, read_at, read_from_lem}
 
 module _ (ws : List ℕ) (i : ℕ) (h : i < get_or ws 3 0) where
@@ -66,7 +67,7 @@ live_end ws i h = rw (keys_end ws i h) refl
 -- the check of the keys from place i on is that of the key there, and of those after it
 pub right_turn :
     (ws : List ℕ) (n low i : ℕ) → i < n →
-    right_keys ws low i (n - i) ≡ (right_key ws low i && right_keys ws (get_or ws (word_of i) 0) (i + 1) (n - (i + 1)))
+    right_keys ws low i (n - i) ≡ (right_key ws low (place_at ws i) && right_keys ws (place_at ws i).key (i + 1) (n - (i + 1)))
 unfolding right_keys
 right_turn ws n low i h =
     let more : n - i ≡ suc (n - (i + 1)) = omega arith in
@@ -75,3 +76,11 @@ right_turn ws n low i h =
 pub right_end : (ws : List ℕ) (n low i : ℕ) → n ≤ i → right_keys ws low i (n - i) ≡ true
 unfolding right_keys
 right_end ws n low i h = let none : n - i ≡ 0 = omega arith in rw none refl
+
+-- the last of the keys before a place
+pub last_at : (ws : List ℕ) (i : ℕ) → 0 < i → i ≤ get_or ws 3 0 → last_in (take i (book_in ws).row) ≡ (place_at ws (i - 1)).key
+last_at ws i some h =
+    let j = i - 1 in
+    let next : i ≡ suc j = omega arith in
+    let at = read_at ws j (key_in ws j) (omega arith) in
+    ap (λ m. last_in (take m (book_in ws).row)) next ∙ last_before (book_in ws).row j (key_in ws j) (omega (arith, read_length ws)) ∙ ap (λ x. x.key) at

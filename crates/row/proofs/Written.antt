@@ -1,12 +1,13 @@
 -- The words of a row: where its places begin, and that what is read out of them is the book that was written.
 use mathlib.Core.Path.{◌≡◌, refl, sym, ap, ◌∙◌}
 use mathlib.Core.Bool.{Bool, true, false, cond}
-use mathlib.Core.List.{List, [], ◌∷◌, ◌++◌, flat_map}
+use mathlib.Core.List.{List, [], ◌∷◌, ◌++◌}
 use Prim.Native.Nat.{ℕ, zero, suc, ◌+◌, ◌*◌, ◌-◌, ◌≤◌, ◌<◌}
 use native.Mathlib.Omega.{arith}
 use lib.Dec.{eqb}
 use lib.ListN.{length, get_or, take, drop, replicate, length-append, length-replicate}
 use lib.Seq.{drop-cons, get_or-drop, ext_get_or, take-append-add, drop-append-add}
+use Rattle.std.specs.Prelude.{flat_map}
 use Rattle.lists.specs.Lists.{same}
 use Rattle.lists.proofs.Tests.{both, and_both}
 use Rattle.lists.proofs.Numbers.{made_at, made_length}
@@ -18,17 +19,14 @@ use Rattle.row.specs.Places.{word_of}
 -- three words for a key
 
 pub keys_length : (row : List StandingKey) → length (flat_map key_words row) ≡ 3 * length row
-unfolding flat_map
 keys_length [] = refl
 keys_length (x ∷ row) = let more = keys_length row in omega arith
 
 pub keys_append : (a b : List StandingKey) → flat_map key_words (a ++ b) ≡ flat_map key_words a ++ flat_map key_words b
-unfolding flat_map
 keys_append [] b = refl
 keys_append (x ∷ a) b = ap (λ (l : List ℕ). key_words x ++ l) (keys_append a b)
 
 pub keys_take : (row : List StandingKey) (rest : List ℕ) (i : ℕ) → i ≤ length row → take (3 * i) (flat_map key_words row ++ rest) ≡ flat_map key_words (take i row)
-unfolding flat_map
 keys_take row rest zero h = refl
 keys_take [] rest (suc i) h = absurd (omega arith)
 keys_take (x ∷ row) rest (suc i) h =
@@ -37,7 +35,6 @@ keys_take (x ∷ row) rest (suc i) h =
 
 pub keys_drop :
     (row : List StandingKey) (rest : List ℕ) (i : ℕ) → i ≤ length row → drop (3 * i) (flat_map key_words row ++ rest) ≡ flat_map key_words (drop i row) ++ rest
-unfolding flat_map
 keys_drop row rest zero h = refl
 keys_drop [] rest (suc i) h = absurd (omega arith)
 keys_drop (x ∷ row) rest (suc i) h =
@@ -82,7 +79,6 @@ pub word_back :
     (D : ℕ) (k : Book) (i : ℕ) (x : StandingKey) (later : List StandingKey) →
     i < length k.row → drop i k.row ≡ x ∷ later →
     (j : ℕ) → get_or (row_words D k) (word_of i + j) 0 ≡ get_or (key_words x ++ (flat_map key_words later ++ unused k)) j 0
-unfolding flat_map
 word_back D k i x later h e j =
     let rest = words_drop D k i (omega arith) ∙ ap (λ r. flat_map key_words r ++ unused k) e in
     sym (get_or-drop (word_of i) (row_words D k) j 0) ∙ ap (λ l. get_or l j 0) rest

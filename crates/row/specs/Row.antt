@@ -1,9 +1,10 @@
 -- The plain row: a book in words, searched from the front. Its words, which words are a row, and what each operation answers and leaves: The plain row.
-use Rattle.std.specs.Prelude.{Bool, true, false, cond, ◌&&◌, ◌||◌, ℕ, ◌+◌, ◌*◌, ◌-◌, eqb, leb, ltb, length, get_or, replicate}
-use mathlib.Core.List.{List, [], ◌∷◌, ◌++◌, map, flat_map}
+use Rattle.std.specs.Prelude.{Bool, flat_map, true, false, cond, ◌&&◌, ◌||◌, ℕ, ◌+◌, ◌*◌, ◌-◌, eqb, leb, ltb, length, get_or, replicate}
+use mathlib.Core.List.{List, [], ◌∷◌, ◌++◌, map}
 use Rattle.settings.specs.Numbers.{in_range}
 use Rattle.lists.specs.Lists.{every, numbers_from, same}
-use Rattle.answers.specs.Refusals.{Outcome, accepted, refused, out_of_range, wrong_length, not_a_list}
+use Rattle.answers.specs.Refusals.{Outcome, accepted, refused}
+use Rattle.answers.specs.declared.Refusal.TheVariants.{OutOfRange, WrongLength, NotAList}
 use Rattle.answers.specs.declared.Operation.{Operation}
 use Rattle.book.specs.Book.{StandingKey, Book, fresh_book, operation_book}
 
@@ -71,8 +72,8 @@ is_row ws = holds (get_or ws 0 0) (book_in ws) && same (row_words (get_or ws 0 0
 unfoldable pub row_set_up_out : ℕ → ℕ → ℕ → List ℕ → Outcome (List ℕ)
 row_set_up_out D K C ws =
     cond (in_range D K C)
-    (cond (eqb (length ws) (row_length C)) (accepted 0 0 0 (row_words D (fresh_book K C))) (refused wrong_length ws))
-    (refused out_of_range ws)
+    (cond (eqb (length ws) (row_length C)) (accepted 0 0 0 (row_words D (fresh_book K C))) (refused WrongLength ws))
+    (refused OutOfRange ws)
 
 -- an outcome of the book, in words
 abbrev pub in_words : ℕ → Outcome Book → Outcome (List ℕ)
@@ -80,4 +81,4 @@ in_words D o = record { answered = o.answered; left = row_words D o.left }
 
 -- any of the five: 3, then what it does to the book
 unfoldable pub row_out : Operation → List ℕ → Outcome (List ℕ)
-row_out operation ws = cond (is_row ws) (in_words (get_or ws 0 0) (operation_book operation (book_in ws))) (refused not_a_list ws)
+row_out operation ws = cond (is_row ws) (in_words (get_or ws 0 0) (operation_book operation (book_in ws))) (refused NotAList ws)

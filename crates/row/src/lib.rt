@@ -1,19 +1,20 @@
 // The plain row: a second engine beside the list, for acceptance (docs/REFERENCE.md, *The plain row*). The standing keys in ascending order, each with its
 // value and mark, searched from the front. It shares the settings check with the list and no other code. None of the six functions that `row_c` exports has a `requires`, and
 // each contract is the whole outcome of the call: the four numbers and every word.
-#![tactic(auto)]
+// The lent words go from function to function as they are, their shape in a clause: a struct around them would be a second name for them, laid aside at each write.
+#![tactic(auto, using(crate::proofs::Laws::inner), unfolding(crate::specs::Places::right_key, lists::specs::Lists::those, book::specs::Book::last_in))]
 
-ghost use Rattle.std.specs.Prelude.{◌≡◌, true, [], ◌∷◌, ◌++◌, ◌+◌, ◌*◌, ◌-◌, ◌^◌, ◌≤◌, ◌<◌, length, get_or, take, drop, replicate};
+ghost use Rattle.std.specs.Prelude.{◌≡◌, true, [], ◌∷◌, ◌++◌, ◌+◌, ◌*◌, ◌-◌, ◌^◌, ◌≤◌, ◌<◌, length, eqb, get_or, take, drop, MatchOption, MatchResult};
 ghost use Rattle.std.proofs.lemmas.List.Edits.{sets};
-ghost use Rattle.lists.specs.Zeros.{all_zero};
+ghost use Rattle.std.specs.List.{list_all};
 ghost use Rattle.settings.specs.Numbers.{is_key};
-ghost use Rattle.answers.specs.Refusals.{Meets, answer};
+ghost use Rattle.answers.specs.Refusals.{Meets, answer, answer_of};
 ghost use Rattle.answers.specs.declared.Operation.TheVariants.{Insert, Find, Finish, Take, Sweep};
-ghost use Rattle.book.specs.Book.{standing_key, dead_before, standing_above};
+ghost use Rattle.book.specs.Book.{standing_key, standing_above};
 ghost use Rattle.row.specs.Row.{book_in, ascending, at_position, is_row, row_set_up_out, row_out};
-ghost use Rattle.row.specs.Places.{Shaped, HasShape, word_of, place_of, stands_at, position_after, right_key, right_keys, with_keys};
+ghost use Rattle.row.specs.Places.{Shaped, word_of, place_at, Found, Missing, dead_in_front, position_after, right_key, right_keys, with_keys};
 
-use answers::Answer;
+use answers::{Answer, Refusal};
 use settings::Settings;
 
 // The words before the keys: D, K, C, how many keys stand, the position's key.
@@ -34,19 +35,40 @@ const LIVE: u32 = 1;
 
 const DEAD: u32 = 2;
 
-// The four numbers that a call answers.
-fn reply(refusal: u32, key: u32, value: u32, count: u32) -> Answer
-    ensures { result ≡ answer refusal key value count }
+// A place: what is said of a standing key, a word each. The mark may be any number until the row is checked, and so it is one.
+#[derive(Clone, Copy)]
+struct Place {
+    key: u32,
+    value: u32,
+    mark: u32,
+}
+
+// What a refused call answers: the table's number and, where the refusal answers them, a key and a count. The answers are written here, since a
+// row shares no code with the list.
+fn refused(refusal: Refusal, key: u32, count: u32) -> Answer
+    ensures { result ≡ answer (answer_of refusal).refusal key 0 count }
 {
     Answer {
-        refusal,
+        refusal: refusal.number(),
+        key,
+        value: 0,
+        count,
+    }
+}
+
+// What an accepted call answers.
+fn accepted(key: u32, value: u32, count: u32) -> Answer
+    ensures { result ≡ answer 0 key value count }
+{
+    Answer {
+        refusal: 0,
         key,
         value,
         count,
     }
 }
 
-// Where place i begins: each place has three words, key, value and mark.
+// Where place i begins.
 fn word_of(i: usize) -> usize
     requires { i < 2 ^ 60 }
     ensures { result ≡ word_of i }
@@ -54,27 +76,19 @@ fn word_of(i: usize) -> usize
     BEFORE + 3 * i
 }
 
-fn key_at(row: &[u32], i: usize) -> u32
+fn place_at(row: &[u32], i: usize) -> Place
     requires { word_of i + 3 ≤ length row.now }
-    ensures { result ≡ get_or row.now (word_of i) 0 }
+    ensures { result ≡ place_at row.now i }
 {
-    row[word_of(i)]
+    let at = word_of(i);
+    Place {
+        key: row[at],
+        value: row[at + 1],
+        mark: row[at + 2],
+    }
 }
 
-fn value_at(row: &[u32], i: usize) -> u32
-    requires { word_of i + 3 ≤ length row.now }
-    ensures { result ≡ get_or row.now (word_of i + 1) 0 }
-{
-    row[word_of(i) + 1]
-}
-
-fn mark_at(row: &[u32], i: usize) -> u32
-    requires { word_of i + 3 ≤ length row.now }
-    ensures { result ≡ get_or row.now (word_of i + 2) 0 }
-{
-    row[word_of(i) + 2]
-}
-
+// The three words one by one, as each caller has them.
 fn put_at(row: &mut [u32], i: usize, key: u32, value: u32, mark: u32)
     requires { word_of i + 3 ≤ length row.old }
     ensures { row.new ≡ sets row.old (word_of i) (key ∷ value ∷ mark ∷ []) }
@@ -85,25 +99,18 @@ fn put_at(row: &mut [u32], i: usize, key: u32, value: u32, mark: u32)
     row[at + 2] = mark;
 }
 
-// Whether the key at place i is above `low` and at most K, and its mark is right: live above the position, or dead with the value 0.
-fn right_key(row: &[u32], i: usize, low: u32) -> bool
-    requires { word_of i + 3 ≤ length row.now }
-    ensures { result ≡ right_key row.now low i }
+// Whether a place's key is above `low` and at most K, and its mark is right: live above the position, or dead with the value 0.
+fn right_key(row: &[u32], place: Place, low: u32) -> bool
+    requires { 5 ≤ length row.now }
+    ensures { result ≡ right_key row.now low place }
 {
-    let key = key_at(row, i);
-    if key <= low {
-        return false;
-    }
-    if row[LARGEST] < key {
-        return false;
-    }
-    if mark_at(row, i) == LIVE {
-        return row[POSITION] < key;
-    }
-    if mark_at(row, i) != DEAD {
-        return false;
-    }
-    value_at(row, i) == 0
+    low < place.key
+        && place.key <= row[LARGEST]
+        && match place.mark {
+            LIVE => row[POSITION] < place.key,
+            DEAD => place.value == 0,
+            _ => false,
+        }
 }
 
 // Whether each key is right, above the one before.
@@ -111,47 +118,26 @@ fn right_keys(row: &[u32]) -> bool
     requires { Shaped row.now }
     ensures { result ≡ right_keys row.now 0 0 (get_or row.now 3 0) }
 {
-    let keys = row[KEYS] as usize;
-    let mut low: u32 = 0;
-    let mut i: usize = 0;
-    while i < keys {
-        if !right_key(row, i, low) {
+    let mut low = 0;
+    for i in 0..row[KEYS] as usize {
+        let place = place_at(row, i);
+        if !right_key(row, place, low) {
             return false;
         }
-        low = key_at(row, i);
-        i += 1;
-    }
-    true
-}
-
-// Whether every word of a part is 0.
-fn all_zero(part: &[u32]) -> bool
-    ensures { result ≡ all_zero part.now }
-{
-    let mut i: usize = 0;
-    while i < part.len() {
-        if part[i] != 0 {
-            return false;
-        }
-        i += 1;
+        low = place.key;
     }
     true
 }
 
 // Whether there are as many words as C asks for, and room for the keys.
 fn has_shape(row: &[u32]) -> bool
-    ensures { HasShape row.now result }
+    ensures told { result ≡ true → Shaped row.now }
+    ensures kept { is_row row.now ≡ true → result ≡ true }
 {
-    if row.len() < BEFORE {
-        return false;
-    }
-    if !Settings::in_range(row[DIMENSIONS], row[LARGEST], row[CELLS]) {
-        return false;
-    }
-    if row.len() != word_of(row[CELLS] as usize - 1) {
-        return false;
-    }
-    row[KEYS] < row[CELLS]
+    BEFORE <= row.len()
+        && Settings::in_range(row[DIMENSIONS], row[LARGEST], row[CELLS])
+        && row.len() == word_of(row[CELLS] as usize - 1)
+        && row[KEYS] < row[CELLS]
 }
 
 // Whether the position is the head's or a standing key.
@@ -159,28 +145,24 @@ fn right_position(row: &[u32]) -> bool
     requires { Shaped row.now × (ascending 0 (get_or row.now 1 0) (book_in row.now).row ≡ true) }
     ensures { result ≡ at_position (get_or row.now 4 0) (book_in row.now).row }
 {
-    let position = row[POSITION];
-    if position == 0 {
-        return true;
-    }
-    stands_at(row, place_of(row, position), position)
+    row[POSITION] == 0 || place_of(row, row[POSITION]).is_ok()
+}
+
+// Whether every word of an unused place is 0.
+fn unused_zero(row: &[u32]) -> bool
+    requires { Shaped row.now }
+    ensures { result ≡ list_all (λ w. eqb w 0) (drop (word_of (get_or row.now 3 0)) row.now) }
+{
+    let unused = word_of(row[KEYS] as usize);
+    row.iter().skip(unused).all(|word| *word == 0)
 }
 
 // Whether the words are a row.
 fn is_row(row: &[u32]) -> bool
-    ensures { result ≡ is_row row.now }
+    ensures is { result ≡ is_row row.now }
+    ensures shaped { result ≡ true → Shaped row.now }
 {
-    if !has_shape(row) {
-        return false;
-    }
-    if !right_keys(row) {
-        return false;
-    }
-    if !right_position(row) {
-        return false;
-    }
-    let unused = word_of(row[KEYS] as usize);
-    all_zero(&row[unused..])
+    has_shape(row) && right_keys(row) && right_position(row) && unused_zero(row)
 }
 
 // Whether a number is a key of the row: from 1 to K.
@@ -188,53 +170,38 @@ fn is_key(row: &[u32], key: u32) -> bool
     requires { Shaped row.now }
     ensures { result ≡ is_key (get_or row.now 1 0) key }
 {
-    if key == 0 {
-        return false;
-    }
-    key <= row[LARGEST]
+    0 < key && key <= row[LARGEST]
 }
 
-// The place of the first key at or above a key, from the front.
-fn place_of(row: &[u32], key: u32) -> usize
+// The place where a key stands, from the front; or else the one where it would, behind the keys below it.
+fn place_of(row: &[u32], key: u32) -> Result<usize, usize>
     requires { Shaped row.now }
-    ensures { result ≡ place_of key (book_in row.now).row }
+    ensures { MatchResult result (λ i. Found row.now key i) (λ i. Missing row.now key i) }
 {
     let keys = row[KEYS] as usize;
-    let mut place: usize = 0;
-    while place < keys {
-        if key <= key_at(row, place) {
-            return place;
+    for i in 0..keys {
+        let standing = place_at(row, i).key;
+        if standing == key {
+            return Ok(i);
         }
-        place += 1;
+        if key < standing {
+            return Err(i);
+        }
     }
-    place
+    Err(keys)
 }
 
-// Whether a key stands at place i.
-fn stands_at(row: &[u32], i: usize, key: u32) -> bool
+// The place of the first live key, from the front.
+fn first_live(row: &[u32]) -> Option<usize>
     requires { Shaped row.now }
-    ensures { result ≡ stands_at row.now i key }
+    ensures { MatchOption result (dead_in_front row.now ≡ get_or row.now 3 0) (λ i. (dead_in_front row.now ≡ i) × (i < get_or row.now 3 0)) }
 {
-    if row[KEYS] as usize <= i {
-        return false;
-    }
-    key_at(row, i) == key
-}
-
-// The place of the first live key, from the front; behind all keys if none is live.
-fn first_live(row: &[u32]) -> usize
-    requires { Shaped row.now }
-    ensures { result ≡ length (dead_before (book_in row.now).row) }
-{
-    let keys = row[KEYS] as usize;
-    let mut i: usize = 0;
-    while i < keys {
-        if mark_at(row, i) == LIVE {
-            return i;
+    for i in 0..row[KEYS] as usize {
+        if place_at(row, i).mark == LIVE {
+            return Some(i);
         }
-        i += 1;
     }
-    i
+    None
 }
 
 // How many of the keys before place `end` are above `low`.
@@ -242,13 +209,11 @@ fn count_above(row: &[u32], low: u32, end: usize) -> u32
     requires { Shaped row.now × (end ≤ get_or row.now 3 0) }
     ensures { result ≡ standing_above low (take end (book_in row.now).row) }
 {
-    let mut count: u32 = 0;
-    let mut i: usize = 0;
-    while i < end {
-        if low < key_at(row, i) {
+    let mut count = 0;
+    for i in 0..end {
+        if low < place_at(row, i).key {
             count += 1;
         }
-        i += 1;
     }
     count
 }
@@ -265,195 +230,162 @@ fn position_with(row: &[u32], i: usize, key: u32) -> u32
     if i == 0 {
         return 0;
     }
-    key_at(row, i - 1)
-}
-
-// Every word of a part moves up by three, from the last down; the first three are kept.
-fn move_up(part: &mut [u32])
-    requires { 3 ≤ length part.old }
-    ensures { part.new ≡ take 3 part.old ++ take (length part.old - 3) part.old }
-{
-    let mut i = part.len();
-    while 3 < i {
-        i -= 1;
-        part[i] = part[i - 3];
-    }
-}
-
-// Every word of a part becomes 0.
-fn clear(part: &mut [u32])
-    ensures { part.new ≡ replicate (length part.old) 0 }
-{
-    let mut i: usize = 0;
-    while i < part.len() {
-        part[i] = 0;
-        i += 1;
-    }
-}
-
-// Every word of a part moves down by some words; the last ones are kept.
-fn move_down(part: &mut [u32], by: usize)
-    requires { by ≤ length part.old }
-    ensures { part.new ≡ drop by part.old ++ drop (length part.old - by) part.old }
-{
-    let mut i: usize = 0;
-    while i + by < part.len() {
-        part[i] = part[i + by];
-        i += 1;
-    }
-}
-
-// Every word of a part moves down by some words, and the last ones become 0.
-fn shift_down(part: &mut [u32], by: usize)
-    requires { by ≤ length part.old }
-    ensures { part.new ≡ drop by part.old ++ replicate by 0 }
-{
-    move_down(part, by);
-    let end = part.len() - by;
-    clear(&mut part[end..]);
+    place_at(row, i - 1).key
 }
 
 // A new live key at place i: the places behind move up by one.
 fn add_at(row: &mut [u32], i: usize, key: u32, value: u32)
-    requires { (is_row row.old ≡ true) × ((i ≤ get_or row.old 3 0) × (get_or row.old 3 0 + 1 < get_or row.old 2 0)) }
+    requires is { is_row row.old ≡ true }
+    requires shaped { Shaped row.old }
+    requires fits { i ≤ get_or row.old 3 0 }
+    requires room { get_or row.old 3 0 + 1 < get_or row.old 2 0 }
     ensures { row.new ≡ with_keys row.old (take i (book_in row.old).row ++ (standing_key key value true ∷ drop i (book_in row.old).row)) }
 {
     let keys = row[KEYS];
     let start = word_of(i);
-    let end = word_of(keys as usize + 1);
-    move_up(&mut row[start..end]);
+    row.copy_within(start..word_of(keys as usize), start + 3);
     put_at(row, i, key, value, LIVE);
     row[KEYS] = keys + 1;
 }
 
 // The first keys are freed: the places behind move down, and the words that are unused then become 0.
 fn free_first(row: &mut [u32], freed: usize)
-    requires { (is_row row.old ≡ true) × (freed ≤ get_or row.old 3 0) }
+    requires is { is_row row.old ≡ true }
+    requires shaped { Shaped row.old }
+    requires fits { freed ≤ get_or row.old 3 0 }
     ensures { row.new ≡ with_keys row.old (drop freed (book_in row.old).row) }
 {
-    let keys = row[KEYS];
-    let end = word_of(keys as usize);
-    shift_down(&mut row[BEFORE..end], 3 * freed);
-    row[KEYS] = keys - freed as u32;
+    let keys = row[KEYS] as usize;
+    let end = word_of(keys);
+    row.copy_within(word_of(freed)..end, BEFORE);
+    row[word_of(keys - freed)..end].fill(0);
+    row[KEYS] = (keys - freed) as u32;
 }
 
 // Makes the lent words a fresh row for dimensions D, largest key K and C cells.
+#[tactic(auto, using(crate::proofs::Laws::sets_up))]
 pub fn row_set_up(d: u32, k: u32, c: u32, row: &mut [u32]) -> Answer
     ensures { Meets (row_set_up_out d k c row.old) result row.new }
 {
     if !Settings::in_range(d, k, c) {
-        return reply(answers::OUT_OF_RANGE, 0, 0, 0);
+        return refused(Refusal::OutOfRange, 0, 0);
     }
     if row.len() != word_of(c as usize - 1) {
-        return reply(answers::WRONG_LENGTH, 0, 0, 0);
+        return refused(Refusal::WrongLength, 0, 0);
     }
-    clear(row);
+    row.fill(0);
     row[DIMENSIONS] = d;
     row[LARGEST] = k;
     row[CELLS] = c;
-    reply(0, 0, 0, 0)
+    accepted(0, 0, 0)
 }
 
 // Puts a key with its value into the row.
+#[tactic(auto, using(crate::proofs::Laws::inserts))]
 pub fn row_insert(row: &mut [u32], key: u32, value: u32) -> Answer
     ensures { Meets (row_out (Insert key value) row.old) result row.new }
 {
     if !is_row(row) {
-        return reply(answers::NOT_A_LIST, 0, 0, 0);
+        return refused(Refusal::NotAList, 0, 0);
     }
     if !is_key(row, key) {
-        return reply(answers::BAD_KEY, 0, 0, 0);
+        return refused(Refusal::BadKey, 0, 0);
     }
-    let place = place_of(row, key);
-    let position = position_with(row, place, key);
-    if stands_at(row, place, key) {
-        if mark_at(row, place) == LIVE {
-            return reply(answers::KEY_LIVE, key, 0, 0);
+    match place_of(row, key) {
+        Ok(i) => {
+            if place_at(row, i).mark == LIVE {
+                return refused(Refusal::KeyLive(key, 0), key, 0);
+            }
+            let position = position_with(row, i, key);
+            put_at(row, i, key, value, LIVE);
+            row[POSITION] = position;
         }
-        put_at(row, place, key, value, LIVE);
-        row[POSITION] = position;
-        return reply(0, key, 0, 0);
+        Err(i) => {
+            if row[CELLS] <= row[KEYS] + 1 {
+                return refused(Refusal::NoFreeCell(key, 0), key, 0);
+            }
+            let position = position_with(row, i, key);
+            add_at(row, i, key, value);
+            row[POSITION] = position;
+        }
     }
-    if row[CELLS] <= row[KEYS] + 1 {
-        return reply(answers::NO_FREE_CELL, key, 0, 0);
-    }
-    add_at(row, place, key, value);
-    row[POSITION] = position;
-    reply(0, key, 0, 0)
+    accepted(key, 0, 0)
 }
 
 // Finds a live key's value; writes nothing.
+#[tactic(auto, using(crate::proofs::Laws::finds))]
 pub fn row_find(row: &[u32], key: u32) -> Answer
     ensures { Meets (row_out (Find key) row.now) result row.now }
 {
     if !is_row(row) {
-        return reply(answers::NOT_A_LIST, 0, 0, 0);
+        return refused(Refusal::NotAList, 0, 0);
     }
     if !is_key(row, key) {
-        return reply(answers::BAD_KEY, 0, 0, 0);
+        return refused(Refusal::BadKey, 0, 0);
     }
-    let place = place_of(row, key);
-    if !stands_at(row, place, key) {
-        return reply(answers::KEY_NOT_LIVE, key, 0, 0);
+    let Ok(i) = place_of(row, key) else {
+        return refused(Refusal::KeyNotLive(key, 0), key, 0);
+    };
+    let place = place_at(row, i);
+    if place.mark != LIVE {
+        return refused(Refusal::KeyNotLive(key, 0), key, 0);
     }
-    if mark_at(row, place) != LIVE {
-        return reply(answers::KEY_NOT_LIVE, key, 0, 0);
-    }
-    reply(0, key, value_at(row, place), 0)
+    accepted(key, place.value, 0)
 }
 
 // Tells whether a key stands: a row owes nothing.
+#[tactic(auto, using(crate::proofs::Laws::finishes))]
 pub fn row_finish(row: &[u32], key: u32) -> Answer
     ensures { Meets (row_out (Finish key) row.now) result row.now }
 {
     if !is_row(row) {
-        return reply(answers::NOT_A_LIST, 0, 0, 0);
+        return refused(Refusal::NotAList, 0, 0);
     }
     if !is_key(row, key) {
-        return reply(answers::BAD_KEY, 0, 0, 0);
+        return refused(Refusal::BadKey, 0, 0);
     }
-    let place = place_of(row, key);
-    if !stands_at(row, place, key) {
-        return reply(answers::KEY_NOT_STANDING, key, 0, 0);
+    if place_of(row, key).is_err() {
+        return refused(Refusal::KeyNotStanding(key), key, 0);
     }
-    reply(0, key, 0, 0)
+    accepted(key, 0, 0)
 }
 
 // Takes the least live key.
+#[tactic(auto, using(crate::proofs::Laws::takes))]
 pub fn row_take(row: &mut [u32]) -> Answer
     ensures { Meets (row_out Take row.old) result row.new }
 {
     if !is_row(row) {
-        return reply(answers::NOT_A_LIST, 0, 0, 0);
+        return refused(Refusal::NotAList, 0, 0);
     }
-    let i = first_live(row);
     let position = row[POSITION];
-    if row[KEYS] as usize <= i {
-        return reply(answers::NOTHING_LIVE, 0, 0, count_above(row, position, i));
-    }
-    let key = key_at(row, i);
-    let value = value_at(row, i);
+    let Some(i) = first_live(row) else {
+        let above = count_above(row, position, row[KEYS] as usize);
+        return refused(Refusal::NothingLive(above), 0, above);
+    };
+    let Place { key, value, .. } = place_at(row, i);
     let passed = count_above(row, position, i + 1);
     put_at(row, i, key, 0, DEAD);
     row[POSITION] = key;
-    reply(0, key, value, passed)
+    accepted(key, value, passed)
 }
 
 // Frees the dead keys before the first live one, but for the last of them: it is kept and becomes the position.
+#[tactic(auto, using(crate::proofs::Laws::sweeps))]
 pub fn row_sweep(row: &mut [u32]) -> Answer
     ensures { Meets (row_out Sweep row.old) result row.new }
 {
     if !is_row(row) {
-        return reply(answers::NOT_A_LIST, 0, 0, 0);
+        return refused(Refusal::NotAList, 0, 0);
     }
-    let dead = first_live(row);
+    let dead = first_live(row).unwrap_or(row[KEYS] as usize);
     if dead == 0 {
         row[POSITION] = 0;
-        return reply(0, 0, 0, 0);
+        return accepted(0, 0, 0);
     }
     let freed = dead - 1;
-    let position = key_at(row, freed);
+    let position = place_at(row, freed).key;
     free_first(row, freed);
     row[POSITION] = position;
-    reply(0, 0, 0, freed as u32)
+    accepted(0, 0, freed as u32)
 }

@@ -1,6 +1,8 @@
 -- What a line of a trace does to a plain row: the replay's lines for words and calls; those for bytes, records and files are not readable here.
-use Rattle.std.specs.Prelude.{◌≡◌, List, ◌++◌, ℕ, ◌+◌}
-use Rattle.answers.specs.Refusals.{Outcome, refused, line_not_readable, answer_of}
+use Rattle.answers.specs.declared.Answer.{Answer}
+use Rattle.std.specs.Prelude.{◌≡◌, List, ◌++◌, ℕ, ◌+◌, None, Option, Some}
+use Rattle.answers.specs.Refusals.{Outcome, refused, answer_of}
+use Rattle.answers.specs.declared.Refusal.TheVariants.{LineNotReadable}
 use Rattle.calls.specs.declared.Call.{Call}
 use Rattle.calls.specs.declared.Call.TheVariants.{SetUp, Operate, Record, Write, Read}
 use Rattle.report.specs.Report.{checksum_text, field_bytes, answer_bytes}
@@ -8,8 +10,6 @@ use Rattle.trace.specs.Lines.{most_words}
 use Rattle.trace.specs.declared.Kind.{Kind}
 use Rattle.trace.specs.declared.Kind.TheVariants.{Fresh, Make, Put, Length, Bytes, Add, PutByte, Last, Unreadable}
 use Rattle.trace_held.specs.Held.{buffer_after, Holds}
-use Rattle.trace_call.specs.declared.Reply.{Reply}
-use Rattle.trace_call.specs.declared.Reply.TheVariants.{Four, NoCall}
 use Rattle.trace_step.specs.Printed.{head_text}
 use Rattle.row.specs.Row.{row_set_up_out, row_out}
 use Rattle.row_step.specs.declared.Done.{Done}
@@ -18,21 +18,21 @@ use Rattle.row_step.specs.declared.Done.{Done}
 abbrev pub row_call : Call → List ℕ → Outcome (List ℕ)
 row_call (SetUp D K C) ws = row_set_up_out D K C ws
 row_call (Operate operation) ws = row_out operation ws
-row_call Record ws = refused line_not_readable ws
-row_call Write ws = refused line_not_readable ws
-row_call Read ws = refused line_not_readable ws
+row_call Record ws = refused LineNotReadable ws
+row_call Write ws = refused LineNotReadable ws
+row_call Read ws = refused LineNotReadable ws
 
 -- what a line is answered, and the words after its call
-abbrev pub row_reply : Kind → List ℕ → Reply
-row_reply (Fresh n call) ws = Four (row_call call ws).answered
-row_reply (Make call) ws = Four (row_call call ws).answered
-row_reply (Put index value) ws = NoCall
-row_reply (Length n) ws = NoCall
-row_reply (Bytes n) ws = Four (answer_of line_not_readable)
-row_reply Add ws = Four (answer_of line_not_readable)
-row_reply (PutByte index value) ws = Four (answer_of line_not_readable)
-row_reply (Last number) ws = Four (answer_of line_not_readable)
-row_reply Unreadable ws = Four (answer_of line_not_readable)
+abbrev pub row_reply : Kind → List ℕ → Option Answer
+row_reply (Fresh n call) ws = Some (row_call call ws).answered
+row_reply (Make call) ws = Some (row_call call ws).answered
+row_reply (Put index value) ws = None
+row_reply (Length n) ws = None
+row_reply (Bytes n) ws = Some (answer_of LineNotReadable)
+row_reply Add ws = Some (answer_of LineNotReadable)
+row_reply (PutByte index value) ws = Some (answer_of LineNotReadable)
+row_reply (Last number) ws = Some (answer_of LineNotReadable)
+row_reply Unreadable ws = Some (answer_of LineNotReadable)
 
 abbrev pub row_leaves : Kind → List ℕ → List ℕ
 row_leaves (Fresh n call) ws = (row_call call ws).left
@@ -46,7 +46,7 @@ row_leaves (Last number) ws = ws
 row_leaves Unreadable ws = ws
 
 -- A line's call was made: its reply, and the words after it.
-pub record RowCalled (kind : Kind) (ws : List ℕ) (r : Reply) (after : List ℕ) : Type 0 where
+pub record RowCalled (kind : Kind) (ws : List ℕ) (r : Option Answer) (after : List ℕ) : Type 0 where
   pub reply : r ≡ row_reply kind ws
   pub left : after ≡ row_leaves kind ws
 
@@ -54,11 +54,11 @@ pub record RowCalled (kind : Kind) (ws : List ℕ) (r : Reply) (after : List ℕ
 unfoldable pub left_by : Kind → List ℕ → List ℕ
 left_by kind ws = row_leaves kind (buffer_after kind ws)
 
-unfoldable pub replied_to : Kind → List ℕ → Reply
+unfoldable pub replied_to : Kind → List ℕ → Option Answer
 replied_to kind ws = row_reply kind (buffer_after kind ws)
 
 -- the bytes printed: the reply, and the checksum of the words afterwards
-unfoldable pub row_text : Reply → List ℕ → List ℕ
+unfoldable pub row_text : Option Answer → List ℕ → List ℕ
 row_text reply ws = head_text reply ++ checksum_text ws
 
 -- the room for a line

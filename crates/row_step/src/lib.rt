@@ -8,11 +8,10 @@ ghost use Rattle.trace.specs.Lines.{most_words, Fits};
 ghost use Rattle.trace_held.specs.Held.{Held};
 ghost use Rattle.row_step.specs.Lines.{row_call, RowCalled, left_by, row_text, line_bytes, RowDone, TextOf};
 
-use answers::Answer;
+use answers::{Answer, Refusal};
 use calls::Call;
 use text::feed::Told;
 use trace::Kind;
-use trace_call::Reply;
 
 // The room for a line: an answer and a checksum.
 const LINE_BYTES: usize = report::ANSWER_BYTES + report::FIELD_BYTES;
@@ -21,7 +20,7 @@ const LINE_BYTES: usize = report::ANSWER_BYTES + report::FIELD_BYTES;
 #[derive(Clone, Copy)]
 struct Done {
     pub used: usize,
-    pub reply: Reply,
+    pub reply: Option<Answer>,
 }
 
 // Makes a call on the row; what a row does not offer is answered 10.
@@ -31,26 +30,26 @@ fn make(keys: &mut [u32], call: Call) -> Answer
     match call {
         Call::SetUp(d, k, c) => return row::row_set_up(d, k, c, keys),
         Call::Operate(operation) => return acceptance_step::row_operation(keys, operation),
-        Call::Record => return answers::refused(answers::LINE_NOT_READABLE),
-        Call::Write => return answers::refused(answers::LINE_NOT_READABLE),
-        Call::Read => return answers::refused(answers::LINE_NOT_READABLE),
+        Call::Record => return answers::refused(Refusal::LineNotReadable),
+        Call::Write => return answers::refused(Refusal::LineNotReadable),
+        Call::Read => return answers::refused(Refusal::LineNotReadable),
     }
 }
 
 // The line's call; a line that is not readable is answered 10.
-fn line_call(keys: &mut [u32], kind: Kind) -> Reply
+fn line_call(keys: &mut [u32], kind: Kind) -> Option<Answer>
     ensures { RowCalled kind keys.old result keys.new }
 {
     match kind {
-        Kind::Fresh(_, call) => return Reply::Four(make(keys, call)),
-        Kind::Make(call) => return Reply::Four(make(keys, call)),
-        Kind::Put(_, _) => return Reply::NoCall,
-        Kind::Length(_) => return Reply::NoCall,
-        Kind::Bytes(_) => return Reply::Four(answers::refused(answers::LINE_NOT_READABLE)),
-        Kind::Add => return Reply::Four(answers::refused(answers::LINE_NOT_READABLE)),
-        Kind::PutByte(_, _) => return Reply::Four(answers::refused(answers::LINE_NOT_READABLE)),
-        Kind::Last(_) => return Reply::Four(answers::refused(answers::LINE_NOT_READABLE)),
-        Kind::Unreadable => return Reply::Four(answers::refused(answers::LINE_NOT_READABLE)),
+        Kind::Fresh(_, call) => return Some(make(keys, call)),
+        Kind::Make(call) => return Some(make(keys, call)),
+        Kind::Put(_, _) => return None,
+        Kind::Length(_) => return None,
+        Kind::Bytes(_) => return Some(answers::refused(Refusal::LineNotReadable)),
+        Kind::Add => return Some(answers::refused(Refusal::LineNotReadable)),
+        Kind::PutByte(_, _) => return Some(answers::refused(Refusal::LineNotReadable)),
+        Kind::Last(_) => return Some(answers::refused(Refusal::LineNotReadable)),
+        Kind::Unreadable => return Some(answers::refused(Refusal::LineNotReadable)),
     }
 }
 
@@ -65,7 +64,7 @@ fn do_line(words: &mut [u32], used: usize, kind: Kind) -> Done
 }
 
 // Puts what is printed for a line into `out`, from the first byte on; how many bytes.
-fn put_line(out: &mut [u8], reply: Reply, list: &[u32]) -> usize
+fn put_line(out: &mut [u8], reply: Option<Answer>, list: &[u32]) -> usize
     requires { line_bytes ≤ length out.old }
     ensures { (take result out.new ≡ row_text reply list.now) × (result ≤ length out.new) }
 {

@@ -1,9 +1,9 @@
 -- The way to the standing cell of next smaller key, turn by turn: where the cell at hand and the number of the link at hand have come to, what is
 -- left of the way leads to its last cell, and each turn raises the number or the cell's digit there.
+use Rattle.std.specs.Prelude.{Option, None, Some}
 use mathlib.Core.Path.{◌≡◌, refl, sym, ap, ◌∙◌, subst, subst₂}
 use mathlib.Core.Logic.{◌⊎◌, inl, inr}
 use mathlib.Core.List.{List}
-use mathlib.Core.Option.{Option, none, some}
 use Prim.Native.Nat.{ℕ, zero, suc, ◌*◌, ◌≤◌, ◌<◌}
 use native.Mathlib.Omega.{arith}
 use borrow.Author.Tests.{lt-ltb, le-ltb, eq-eqb, ne_eqb}
@@ -56,8 +56,8 @@ hangs_from s v k least most = at (node_at k s.row) refl
     by sides (inr m) = of sides m.placed m.hangs
 
     at : (o : Option Node) → node_at k s.row ≡ o → HangsFrom s k
-    at none e = by (sides_absent (gap k 0 s.row v.ascends e)) (rests s v k least most)
-    at (some x) e =
+    at None e = by (sides_absent (gap k 0 s.row v.ascends e)) (rests s v k least most)
+    at (Some x) e =
         let (pre, post, split) = node_split k x s.row e in
         by (sides_present pre x post v.ascends (node_key k x s.row e) split) (rests s v k least most)
 
@@ -67,8 +67,8 @@ unfolding found_of found_at
 found_from s k {f} is = at (node_at k s.row) is
   where
     at : (o : Option Node) → f ≡ found_at s k o → (slot_parent s k ≡ f.parent) × (slot_number s k ≡ f.p)
-    at none e = (ap (λ (g : Found). g.parent) (sym e), ap (λ (g : Found). g.p) (sym e))
-    at (some x) e = (ap (λ (g : Found). g.parent) (sym e), ap (λ (g : Found). g.p) (sym e))
+    at None e = (ap (λ (g : Found). g.parent) (sym e), ap (λ (g : Found). g.p) (sym e))
+    at (Some x) e = (ap (λ (g : Found). g.parent) (sym e), ap (λ (g : Found). g.p) (sym e))
 
 -- the way has come to cell `at` and link d; `last` is its last cell
 pub record OnWay (s : State) (ws : List ℕ) (k last at d : ℕ) : Type 0 where

@@ -1,10 +1,10 @@
 -- Where the walk for k rests is what the search answers. For want of a link it rests at k's parent, whose slot is empty. Else its last
 -- move was the parent's link: to k itself, or to the node of next larger key, which has the slot.
+use Rattle.std.specs.Prelude.{None, Some}
 use mathlib.Core.Path.{◌≡◌, refl, sym, ap, ap₂, ◌∙◌, subst}
 use mathlib.Core.Bool.{true, false, cond}
 use mathlib.Core.List.{List, [], ◌∷◌, ◌++◌}
 use mathlib.Core.Logic.{◌⊎◌, inl, inr}
-use mathlib.Core.Option.{none, some}
 use Prim.Native.Nat.{ℕ, ◌≤◌, ◌<◌}
 use native.Mathlib.Omega.{arith}
 use lib.Dec.{eqb}
@@ -40,7 +40,7 @@ use Rattle.search.proofs.Sides.{Sides, sides_absent, sides_present, slot_at, hun
 -- What is answered, part by part
 
 absent_is :
-    (s : State) (k : ℕ) {parent p c q n : ℕ} → node_at k s.row ≡ none → parent ≡ slot_parent s k → p ≡ slot_number s k → c ≡ slot_cell s k →
+    (s : State) (k : ℕ) {parent p c q n : ℕ} → node_at k s.row ≡ None → parent ≡ slot_parent s k → p ≡ slot_number s k → c ≡ slot_cell s k →
     q ≡ cond (eqb (slot_cell s k) 0) 0 (slot_shared s k) → n ≡ looked s k →
     record { standing = false; parent = parent; p = p; c = c; q = q; looked = n } ≡ found_of s k
 unfolding found_of found_at
@@ -48,7 +48,7 @@ absent_is s k absent parent p c q n =
     ◌∙◌ {A = Found} (λ i. record { standing = false; parent = parent i; p = p i; c = c i; q = q i; looked = n i }) (sym (ap (found_at s k) absent))
 
 present_is :
-    (s : State) (k : ℕ) {x : Node} {parent p c q n : ℕ} → node_at k s.row ≡ some x → parent ≡ slot_parent s k → p ≡ slot_number s k → c ≡ x.cell →
+    (s : State) (k : ℕ) {x : Node} {parent p c q n : ℕ} → node_at k s.row ≡ Some x → parent ≡ slot_parent s k → p ≡ slot_number s k → c ≡ x.cell →
     q ≡ s.settings.dimensions → n ≡ looked s k →
     record { standing = true; parent = parent; p = p; c = c; q = q; looked = n } ≡ found_of s k
 unfolding found_of found_at
@@ -67,7 +67,7 @@ pub record Answers (t : State) (s : Settings) (k key : ℕ) (r : Rest) : Type 0 
 -- the node of next larger key, where its cell is the one that has the slot
 next_is :
     (b D k d : ℕ) (pre post : List Node) {c : ℕ} {to : Place} → Apart (head_node ∷ (pre ++ post)) → 0 < c → slot.cell_after b D k d post ≡ c →
-    place_of c (places b D (pre ++ post)) ≡ some to → (first_of post).key ≡ to.node.key
+    place_of c (places b D (pre ++ post)) ≡ Some to → (first_of post).key ≡ to.node.key
 unfolding places
 next_is b D k d pre [] o nz e found = absurd (omega arith)
 next_is b D k d pre (x ∷ post) {c} {to} o nz e found =
@@ -93,7 +93,7 @@ module _ {s : State} (v : Sound s) {k : ℕ} (least : 1 ≤ k) {x : ℕ} {p : Pl
       (sym (t.parent ∙ is.1 ∙ placed_cell here), sym (t.number ∙ is.0))
 
   -- the cell in the slot, where k does not stand: where the parent's link leads
-  slot_leads : node_at k s.row ≡ none →
+  slot_leads : node_at k s.row ≡ None →
       slot_cell s k ≡ first_sharing s.settings.base s.settings.dimensions p.node.key
       (shared s.settings.base s.settings.dimensions p.node.key k) p.later
   unfolding settled_link_at
@@ -111,7 +111,7 @@ module _ {s : State} (v : Sound s) {k : ℕ} (least : 1 ≤ k) {x : ℕ} {p : Pl
       (apart_left (head_node ∷ g.pre) g.post o) g.below
       (slot.gap_above k (last_from head_node g.pre).key g.post (asc_last head_node g.pre g.post a) g.above))
       ∙ ap₂ (λ d c. settled_link_at b D d (place_of c (places b D (g.pre ++ g.post)))) is.0 (is.1 ∙ placed_cell here)
-      ∙ ap (settled_link_at b D (shared b D p.node.key k)) (subst (λ r. place_of x (places b D r) ≡ some p) g.splits here.found)
+      ∙ ap (settled_link_at b D (shared b D p.node.key k)) (subst (λ r. place_of x (places b D r) ≡ Some p) g.splits here.found)
       ∙ settled_above b D p (shared b D p.node.key k) h.dimension
 
 module _ (s : State) (v : Sound s) (k : ℕ) (least : 1 ≤ k) (most : k ≤ s.settings.largest) (r : Rest) (is : r ≡ rest (picture s) k) where
@@ -148,7 +148,7 @@ module _ (s : State) (v : Sound s) (k : ℕ) (least : 1 ≤ k) (most : k ≤ s.s
       let next : (first_of g.post).key ≡ m.to.node.key =
       next_is b D k (dimension_after b D head_node g.pre k) g.pre g.post
       (subst (λ r. Apart (head_node ∷ r)) g.splits (slot.sound_apart s v)) other (sym is.cell ∙ held)
-      (subst (λ row. place_of r.at (places b D row) ≡ some m.to) g.splits m.to_placed.found) in
+      (subst (λ row. place_of r.at (places b D row) ≡ Some m.to) g.splits m.to_placed.found) in
       let some-c : slot_cell s k ≡ 0 → ⊥ = (λ e. omega arith) in
       let less = shared_less b D m.to.node.key k (slot.dimensions_positive s v) (omega arith) in
       let shares : slot_shared s k ≡ shared b D m.to.node.key k = is.shares ∙ ap (shared b D k) next ∙ shared_sym b D k m.to.node.key in

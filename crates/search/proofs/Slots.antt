@@ -1,9 +1,9 @@
 -- What the search answers of a key, for insert, find and finish. Of one that stands: its node's cell. Of one that does not: the slot in which
 -- an insert puts it. Either way the cells named are standing ones.
+use Rattle.std.specs.Prelude.{Option, None, Some}
 use mathlib.Core.Path.{◌≡◌, refl, sym, ap, ◌∙◌, subst}
 use mathlib.Core.Bool.{true, false, cond, false≢true}
 use mathlib.Core.List.{List, [], ◌∷◌, ◌++◌, map}
-use mathlib.Core.Option.{Option, none, some}
 use Prim.Native.Nat.{ℕ, suc, ◌≤◌, ◌<◌}
 use native.Mathlib.Decide.{ℕ_discrete}
 use native.Mathlib.Omega.{arith}
@@ -52,7 +52,7 @@ pub stands_below : {s : State} → Sound s → (c : ℕ) → Stands s c → c < 
 stands_below {s} v c h = placed_below v (occurs_placed s c h).1
 
 -- the place of the node with a key
-pub node_placed : {s : State} → Sound s → (k : ℕ) (x : Node) → node_at k s.row ≡ some x → (p : Place) × (Placed s x.cell p × (p.node ≡ x))
+pub node_placed : {s : State} → Sound s → (k : ℕ) (x : Node) → node_at k s.row ≡ Some x → (p : Place) × (Placed s x.cell p × (p.node ≡ x))
 unfolding places
 node_placed {s} v k x e =
     let b = s.settings.base in
@@ -68,7 +68,7 @@ node_placed {s} v k x e =
 
 -- of a key that stands, with node x
 pub record Present (s : State) (k : ℕ) (x : Node) (f : Found) : Type 0 where
-  pub node : node_at k s.row ≡ some x
+  pub node : node_at k s.row ≡ Some x
   pub standing : f.standing ≡ true
   pub c : f.c ≡ x.cell
   pub looked : f.looked ≡ looked s k
@@ -80,7 +80,7 @@ pub record Present (s : State) (k : ℕ) (x : Node) (f : Found) : Type 0 where
 
 -- of a key that does not; c is 0, and with it q, where no cell has the slot
 pub record Absent (s : State) (k : ℕ) (f : Found) : Type 0 where
-  pub node : node_at k s.row ≡ none
+  pub node : node_at k s.row ≡ None
   pub standing : f.standing ≡ false
   pub looked : f.looked ≡ looked s k
   pub parent_stands : Stands s f.parent
@@ -132,7 +132,7 @@ module _ (s : State) (v : Sound s) (k : ℕ) (least : 1 ≤ k) where
         rw (ne_eqb (slot_cell s k) 0 ne, t.shares) less,
       )
 
-  pub present_at : (x : Node) → node_at k s.row ≡ some x → Present s k x (found_at s k (some x))
+  pub present_at : (x : Node) → node_at k s.row ≡ Some x → Present s k x (found_at s k (Some x))
   unfolding found_at
   present_at x e =
       let split = node_split k x s.row e in
@@ -154,7 +154,7 @@ module _ (s : State) (v : Sound s) (k : ℕ) (least : 1 ≤ k) where
         p_below = number_below g;
       }
 
-  pub absent_at : node_at k s.row ≡ none → Absent s k (found_at s k none)
+  pub absent_at : node_at k s.row ≡ None → Absent s k (found_at s k None)
   unfolding found_at
   absent_at e =
       let gap = slot.gap k 0 s.row v.ascends e in
@@ -177,7 +177,7 @@ module _ (s : State) (v : Sound s) (k : ℕ) (least : 1 ≤ k) where
       }
 
   -- the slot in which an insert puts the key
-  pub slot_at_absent : node_at k s.row ≡ none → 0 < length s.free → SlotFound (found_at s k none) (slot_for s k)
+  pub slot_at_absent : node_at k s.row ≡ None → 0 < length s.free → SlotFound (found_at s k None) (slot_for s k)
   unfolding found_at
   slot_at_absent e room =
       let gap = slot.gap k 0 s.row v.ascends e in
@@ -199,16 +199,16 @@ module _ {s : State} (v : Sound s) {k : ℕ} (least : 1 ≤ k) {f : Found} (is :
   found_standing t = at (node_at k s.row) refl
     where
       at : (o : Option Node) → node_at k s.row ≡ o → (x : Node) × Present s k x f
-      at none e = absurd (let q : f ≡ found_at s k none = is ∙ ap (found_at s k) e in let z : false ≡ true = sym (ap (λ g. g.standing) q) ∙ t in false≢true z)
-      at (some x) e = (x, subst (Present s k x) (sym (is ∙ ap (found_at s k) e)) (present_at s v k least x e))
+      at None e = absurd (let q : f ≡ found_at s k None = is ∙ ap (found_at s k) e in let z : false ≡ true = sym (ap (λ g. g.standing) q) ∙ t in false≢true z)
+      at (Some x) e = (x, subst (Present s k x) (sym (is ∙ ap (found_at s k) e)) (present_at s v k least x e))
 
   pub found_missing : f.standing ≡ false → Absent s k f
   unfolding found_of found_at
   found_missing t = at (node_at k s.row) refl
     where
       at : (o : Option Node) → node_at k s.row ≡ o → Absent s k f
-      at none e = subst (Absent s k) (sym (is ∙ ap (found_at s k) e)) (absent_at s v k least e)
-      at (some x) e = absurd (let q : f ≡ found_at s k (some x) = is ∙ ap (found_at s k) e in let z : false ≡ true = sym t ∙ ap (λ g. g.standing) q in
+      at None e = subst (Absent s k) (sym (is ∙ ap (found_at s k) e)) (absent_at s v k least e)
+      at (Some x) e = absurd (let q : f ≡ found_at s k (Some x) = is ∙ ap (found_at s k) e in let z : false ≡ true = sym t ∙ ap (λ g. g.standing) q in
           false≢true z)
 
   pub found_slot : f.standing ≡ false → 0 < length s.free → SlotFound f (slot_for s k)

@@ -1,7 +1,6 @@
 -- What the search for a key answers on a list, over the standing keys. The slot is put by the next smaller and the next larger key, as the
 -- walk finds it; that it is the meaning's own (slot_for) is found_slot in proofs/Slots.antt. Where there is no c, q is 0.
-use Rattle.std.specs.Prelude.{◌≡◌, true, false, cond, List, ◌∷◌, ℕ, suc, ◌≤◌, eqb, leb, ltb, length}
-use Rattle.std.proofs.Math.Option.{Option, none, some}
+use Rattle.std.specs.Prelude.{◌≡◌, true, false, cond, List, ◌∷◌, ℕ, suc, ◌≤◌, eqb, leb, ltb, length, Option, None, Some}
 use Rattle.settings.specs.declared.Settings.{Settings}
 use Rattle.lists.specs.Lists.{those}
 use Rattle.meaning.specs.Keys.{shared}
@@ -38,7 +37,7 @@ slot_cell s k = cond (leb (slot_number s k) (slot_shared s k)) (larger_than k s.
 
 -- A standing key has its own cell in the slot, and shares all D coordinates with it.
 unfoldable pub found_at : State → ℕ → Option Node → Found
-found_at s k none =
+found_at s k None =
     record {
       standing = false;
       parent = slot_parent s k;
@@ -47,7 +46,7 @@ found_at s k none =
       q = cond (eqb (slot_cell s k) 0) 0 (slot_shared s k);
       looked = looked s k;
     }
-found_at s k (some x) =
+found_at s k (Some x) =
     record { standing = true; parent = slot_parent s k; p = slot_number s k; c = x.cell; q = s.settings.dimensions; looked = looked s k }
 
 unfoldable pub found_of : State → ℕ → Found

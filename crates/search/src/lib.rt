@@ -39,6 +39,7 @@ fn rest_of(list: &[u32], s: Settings, starts: &[u64], powers: &[u64], k: u32) ->
     let mut at: u32 = 0;
     let mut d: u32 = 0;
     let mut looked: u32 = 0;
+    // A loop: each step is told by the cell that it is made from.
     loop {
         let next = steps::step(list, s, starts, powers, k, at, d);
         match next {
@@ -110,6 +111,7 @@ pub fn lower(list: &[u32], s: Settings, f: Found) -> u32
 {
     let mut at = f.parent;
     let mut d = f.p + 1;
+    // A while: the link that is read tells whether the cell or the number goes on.
     while d < s.dimensions {
         let y = words::link_read(list, s, at, d);
         if y == 0 {

@@ -1,12 +1,12 @@
 -- A list that is written from the front is what is written so far and what stood after it: each law takes one write to the next.
 use mathlib.Core.Path.{◌≡◌, refl, sym, ap, ◌∙◌}
-use mathlib.Core.List.{List, ◌∷◌, ◌++◌, append_assoc, append-nil, flat_map}
+use mathlib.Core.List.{List, ◌++◌, append_assoc, append-nil, flat_map}
 use Prim.Native.Nat.{ℕ, zero, suc, ◌+◌, ◌*◌, ◌-◌, ◌≤◌, ◌<◌}
 use native.Mathlib.Nat.{add-zero, zero-add, add-suc, suc-add, zero-mul, suc-mul, mul-le-mul_right, add-sub_cancel_left}
 use native.Mathlib.Numerals.{add-one}
 use native.Mathlib.Omega.{arith}
-use lib.ListN.{length, take, drop, set, length-append, length-drop, length-replicate, take-append-drop, drop_of_length-le}
-use lib.Seq.{drop-drop, sets, sets-eq, take_at, drop_at, length-take-le}
+use lib.ListN.{length, take, drop, length-append, length-drop, length-replicate, take-append-drop}
+use lib.Seq.{drop-drop, take_at, drop_at, length-take-le}
 use borrow.Rule.Slice.PartMut.{mid_of, put_mid, mid_len}
 use Rattle.settings.specs.Numbers.{header_words, cell_words, length_of}
 use Rattle.settings.specs.declared.Settings.{Settings}
@@ -26,26 +26,7 @@ written done ys l a e h le =
     let k : a + (e - a) ≡ e = omega arith in
     rw (take_at done (drop a l) a h, drop_at done (drop a l) a h, drop-drop (e - a) a l, k) (sym (append_assoc done ys (drop e l)))
 
--- The header
-
-pub header_written : (s : Settings) (l : List ℕ) → header_words ≤ length l → sets l 0 (fresh_header s) ≡ fresh_header s ++ drop header_words l
-header_written s l h = sets-eq (fresh_header s) l 0 h
-
 -- A cell
-
-pub cell_written : (n first mark : ℕ) → 3 ≤ n → set (set (zeros n) 0 first) 2 mark ≡ cell_of n first mark
-cell_written n first mark h = three n (n - 3) (omega arith)
-  where
-    three : (n m : ℕ) → n ≡ suc (suc (suc m)) → set (set (zeros n) 0 first) 2 mark ≡ first ∷ 0 ∷ mark ∷ zeros m
-    three n m e = rw e refl
-
--- a cell's words from a on written as a cell are cell x
-pub fresh_cell_written :
-    (D C x a : ℕ) (list : List ℕ) {ys : List ℕ} {first mark : ℕ} → a + cell_words D ≤ length list →
-    ys ≡ cell_of (length (mid_of a (a + cell_words D - a) list)) first mark → first ≡ fresh_first C x → mark ≡ fresh_mark x → ys ≡ fresh_cell D C x
-unfolding fresh_cell
-fresh_cell_written D C x a list inside cell p q =
-    rw (cell, mid_len a (a + cell_words D) list inside, add-sub_cancel_left a (cell_words D), p, q) refl
 
 length-fresh_cell : (D C x : ℕ) → length (fresh_cell D C x) ≡ cell_words D
 unfolding fresh_cell
@@ -69,19 +50,23 @@ fresh_cells_more : (D C x : ℕ) → fresh_cells D C (x + 1) ≡ fresh_cells D C
 unfolding fresh_cells
 fresh_cells_more D C x = rw (add-one x) (rw zero-add at (flat_map_more (fresh_cell D C) 0 x))
 
-pub next_cell : (D x : ℕ) {a : ℕ} → a ≡ header_words + D + x * cell_words D → a + cell_words D ≡ header_words + D + (x + 1) * cell_words D
-next_cell D x e = rw (add-one x) (omega (arith, suc-mul x (cell_words D)))
+-- where cell x stands, and the one after it
+abbrev pub cell_start : ℕ → ℕ → ℕ
+cell_start D x = header_words + D + x * cell_words D
+
+next_start : (D x : ℕ) → cell_start D x + cell_words D ≡ cell_start D (x + 1)
+next_start D x = rw (add-one x) (omega (arith, suc-mul x (cell_words D)))
 
 -- the words before the cells, and the first x cells
 abbrev pub cells_done : List ℕ → ℕ → ℕ → ℕ → List ℕ
 cells_done l D C x = take (header_words + D) l ++ fresh_cells D C x
 
-pub cells_start : (l : List ℕ) (D C : ℕ) → l ≡ cells_done l D C 0 ++ drop (header_words + D) l
+pub cells_start : (l : List ℕ) (D C : ℕ) → l ≡ cells_done l D C 0 ++ drop (cell_start D 0) l
 unfolding fresh_cells flat_map numbers_from
-cells_start l D C = rw (append-nil (take (header_words + D) l)) (sym (take-append-drop (header_words + D) l))
+cells_start l D C = rw (zero-mul (cell_words D), add-zero (header_words + D), append-nil (take (header_words + D) l)) (sym (take-append-drop (header_words + D) l))
 
 module _ (l : List ℕ) (D C : ℕ) (long : length l ≡ length_of D C) where
-  length-cells_done : (x : ℕ) → length (cells_done l D C x) ≡ header_words + D + x * cell_words D
+  length-cells_done : (x : ℕ) → length (cells_done l D C x) ≡ cell_start D x
   unfolding fresh_cells
   length-cells_done x =
       let h : header_words + D ≤ length l = omega arith in
@@ -92,21 +77,24 @@ module _ (l : List ℕ) (D C : ℕ) (long : length l ≡ length_of D C) where
         length-flat_map (fresh_cell D C) (cell_words D) (length-fresh_cell D C) 0 x,
       )
 
-  pub cell_inside : (x : ℕ) → x < C → header_words + D + x * cell_words D + cell_words D ≤ length l
-  cell_inside x h = omega (arith, mul-le-mul_right (cell_words D) h, suc-mul x (cell_words D))
-
-  -- cell x written after the cells before it
+  -- the words of cell x, written as a cell after the cells before it
   pub cells_more :
-      (x : ℕ) {a : ℕ} {list ys : List ℕ} → a ≡ header_words + D + x * cell_words D → list ≡ cells_done l D C x ++ drop a l → ys ≡ fresh_cell D C x →
-      put_mid a (a + cell_words D - a) list ys ≡ cells_done l D C (x + 1) ++ drop (a + cell_words D) l
-  cells_more x {a} at so cell =
-      rw (so, cell, fresh_cells_more D C x, ← append_assoc (take (header_words + D) l) (fresh_cells D C x) (fresh_cell D C x))
-      (written (cells_done l D C x) (fresh_cell D C x) l a (a + cell_words D) (length-cells_done x ∙ sym at) (omega arith))
-
-  pub cells_all : (x : ℕ) {a : ℕ} → x ≡ C → a ≡ header_words + D + x * cell_words D → cells_done l D C x ++ drop a l ≡ cells_done l D C C
-  cells_all x {a} h at =
-      let e : length l ≤ a = rw (at, h) (omega arith) in
-      rw (drop_of_length-le l e, append-nil (cells_done l D C x), h) refl
+      (x : ℕ) {words first mark : ℕ} {list ys : List ℕ} → x < C → words ≡ cell_words D → list ≡ cells_done l D C x ++ drop (cell_start D x) l →
+      let a = header_words + D + x * words in
+      ys ≡ cell_of (length (mid_of a (a + words - a) list)) first mark → first ≡ fresh_first C x → mark ≡ fresh_mark x →
+      put_mid a (a + words - a) list ys ≡ cells_done l D C (x + 1) ++ drop (cell_start D (x + 1)) l
+  unfolding fresh_cell
+  cells_more x {list = list} {ys} h w so cell p q =
+      let start = cell_start D x in
+      let end = start + cell_words D in
+      let inside : end ≤ length l = omega (arith, mul-le-mul_right (cell_words D) h, suc-mul x (cell_words D)) in
+      let same : length list ≡ length l =
+      omega (arith, ap length so, length-append (cells_done l D C x) (drop start l), length-cells_done x, length-drop start l) in
+      let part : length (mid_of start (end - start) list) ≡ cell_words D = omega (arith, mid_len start end list (omega arith)) in
+      let here = rw w at cell in
+      let is : ys ≡ fresh_cell D C x = here ∙ rw (part, p, q) refl in
+      rw (w, so, is, fresh_cells_more D C x, ← append_assoc (take (header_words + D) l) (fresh_cells D C x) (fresh_cell D C x), ← next_start D x)
+      (written (cells_done l D C x) (fresh_cell D C x) l start end (length-cells_done x) (omega arith))
 
 -- The list
 

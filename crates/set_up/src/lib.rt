@@ -7,15 +7,18 @@ ghost use Rattle.answers.specs.Refusals.{Meets};
 ghost use Rattle.meaning.specs.Operations.{set_up_out};
 ghost use Rattle.set_up.specs.Fresh.{fresh_first, fresh_mark, cell_of, fresh_cells, fresh_header, fresh_list};
 
-use answers::Answer;
-use settings::{Checked, Settings};
+use answers::{Answer, Refusal};
+use settings::Settings;
 
 // A cell's words: its first word, its mark, every other word 0.
 fn write_cell(part: &mut [u32], first: u32, mark: u32)
     requires { 3 ≤ length part.old }
     ensures { part.new ≡ cell_of (length part.old) first mark }
 {
-    lists::fill(part, 0);
+    // Not by the library's fill, which sets the last word by itself: a fresh list of 2 dimensions took it a quarter longer.
+    for word in part.iter_mut() {
+        *word = 0;
+    }
     part[0] = first;
     part[2] = mark;
 }
@@ -33,24 +36,20 @@ fn write_header(list: &mut [u32], s: Settings)
 }
 
 // The first word of cell x of a fresh list: the head's key, 0, or the next free cell, and 0 in the last.
+#[tactic(auto, unfolding(crate::specs::Fresh::fresh_first))]
 fn first_word(x: u32, c: u32) -> u32
     requires { x < c }
     ensures { result ≡ fresh_first c x }
 {
-    if x == 0 {
-        return 0;
-    }
-    if x + 1 == c {
-        return 0;
-    }
-    x + 1
+    if x == 0 || x + 1 == c { 0 } else { x + 1 }
 }
 
 // The mark of cell x of a fresh list: the head is dead, every other cell free.
+#[tactic(auto, unfolding(crate::specs::Fresh::fresh_mark))]
 fn mark_of(x: u32) -> u32
     ensures { result ≡ fresh_mark x }
 {
-    if x == 0 { 2 } else { 0 }
+    if x == 0 { words::DEAD } else { words::FREE }
 }
 
 // The C cells, one after the other.
@@ -58,14 +57,15 @@ fn write_cells(list: &mut [u32], d: u32, c: u32)
     requires { length list.old ≡ length_of d c }
     ensures { list.new ≡ take (header_words + d) list.old ++ fresh_cells d c c }
 {
+    let first = words::HEADER_WORDS + d as usize;
     let cell_words = Settings::cell_words(d);
-    let mut at = words::HEADER_WORDS + d as usize;
-    let mut x: u32 = 0;
-    while x < c {
-        let end = at + cell_words;
-        write_cell(&mut list[at..end], first_word(x, c), mark_of(x));
-        at = end;
-        x += 1;
+    for x in 0..c {
+        let start = first + x as usize * cell_words;
+        write_cell(
+            &mut list[start..start + cell_words],
+            first_word(x, c),
+            mark_of(x),
+        );
     }
 }
 
@@ -76,7 +76,7 @@ fn draw(list: &mut [u32], s: Settings)
 {
     write_header(list, s);
     let end = words::HEADER_WORDS + s.dimensions as usize;
-    lists::fill(&mut list[words::HEADER_WORDS..end], 0);
+    list[words::HEADER_WORDS..end].fill(0);
     write_cells(list, s.dimensions, s.cells);
 }
 
@@ -85,11 +85,11 @@ pub fn set_up(d: u32, k: u32, c: u32, list: &mut [u32]) -> Answer
     ensures { Meets (set_up_out d k c list.old) result list.new }
 {
     let checked = Settings::new(d, k, c);
-    let Checked::Accepted(s) = checked else {
-        return answers::refused(answers::OUT_OF_RANGE);
+    let Some(s) = checked else {
+        return answers::refused(Refusal::OutOfRange);
     };
     if list.len() != s.length() {
-        return answers::refused(answers::WRONG_LENGTH);
+        return answers::refused(Refusal::WrongLength);
     }
     draw(list, s);
     answers::accepted(0, 0, 0)

@@ -2,4 +2,4 @@
 pub mod Numbers
 pub mod Table
 pub mod Ranges
-pub mod Levels
+pub mod Powers

@@ -17,17 +17,13 @@ pub struct Settings {
     pub base: u32,
 }
 
-// What the checked constructor answers: settings in range, or that a number is not (*Refusals*, number 1).
+// The levels of a list: its settings, with the powers of b by which the blocks of keys are told. They are worked out once a call.
 #[derive(Clone, Copy)]
-pub enum Checked {
-    Accepted(Settings),
-    OutOfRange,
-}
-
-// The powers of b by which the blocks of keys are told, worked out once a call: at level d, b to the power D - d.
-#[derive(Clone, Copy)]
-pub struct Powers {
-    pub of: [u64; 17],
+pub struct Levels {
+    pub settings: Settings,
+    // at level d, b to the power D - d
+    pub powers: [u64; 17],
+    pub ghost right: { PowersOf settings powers },
 }
 
 impl Settings {
@@ -68,10 +64,8 @@ impl Settings {
         let top = k as u64;
         let by = b as u64;
         let mut power: u64 = 1;
-        let mut i: u32 = 0;
-        while i < d {
-            power = power * by;
-            i += 1;
+        for _ in 0..d {
+            power *= by;
             if top < power {
                 return true;
             }
@@ -86,6 +80,7 @@ impl Settings {
     {
         let mut low: u32 = 1;
         let mut high = Self::full_base(d);
+        // A while: each turn halves the way from low to high.
         while low + 1 < high {
             let middle = low + (high - low) / 2;
             if Self::above(middle, d, k) {
@@ -98,51 +93,31 @@ impl Settings {
     }
 
     // Whether b is the least number whose power D is above K.
+    #[tactic(auto, unfolding(crate::specs::Base::is_base))]
     pub fn is_base(b: u32, d: u32, k: u32) -> bool
         ensures { result ≡ is_base d k b }
     {
-        if b == 0 {
-            return false;
-        }
-        if !Self::above(b, d, k) {
-            return false;
-        }
-        !Self::above(b - 1, d, k)
+        b != 0 && Self::above(b, d, k) && !Self::above(b - 1, d, k)
     }
 
     // Whether D, K and C are each in range. No u32 is above the largest K; the test is there to tie its number to the definition.
+    #[tactic(auto, unfolding(crate::specs::Numbers::in_range))]
     pub fn in_range(d: u32, k: u32, c: u32) -> bool
         ensures { result ≡ in_range d k c }
     {
-        if d < Self::LEAST_DIMENSIONS {
-            return false;
-        }
-        if Self::MOST_DIMENSIONS < d {
-            return false;
-        }
-        if k < Self::LEAST_LARGEST {
-            return false;
-        }
-        if Self::MOST_LARGEST < k {
-            return false;
-        }
-        if c < Self::LEAST_CELLS {
-            return false;
-        }
-        if Self::MOST_CELLS < c {
-            return false;
-        }
-        true
+        (Self::LEAST_DIMENSIONS..=Self::MOST_DIMENSIONS).contains(&d)
+            && (Self::LEAST_LARGEST..=Self::MOST_LARGEST).contains(&k)
+            && (Self::LEAST_CELLS..=Self::MOST_CELLS).contains(&c)
     }
 
-    // The checked constructor.
-    pub fn new(d: u32, k: u32, c: u32) -> Checked
+    // The checked constructor: the settings with these numbers; none where one is out of range (*Refusals*, number 1).
+    pub fn new(d: u32, k: u32, c: u32) -> Option<Settings>
         ensures { result ≡ checked_of d k c }
     {
         if !Self::in_range(d, k, c) {
-            return Checked::OutOfRange;
+            return None;
         }
-        Checked::Accepted(Settings {
+        Some(Settings {
             dimensions: d,
             largest: k,
             cells: c,
@@ -154,10 +129,7 @@ impl Settings {
     pub fn has_key(self, key: u32) -> bool
         ensures { result ≡ is_key self.largest key }
     {
-        if key == 0 {
-            return false;
-        }
-        key <= self.largest
+        (1..=self.largest).contains(&key)
     }
 
     // How many words a cell has in D dimensions.
@@ -175,20 +147,19 @@ impl Settings {
         let c = self.cells as usize;
         Self::HEADER_WORDS + self.dimensions as usize + c * Self::cell_words(self.dimensions)
     }
+}
 
+impl Levels {
     // The powers of b, from level D down.
-    pub fn powers(self) -> Powers
-        requires { (self.dimensions ≤ most_dimensions) × ((0 < self.base) × (self.base ^ self.dimensions < 2 ^ 64)) }
-        ensures { PowersOf self result.of }
+    pub fn of(settings: Settings) -> Levels
+        requires { (settings.dimensions ≤ most_dimensions) × ((0 < settings.base) × (settings.base ^ settings.dimensions < 2 ^ 64)) }
+        ensures { result.settings ≡ settings }
     {
-        let mut of = [1u64; 17];
-        let b = self.base as u64;
-        let mut d = self.dimensions as usize;
-        while 0 < d {
-            let next = of[d] * b;
-            d -= 1;
-            of[d] = next;
+        let mut powers = [1u64; 17];
+        let b = settings.base as u64;
+        for d in (0..settings.dimensions as usize).rev() {
+            powers[d] = powers[d + 1] * b;
         }
-        Powers { of }
+        Levels { settings, powers }
     }
 }

@@ -12,7 +12,7 @@ use lib.Seq.{get_or-set_same, get_or-set_other}
 use borrow.Author.Tests.{lt-ltb, le-ltb, eq-eqb, ne_eqb}
 use Rattle.settings.specs.Levels.{PowersOf}
 use Rattle.settings.specs.declared.Settings.{Settings}
-use Rattle.settings.proofs.Levels.{power_some}
+use Rattle.settings.proofs.Powers.{power_some}
 use Rattle.meaning.specs.Keys.{coordinate, shared, block_start}
 use Rattle.meaning.specs.Words.{key_at}
 use Rattle.meaning.specs.Walk.{link_read, step_along, step_at}
@@ -82,6 +82,9 @@ module _ {ws : List ℕ} {s : Settings} (h : Shaped ws s) (k x d : ℕ) {starts 
         (omega (arith, from, past, some, start_is, size_is))
         in
         step_is ∙ rw (le-ltb (digit own) (digit k) (omega arith), ne_eqb (digit own) (digit k) (λ e. omega arith)) refl
+
+-- the ways in which a step ends
+pub ruleset step_cases = (step_none, step_go, step_last, step_up, step_above)
 
 -- The starts of k's blocks
 

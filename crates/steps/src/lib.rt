@@ -27,10 +27,8 @@ pub fn block_starts(k: u32, s: Settings, powers: &[u64]) -> [u64; 16]
     ensures { StartsOf s k result }
 {
     let mut starts = [0u64; 16];
-    let mut d: usize = 0;
-    while d < s.dimensions as usize {
+    for d in 0..s.dimensions as usize {
         starts[d] = block_start(k, powers[d + 1]);
-        d += 1;
     }
     starts
 }
@@ -41,18 +39,17 @@ pub fn shared(s: Settings, powers: &[u64], x: u32, y: u32) -> u32
     ensures { (result ≡ keys.shared s.base s.dimensions x y) × (result < s.dimensions) }
 {
     let key = x as u64;
-    let mut d: u32 = 0;
-    while d < s.dimensions {
+    for d in 0..s.dimensions {
         if key < block_start(y, powers[d as usize + 1]) {
             return d;
         }
-        d += 1;
     }
-    d
+    s.dimensions
 }
 
 // One step of the walk for k from cell x and coordinate d. The cell shares the coordinates before d with k, so at d it is below k before
 // the start of k's next block, equal inside that block, and above it from its end on.
+#[tactic(auto, using(crate::proofs::Steps::step_cases))]
 pub fn step(
     list: &[u32],
     s: Settings,

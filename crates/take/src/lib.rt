@@ -6,7 +6,7 @@ ghost use Rattle.meaning.specs.Operations.{take_out};
 ghost use Rattle.meaning.specs.Layer.Listed.{Listed};
 ghost use Rattle.take.specs.Ahead.{FirstLive};
 
-use answers::Answer;
+use answers::{Answer, Refusal};
 use paths::Path;
 use settings::Settings;
 
@@ -53,7 +53,7 @@ pub fn take(list: &mut [u32], s: Settings) -> Answer
 {
     let ahead = first_live(list, s);
     if ahead.cell == 0 {
-        return answers::refused_at(answers::NOTHING_LIVE, 0, ahead.passed);
+        return answers::refused(Refusal::NothingLive(ahead.passed));
     }
     let key = words::word(list, s, ahead.cell, words::KEY);
     let value = words::word(list, s, ahead.cell, words::VALUE);

@@ -1,5 +1,6 @@
 -- What holds of the fields of a line and of decimal numbers. The fields are cut off one by one, each by where it ends; a number is read
 -- digit by digit, and a digit more never makes it smaller.
+use Rattle.std.specs.Prelude.{None, Some}
 use mathlib.Core.Path.{◌≡◌, refl, sym, subst, ◌∙◌, ap}
 use mathlib.Core.Bool.{Bool, true, false, cond, ◌&&◌, ◌||◌, and-true, and-false, or-true}
 use mathlib.Core.List.{List, [], ◌∷◌}
@@ -16,8 +17,6 @@ use Rattle.text.specs.Fields.{space, in_first, fields_of, is_digit, all_digits, 
 use Rattle.text.specs.Answers.{FieldEnd, up_to, digit_on, digits_on, ended_at, number_of}
 use Rattle.text.specs.declared.fields.Begun.{Begun}
 use Rattle.text.specs.declared.fields.Begun.TheVariants.{NoDigit, Value, NoNumber}
-use Rattle.text.specs.declared.fields.Numeral.TheVariants as numeral
-use Rattle.text.specs.declared.fields.Numeral.TheVariants.{Unreadable}
 
 and_left : (a b : Bool) → a && b ≡ true → a ≡ true
 and_left true b e = refl
@@ -199,7 +198,7 @@ module _ (least most : ℕ) where
 
       at_tests :
           (digits low : Bool) →
-          ended_at least (cond (digits && low) (Value n) NoNumber) ≡ cond (digits && true && leb least n && low) (numeral.Value n) Unreadable
+          ended_at least (cond (digits && low) (Value n) NoNumber) ≡ cond (digits && true && leb least n && low) (Some n) None
       at_tests true true = rw (and-true (leb least n)) refl
       at_tests true false = rw (and-false (leb least n)) refl
       at_tests false low = refl
@@ -225,7 +224,7 @@ module _ (least most : ℕ) where
         number_plain (byte ∷ bytes) (omega arith) plain
 
   -- a leading zero
-  zero_leads : (field : List ℕ) → (length field ≡ 1 → ⊥) → get_or field 0 0 ≤ 48 → number_of least most field ≡ Unreadable
+  zero_leads : (field : List ℕ) → (length field ≡ 1 → ⊥) → get_or field 0 0 ≤ 48 → number_of least most field ≡ None
   unfolding number_of is_number is_decimal
   zero_leads field several low =
       rw (ne_eqb (length field) 1 several, le-ltb 48 (get_or field 0 0) low, and-false (ltb 0 (length field) && all_digits field)) refl
@@ -258,18 +257,18 @@ module _ (least most : ℕ) where
 
 module _ (least most : ℕ) (field : List ℕ) where
   -- a value is the field's number
-  pub number_value : {n : ℕ} → number_of least most field ≡ numeral.Value n → (is_number least most field ≡ true) × (n ≡ decimal_from 0 field)
+  pub number_value : {n : ℕ} → number_of least most field ≡ Some n → (is_number least most field ≡ true) × (n ≡ decimal_from 0 field)
   unfolding number_of
   number_value {n} e = at_test (is_number least most field) refl e
     where
       at_test :
-          (t : Bool) → is_number least most field ≡ t → cond t (numeral.Value (decimal_from 0 field)) Unreadable ≡ numeral.Value n →
+          (t : Bool) → is_number least most field ≡ t → cond t (Some (decimal_from 0 field)) None ≡ Some n →
           (is_number least most field ≡ true) × (n ≡ decimal_from 0 field)
       at_test true is v = (is, cc)
       at_test false is v = let z : ◌≡◌ {A = ℕ} 0 1 = cc in absurd (omega arith)
 
   -- and in the range asked for
-  pub number_within : {n : ℕ} → number_of least most field ≡ numeral.Value n → (least ≤ n) × (n ≤ most)
+  pub number_within : {n : ℕ} → number_of least most field ≡ Some n → (least ≤ n) × (n ≤ most)
   unfolding is_number
   number_within e =
       let v = number_value e in

@@ -1,12 +1,9 @@
 -- What the functions on fields answer.
-use Rattle.std.specs.Prelude.{cond, ◌&&◌, List, ◌≡◌, ℕ, ◌+◌, ◌*◌, ◌-◌, ◌≤◌, ◌<◌, leb, ltb, length, get_or}
+use Rattle.std.specs.Prelude.{cond, ◌&&◌, List, ◌≡◌, ℕ, ◌+◌, ◌*◌, ◌-◌, ◌≤◌, ◌<◌, leb, ltb, length, get_or, None, Option, Some}
 use Rattle.text.specs.Parts.{after_all}
 use Rattle.text.specs.Fields.{space, is_digit, decimal_from, is_number}
 use Rattle.text.specs.declared.fields.Begun.{Begun}
 use Rattle.text.specs.declared.fields.Begun.TheVariants.{NoDigit, Value, NoNumber}
-use Rattle.text.specs.declared.fields.Numeral.{Numeral}
-use Rattle.text.specs.declared.fields.Numeral.TheVariants as numeral
-use Rattle.text.specs.declared.fields.Numeral.TheVariants.{Unreadable}
 
 -- `r` is the first space of a line at or after `at`, or the line's length.
 pub record FieldEnd (line : List ℕ) (at r : ℕ) : Type 0 where
@@ -32,11 +29,11 @@ abbrev pub digits_on : ℕ → Begun → List ℕ → Begun
 digits_on most = after_all (digit_on most)
 
 -- the numeral that ends here, where its value is not below `least`
-abbrev pub ended_at : ℕ → Begun → Numeral
-ended_at least NoDigit = Unreadable
-ended_at least (Value n) = cond (leb least n) (numeral.Value n) Unreadable
-ended_at least NoNumber = Unreadable
+abbrev pub ended_at : ℕ → Begun → Option ℕ
+ended_at least NoDigit = None
+ended_at least (Value n) = cond (leb least n) (Some n) None
+ended_at least NoNumber = None
 
 -- The value of a field that is a number from `least` to `most`.
-unfoldable pub number_of : ℕ → ℕ → List ℕ → Numeral
-number_of least most field = cond (is_number least most field) (numeral.Value (decimal_from 0 field)) Unreadable
+unfoldable pub number_of : ℕ → ℕ → List ℕ → Option ℕ
+number_of least most field = cond (is_number least most field) (Some (decimal_from 0 field)) None

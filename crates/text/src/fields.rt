@@ -9,13 +9,6 @@ const DIGIT_0: u8 = 48;
 
 const DIGIT_9: u8 = 57;
 
-// What a field says as a decimal number: its value, or that it is none in the range asked for.
-#[derive(Clone, Copy)]
-pub enum Numeral {
-    Value(u32),
-    Unreadable,
-}
-
 // What is known of a number while its digits come in: none yet, the value of those so far, or that no number up to the most asked for begins
 // with them.
 #[derive(Clone, Copy)]
@@ -91,24 +84,24 @@ pub fn digit(begun: Begun, byte: u8, most: u32) -> Begun
     }
 }
 
-// The numeral that ends here, if its value is not below `least`.
-pub fn ended_at(begun: Begun, least: u32) -> Numeral
+// The number that ends here, if there is one and it is not below `least`.
+pub fn ended_at(begun: Begun, least: u32) -> Option<u32>
     ensures { result ≡ ended_at least begun }
 {
     match begun {
-        Begun::NoDigit => return Numeral::Unreadable,
+        Begun::NoDigit => return None,
         Begun::Value(n) => {
             if n < least {
-                return Numeral::Unreadable;
+                return None;
             }
-            return Numeral::Value(n);
+            return Some(n);
         }
-        Begun::NoNumber => return Numeral::Unreadable,
+        Begun::NoNumber => return None,
     }
 }
 
 // The number from `least` to `most` that a field is, in decimal without leading zeros.
-pub fn number(field: &[u8], least: u32, most: u32) -> Numeral
+pub fn number(field: &[u8], least: u32, most: u32) -> Option<u32>
     ensures { result ≡ number_of least most field.now }
 {
     let mut begun = Begun::NoDigit;

@@ -6,7 +6,6 @@ ghost use Rattle.trace.specs.Lines.{Fits};
 
 use answers::Operation;
 use calls::Call;
-use text::fields::Numeral;
 
 pub const MOST_WORDS: usize = 155670;
 
@@ -70,7 +69,7 @@ pub fn numbers_after(line: &[u8], from: usize) -> Numbers
         let start = end + 1;
         end = text::fields::field_end(line, start);
         let numeral = text::fields::number(&line[start..end], 0, u32::MAX);
-        let Numeral::Value(n) = numeral else {
+        let Some(n) = numeral else {
             return unreadable();
         };
         values[count] = n;
@@ -254,8 +253,8 @@ fn is_no_number(field: &[u8]) -> bool {
     }
     let front = text::fields::number(&field[..9], 0, u32::MAX);
     match front {
-        Numeral::Value(n) => return n == 429496729,
-        Numeral::Unreadable => return false,
+        Some(n) => return n == 429496729,
+        None => return false,
     }
 }
 

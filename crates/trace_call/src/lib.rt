@@ -7,16 +7,9 @@ ghost use Rattle.calls.specs.Records.{lent_of};
 ghost use Rattle.calls.specs.Calls.{outcome};
 ghost use Rattle.trace_call.specs.Calling.{Called};
 
-use answers::{Answer, Operation};
+use answers::{Answer, Operation, Refusal};
 use calls::Call;
 use trace::Kind;
-
-// What a line is answered: four numbers, or none where it makes no call.
-#[derive(Clone, Copy)]
-pub enum Reply {
-    Four(Answer),
-    NoCall,
-}
 
 // Makes one of the five operations.
 pub fn make_operation(list: &mut [u32], operation: Operation) -> Answer
@@ -44,19 +37,19 @@ fn make(list: &mut [u32], bytes: &mut [u8], last: &mut u64, call: Call) -> Answe
     }
 }
 
-// The line's call; a line that is not readable is answered 10.
-pub fn call(list: &mut [u32], bytes: &mut [u8], last: &mut u64, kind: Kind) -> Reply
+// The line's call: what it is answered, four numbers, or none where it makes no call. A line that is not readable is answered 10.
+pub fn call(list: &mut [u32], bytes: &mut [u8], last: &mut u64, kind: Kind) -> Option<Answer>
     ensures { Called kind (lent_of list.old bytes.old last.old) result (lent_of list.new bytes.new last.new) }
 {
     match kind {
-        Kind::Fresh(_, call) => return Reply::Four(make(list, bytes, last, call)),
-        Kind::Make(call) => return Reply::Four(make(list, bytes, last, call)),
-        Kind::Put(_, _) => return Reply::NoCall,
-        Kind::Length(_) => return Reply::NoCall,
-        Kind::Bytes(_) => return Reply::NoCall,
-        Kind::Add => return Reply::NoCall,
-        Kind::PutByte(_, _) => return Reply::NoCall,
-        Kind::Last(_) => return Reply::NoCall,
-        Kind::Unreadable => return Reply::Four(answers::refused(answers::LINE_NOT_READABLE)),
+        Kind::Fresh(_, call) => return Some(make(list, bytes, last, call)),
+        Kind::Make(call) => return Some(make(list, bytes, last, call)),
+        Kind::Put(_, _) => return None,
+        Kind::Length(_) => return None,
+        Kind::Bytes(_) => return None,
+        Kind::Add => return None,
+        Kind::PutByte(_, _) => return None,
+        Kind::Last(_) => return None,
+        Kind::Unreadable => return Some(answers::refused(Refusal::LineNotReadable)),
     }
 }

@@ -1,4 +1,6 @@
 -- A line of a trace is answered: the call is made on what the line leaves it, and what is put tells of what is held afterwards.
+use Rattle.answers.specs.declared.Answer.{Answer}
+use Rattle.std.specs.Prelude.{Option}
 use mathlib.Core.Path.{◌≡◌, ◌∙◌, ap, ap₂}
 use mathlib.Core.Bool.{Bool}
 use mathlib.Core.List.{List, ◌++◌}
@@ -13,7 +15,6 @@ use Rattle.trace.specs.Lines.{most_words, most_held}
 use Rattle.trace.specs.declared.Kind.{Kind}
 use Rattle.trace_held.specs.Held.{buffer_after, bytes_after, last_after, altered_by, Held, Holds}
 use Rattle.trace_call.specs.Calling.{reply_of, after_call, Called}
-use Rattle.trace_call.specs.declared.Reply.{Reply}
 use Rattle.trace_step.specs.Room.{held_in}
 use Rattle.trace_step.specs.declared.Answered.{Answered}
 use Rattle.trace_step.specs.Printed.{head_text, tail_text, tells, left_by, line_text, LineAnswered}
@@ -29,7 +30,7 @@ module _
       λ i. lent_of (first i) (front i) (is_last i)
 
   module _
-      {reply : Reply} {called after called-bytes after-bytes : List ℕ} {now-last : ℕ}
+      {reply : Option Answer} {called after called-bytes after-bytes : List ℕ} {now-last : ℕ}
       (made : Called kind (lent_of (take (n - 0) words) (take (m - 0) bytes) last) reply (lent_of called called-bytes now-last))
       (held : Held most_words after n) (first : take n after ≡ called) (held_bytes : Held most_held after-bytes m)
       (first-bytes : take m after-bytes ≡ called-bytes) where

@@ -1,6 +1,7 @@
 -- What the replay prints for a line: refusal, key, value and count, or `- - - -` for a line that makes no call; then the checksum of the words
 -- afterwards; and for the lines that tell of the bytes, the checksum of the bytes and the last number after it.
-use Rattle.std.specs.Prelude.{Bool, true, false, cond, List, [], ◌∷◌, ◌++◌, ◌≡◌, ℕ, ◌+◌, ◌*◌, ◌≤◌, length, take}
+use Rattle.answers.specs.declared.Answer.{Answer}
+use Rattle.std.specs.Prelude.{Bool, true, false, cond, List, [], ◌∷◌, ◌++◌, ◌≡◌, ℕ, ◌+◌, ◌*◌, ◌≤◌, length, take, None, Option, Some}
 use Rattle.text.specs.Fields.{space}
 use Rattle.text.specs.Lines.{line_feed}
 use Rattle.text.specs.declared.feed.Told.{Told}
@@ -14,17 +15,15 @@ use Rattle.trace.specs.declared.Kind.{Kind}
 use Rattle.trace.specs.declared.Kind.TheVariants.{Fresh, Make, Put, Length, Bytes, Add, PutByte, Last, Unreadable}
 use Rattle.trace_held.specs.Held.{Holds, altered_by}
 use Rattle.trace_call.specs.Calling.{reply_of, after_call}
-use Rattle.trace_call.specs.declared.Reply.{Reply}
-use Rattle.trace_call.specs.declared.Reply.TheVariants.{Four, NoCall}
 use Rattle.trace_step.specs.declared.Answered.{Answered}
 
 abbrev pub dash : ℕ
 dash = 45
 
 -- the first four fields, and a space
-unfoldable pub head_text : Reply → List ℕ
-head_text (Four a) = answer_text a space
-head_text NoCall = dash ∷ space ∷ dash ∷ space ∷ dash ∷ space ∷ dash ∷ space ∷ []
+unfoldable pub head_text : Option Answer → List ℕ
+head_text (Some a) = answer_text a space
+head_text None = dash ∷ space ∷ dash ∷ space ∷ dash ∷ space ∷ dash ∷ space ∷ []
 
 -- the checksum of the words and that of the bytes, and the last number, with a byte after it
 unfoldable pub lent_text : Lent → ℕ → List ℕ

@@ -4,18 +4,18 @@ ghost use Rattle.calls.specs.Records.{lent_of};
 ghost use Rattle.report.specs.Report.{field_bytes, answer_bytes, Put};
 ghost use Rattle.trace_step.specs.Printed.{head_text, lent_text, on_bytes, tells, tail_text};
 
+use answers::Answer;
 use calls::Call;
 use trace::Kind;
-use trace_call::Reply;
 
 // Puts the first four fields: an answer, or `- - - -` in its place.
-pub fn put_head(out: &mut [u8], reply: Reply) -> usize
+pub fn put_head(out: &mut [u8], reply: Option<Answer>) -> usize
     requires { answer_bytes ≤ length out.old }
     ensures { Put out.old 0 (head_text reply) out.new result × (result ≤ answer_bytes) }
 {
     match reply {
-        Reply::Four(a) => return report::put_answer(out, 0, a, b' '),
-        Reply::NoCall => return report::put(out, 0, b"- - - - "),
+        Some(a) => return report::put_answer(out, 0, a, b' '),
+        None => return report::put(out, 0, b"- - - - "),
     }
 }
 

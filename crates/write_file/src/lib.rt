@@ -9,7 +9,7 @@ ghost use Rattle.calls.specs.Pairs.{live_pairs};
 ghost use Rattle.calls.specs.Saved.{file_lent, write_out};
 ghost use Rattle.meaning.specs.Layer.Listed.{Listed};
 
-use answers::Answer;
+use answers::{Answer, Refusal};
 use settings::Settings;
 
 // How many keys are live: the cells but the head with mark 1.
@@ -58,7 +58,7 @@ pub fn write_file(list: &[u32], s: Settings, file: &mut [u8]) -> Answer
     let n = count_live(list, s);
     let length = files::file_length(n);
     if file.len() < length {
-        return answers::refused(answers::NO_ROOM);
+        return answers::refused(Refusal::NoRoom);
     }
     files::write_front(file, s, n);
     write_pairs(list, s, file, n);

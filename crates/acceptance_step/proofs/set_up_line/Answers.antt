@@ -17,11 +17,11 @@ returns-in_default c =
 pub length-requires : goal.length-requires
 length-requires c =
     let a = c.args in
-    let limits = accepted_limits a.d a.k a.c c.new.ensures c.in-Accepted.is in
+    let limits = accepted_limits a.d a.k a.c c.new.ensures c.in-Some.is in
     (limits.0, limits.1.0)
 
 pub returns : goal.returns
 returns c =
     let a = c.args in
-    let is = (checked_in a.d a.k a.c c.new.ensures c.in-Accepted.is).1 in
+    let is = (checked_in a.d a.k a.c c.new.ensures c.in-Some.is).1 in
     λ e. subst (λ t. length_of t.dimensions t.cells ≤ most_words) is (omega (arith, c.if-length-gt-MOST_WORDS.false, c.length.ensures))

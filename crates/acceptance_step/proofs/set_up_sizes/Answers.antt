@@ -15,18 +15,18 @@ returns-in_default c =
 pub length-requires : goal.length-requires
 length-requires c =
     let a = c.args in
-    let limits = accepted_limits a.d a.k a.c c.new.ensures c.in-Accepted.is in
+    let limits = accepted_limits a.d a.k a.c c.new.ensures c.in-Some.is in
     (limits.0, limits.1.0)
 
 pub row_length-requires : goal.row_length-requires
 row_length-requires c =
     let a = c.args in
-    (accepted_limits a.d a.k a.c c.new.ensures c.in-Accepted.is).1.1
+    (accepted_limits a.d a.k a.c c.new.ensures c.in-Some.is).1.1
 
 pub returns : goal.returns
 returns c =
     let a = c.args in
-    let (range, is) = checked_in a.d a.k a.c c.new.ensures c.in-Accepted.is in
+    let (range, is) = checked_in a.d a.k a.c c.new.ensures c.in-Some.is in
     rw range (
       c.length.ensures ∙ ap (λ (t : Settings). length_of t.dimensions t.cells) is,
       c.row_length.ensures ∙ ap (λ (t : Settings). row_length t.cells) is,

@@ -1,30 +1,22 @@
--- `batch::are_calls` meets its contract: each turn tests the kind of one call more.
-use mathlib.Core.Path.{refl, sym, ◌∙◌, ap}
-use mathlib.Core.Bool.{◌&&◌}
-use Prim.Native.Nat.{◌*◌, ◌+◌}
-use lib.ListN.{drop}
+-- `batch::are_calls` meets its contract: the kinds of the whole calls are tested, and no words are left.
+use mathlib.Core.Path.{◌≡◌, ap, ◌∙◌}
+use Prim.Native.Nat.{◌%◌}
+use lib.ListN.{length}
 use borrow.Author.Rules.{rules}
-use Rattle.calls.specs.Batch.{are_calls}
-use Rattle.batch.proofs.Calls.{kinds_more, kinds_end, not_calls, are_calls_lem}
+use borrow.Author.Tests.{tests}
+use Rattle.std.specs.List.{list_all}
+use Rattle.std.proofs.lemmas.Iterator.{YieldsList-from_slice}
+use Rattle.std.proofs.lemmas.Iterator.Search.{all_from_yields_List}
+use Rattle.batch.proofs.Calls.{has_kind, all_kinds, some_left}
 use Rattle.batch.proofs.are_calls.Goals as goal
 
-pub loop-i-init : goal.loop-i-init
-loop-i-init c = (search rules, refl)
+pub returns-then-is_empty : goal.returns-then-is_empty
+returns-then-is_empty c =
+    let chunks = c.as_chunks in
+    let none : length c.args.calls.now % 3 ≡ 0 = search (rules, tests) in
+    all_from_yields_List has_kind _ _ c.all.result c.all.ensures.ran (YieldsList-from_slice chunks.result.0.now cc) (λ x b q k. search (rules, tests))
+    ∙ ap (list_all has_kind) chunks.ensures.front
+    ∙ all_kinds c.args.calls.now none
 
-pub returns-then-not-is_kind : goal.returns-then-not-is_kind
-returns-then-not-is_kind c =
-    let v = c.loop-i in
-    let a = c.args in
-    sym (v.invariant.1 ∙ (kinds_more a.calls.now v.i (search rules) ∙ ap (λ t. t && are_calls (drop (3 * (v.i + 1)) a.calls.now)) (not_calls c.is_kind.ensures c.if-not-is_kind.true-raw)))
-
-pub loop-i-preserved : goal.loop-i-preserved
-loop-i-preserved c =
-    let v = c.loop-i in
-    let a = c.args in
-    (search rules, v.invariant.1 ∙ (kinds_more a.calls.now v.i (search rules) ∙ ap (λ t. t && are_calls (drop (3 * (v.i + 1)) a.calls.now)) (are_calls_lem c.is_kind.ensures c.if-not-is_kind.false-raw)))
-
-pub returns : goal.returns
-returns c =
-    let v = c.loop-i in
-    let a = c.args in
-    sym (v.invariant.1 ∙ kinds_end a.calls.now v.i (search rules) (search rules))
+pub returns-else-is_empty : goal.returns-else-is_empty
+returns-else-is_empty c = c.if-is_empty.false ∙ some_left c.args.calls.now (λ e. search (rules, tests))

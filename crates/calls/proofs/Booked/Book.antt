@@ -14,7 +14,8 @@ use Rattle.meaning.specs.Row.{Node}
 use Rattle.meaning.specs.State.{State, key_of, position_key}
 use Rattle.meaning.specs.Picture.{picture}
 use Rattle.meaning.specs.Reading.{read, settings_at, is_list}
-use Rattle.answers.specs.Refusals.{Outcome, accepted, nothing_live, refused}
+use Rattle.answers.specs.Refusals.{Outcome, accepted, refused}
+use Rattle.answers.specs.declared.Refusal.TheVariants.{NothingLive}
 use Rattle.meaning.specs.Operations.{fresh, set_up_out, dead_front, from_live, dead_node, keys_above, keys_passed, taken, take_out, operation_out}
 use Rattle.answers.specs.declared.Operation.{Operation}
 use Rattle.book.specs.Book.{Book, fresh_book, operation_book}
@@ -143,7 +144,7 @@ takes_by n ws o e =
     ]) e
 
 pub takes_none : (n : ℕ) (s : State) → Sound s → from_live s.row ≡ [] → takes (suc n) (picture s) ≡ []
-takes_none n s v e = takes_by n (picture s) (refused (nothing_live (keys_above (position_key s) s.row)) (picture s)) (take_outcome_none s v e)
+takes_none n s v e = takes_by n (picture s) (refused (NothingLive (keys_above (position_key s) s.row)) (picture s)) (take_outcome_none s v e)
 
 pub takes_first : (n : ℕ) (s : State) → Sound s → (x : Node) (later : List Node) → from_live s.row ≡ x ∷ later →
     takes (suc n) (picture s) ≡ pair x ∷ takes n (picture (taken s x))

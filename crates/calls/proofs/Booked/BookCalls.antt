@@ -1,9 +1,9 @@
 -- What each call does to a state in order, and what it answers: the words after it are the picture of a state in order of the same length, and its book
 -- is what the call's effect makes of the book; the answer is the book's, but for looked and the links moved.
+use Rattle.std.specs.Prelude.{Option, None, Some}
 use mathlib.Core.Path.{◌≡◌, refl, sym, ◌∙◌, ap, subst}
 use mathlib.Core.Bool.{Bool, true, false, cond, ◌&&◌, false≢true}
 use mathlib.Core.List.{List, [], ◌∷◌, map}
-use mathlib.Core.Option.{Option, none, some}
 use Prim.Native.Nat.{ℕ, suc, ◌≤◌, ◌<◌}
 use native.Mathlib.Omega.{arith}
 use lib.Dec.{eqb}
@@ -14,7 +14,8 @@ use Rattle.settings.specs.declared.Settings.{Settings}
 use Rattle.lists.specs.Lists.{those}
 use Rattle.lists.proofs.Tests.{cond_has}
 use Rattle.answers.specs.declared.Answer.{Answer}
-use Rattle.answers.specs.Refusals.{Outcome, answer, answer_of, out_of_range, wrong_length}
+use Rattle.answers.specs.Refusals.{Outcome, answer, answer_of}
+use Rattle.answers.specs.declared.Refusal.TheVariants.{OutOfRange, WrongLength}
 use Rattle.answers.specs.declared.Operation.{Operation}
 use Rattle.answers.specs.declared.Operation.TheVariants.{Insert, Find, Finish, Take, Sweep}
 use Rattle.book.specs.Book.{StandingKey, standing_key, Book, standing_at, on_book_key, find_book, finish_book, operation_book}
@@ -84,13 +85,13 @@ module _ (D K C : ℕ) (s : State) (v : Sound s) where
   set_up_booked = at (in_range D K C) (eqb long (length_of D C)) refl refl
     where
       at : (t u : Bool) → in_range D K C ≡ t → eqb long (length_of D C) ≡ u →
-          Booking s (cond (t && u) (renewing K C []) keeping) o.left o.answered (cond t (cond u (answer 0 0 0 0) (answer_of wrong_length)) (answer_of out_of_range))
+          Booking s (cond (t && u) (renewing K C []) keeping) o.left o.answered (cond t (cond u (answer 0 0 0 0) (answer_of WrongLength)) (answer_of OutOfRange))
       at false u e f =
           let q = set_up_outcome_out_of_range D K C (picture s) e in
-          still s v o.left o.answered (answer_of out_of_range) (ap (λ p. p.left) q) (ap (λ p. p.answered) q)
+          still s v o.left o.answered (answer_of OutOfRange) (ap (λ p. p.left) q) (ap (λ p. p.answered) q)
       at true false e f =
           let q = set_up_outcome_wrong_length D K C (picture s) e (eqb-false long (length_of D C) f) in
-          still s v o.left o.answered (answer_of wrong_length) (ap (λ p. p.left) q) (ap (λ p. p.answered) q)
+          still s v o.left o.answered (answer_of WrongLength) (ap (λ p. p.left) q) (ap (λ p. p.answered) q)
       at true true e f =
           let exact = eqb-true long (length_of D C) f in
           let q = set_up_outcome D K C (picture s) e exact in
@@ -111,16 +112,16 @@ unfolding operation_book on_book_key find_book
 find_keeps key k = cond_has (λ (o : Outcome Book). o.left ≡ k) (is_key k.largest key) _ _ (at (standing_at key k.row)) refl
   where
     at : (x : Option StandingKey) → (find_book key k x).left ≡ k
-    at none = refl
-    at (some x) = cond_has (λ (o : Outcome Book). o.left ≡ k) x.live _ _ refl refl
+    at None = refl
+    at (Some x) = cond_has (λ (o : Outcome Book). o.left ≡ k) x.live _ _ refl refl
 
 finish_keeps : (key : ℕ) (k : Book) → (operation_book (Finish key) k).left ≡ k
 unfolding operation_book on_book_key finish_book
 finish_keeps key k = cond_has (λ (o : Outcome Book). o.left ≡ k) (is_key k.largest key) _ _ (at (standing_at key k.row)) refl
   where
     at : (x : Option StandingKey) → (finish_book key k x).left ≡ k
-    at none = refl
-    at (some x) = refl
+    at None = refl
+    at (Some x) = refl
 
 -- what an operation leaves of a book is what its effect makes of it
 pub operation_effect_lem : (operation : Operation) (k : Book) → (operation_book operation k).left ≡ booked_by (operation_effect operation) k

@@ -1,9 +1,9 @@
 -- What each of the five operations does to a state in order: the words after it are the picture of a state in order with the same settings, and its
 -- book is what the operation leaves of the book; the answer is the book's, but for looked and the links moved. Both by the outcome of each case.
+use Rattle.std.specs.Prelude.{Option, None, Some}
 use mathlib.Core.Path.{◌≡◌, refl, sym, ◌∙◌, ap, ap₂, subst, subst₂}
 use mathlib.Core.Bool.{true, false, cond}
 use mathlib.Core.List.{List, [], ◌∷◌, ◌++◌, map, drop_last, map-append}
-use mathlib.Core.Option.{Option, none, some}
 use Prim.Native.Nat.{ℕ, suc, ◌≤◌, ◌<◌}
 use native.Mathlib.Decide.{dec_le}
 use native.Mathlib.Omega.{arith}
@@ -11,7 +11,9 @@ use lib.ListN.{length}
 use borrow.Author.Tests.{lt-ltb, le-ltb, le-leb, lt-leb}
 use Rattle.settings.proofs.Numbers.{key_in, key_out}
 use Rattle.lists.proofs.All.{all_map}
-use Rattle.answers.specs.Refusals.{Outcome, Refusal, answer, answer_of, refused, bad_key, key_live, no_free_cell, nothing_live, key_not_live, key_not_standing}
+use Rattle.answers.specs.Refusals.{Outcome, answer, answer_of, refused}
+use Rattle.answers.specs.declared.Refusal.{Refusal}
+use Rattle.answers.specs.declared.Refusal.TheVariants.{BadKey, KeyLive, NoFreeCell, NothingLive, KeyNotLive, KeyNotStanding}
 use Rattle.answers.specs.declared.Operation.{Operation}
 use Rattle.answers.specs.declared.Operation.TheVariants.{Insert, Find, Finish, Take, Sweep}
 use Rattle.book.specs.Book as book
@@ -76,7 +78,7 @@ on_key_lem : (key : ℕ) (k : Book) (done : Outcome Book) → 1 ≤ key → key 
 unfolding on_book_key
 on_key_lem key k done l h = rw (key_in l h) refl
 
-off_key : (key : ℕ) (k : Book) (done : Outcome Book) → (1 ≤ key → k.largest < key) → on_book_key key k done ≡ refused bad_key k
+off_key : (key : ℕ) (k : Book) (done : Outcome Book) → (1 ≤ key → k.largest < key) → on_book_key key k done ≡ refused BadKey k
 unfolding on_book_key
 off_key key k done f = rw (key_out f) refl
 
@@ -107,21 +109,21 @@ module _ (s : State) (v : Sound s) (key value : ℕ) (l : 1 ≤ key) (h : key �
       on_key_lem key (book_in s) (insert_book key value (book_in s) (standing_at key (standing_in s.row))) l h
       ∙ ap (insert_book key value (book_in s)) (standing_at_lem key s.row ∙ ap told e)
 
-  insert_live : (x : Node) → node_at key s.row ≡ some x → x.live ≡ true → Booked insert s
+  insert_live : (x : Node) → node_at key s.row ≡ Some x → x.live ≡ true → Booked insert s
   unfolding insert_book
   insert_live x e live =
-      ends insert s (insert_outcome_live s v key value l h x e live) (inserts (some x) e ∙ rw live refl)
-      (turned insert s v (key_live key (looked s key)) (key_live key 0) refl)
+      ends insert s (insert_outcome_live s v key value l h x e live) (inserts (Some x) e ∙ rw live refl)
+      (turned insert s v (KeyLive key (looked s key)) (KeyLive key 0) refl)
 
-  insert_full : node_at key s.row ≡ none → length s.free ≡ 0 → Booked insert s
+  insert_full : node_at key s.row ≡ None → length s.free ≡ 0 → Booked insert s
   unfolding insert_book
   insert_full e full =
       ends insert s (insert_outcome_full s v key value l h e full)
-      (inserts none e ∙ rw (le-ltb (suc (length (standing_in s.row))) s.settings.cells (omega (arith, room s v))) refl)
-      (turned insert s v (no_free_cell key (looked s key)) (no_free_cell key 0) refl)
+      (inserts None e ∙ rw (le-ltb (suc (length (standing_in s.row))) s.settings.cells (omega (arith, room s v))) refl)
+      (turned insert s v (NoFreeCell key (looked s key)) (NoFreeCell key 0) refl)
 
   -- The operations 2: a dead key is revived
-  module _ (x : Node) (e : node_at key s.row ≡ some x) (dead : x.live ≡ false) where
+  module _ (x : Node) (e : node_at key s.row ≡ Some x) (dead : x.live ≡ false) where
     abbrev revive : Node → Node
     revive = on_cell x.cell (revived_node value)
 
@@ -129,7 +131,7 @@ module _ (s : State) (v : Sound s) (key value : ℕ) (l : 1 ≤ key) (h : key �
     same = node_key key x s.row e
 
     sound : Sound (revived s x value)
-    sound = revived_sound s x value v (subst (λ k. node_at k s.row ≡ some x) (sym same) e) dead
+    sound = revived_sound s x value v (subst (λ k. node_at k s.row ≡ Some x) (sym same) e) dead
 
     revived_row : standing_in (revived s x value).row ≡ marked key value true (standing_in s.row)
     unfolding revived
@@ -157,7 +159,7 @@ module _ (s : State) (v : Sound s) (key value : ℕ) (l : 1 ≤ key) (h : key �
     insert_dead : Booked insert s
     unfolding insert_book revived
     insert_dead =
-        ends insert s (insert_outcome_dead s v key value l h x e dead) (inserts (some x) e ∙ rw dead refl)
+        ends insert s (insert_outcome_dead s v key value l h x e dead) (inserts (Some x) e ∙ rw dead refl)
         (record {
           after = revived s x value;
           sound = sound;
@@ -169,7 +171,7 @@ module _ (s : State) (v : Sound s) (key value : ℕ) (l : 1 ≤ key) (h : key �
         })
 
   -- .. and a new one put in its place
-  module _ (absent : node_at key s.row ≡ none) (space : 0 < length s.free) where
+  module _ (absent : node_at key s.row ≡ None) (space : 0 < length s.free) where
     abbrev slot : Slot
     slot = slot_for s key
 
@@ -211,7 +213,7 @@ module _ (s : State) (v : Sound s) (key value : ℕ) (l : 1 ≤ key) (h : key �
     unfolding insert_book added
     insert_new_lem =
         ends insert s (insert_outcome_new s v key value l h absent space)
-        (inserts none absent ∙ rw (lt-ltb (suc (length (standing_in s.row))) s.settings.cells (omega (arith, room s v))) refl)
+        (inserts None absent ∙ rw (lt-ltb (suc (length (standing_in s.row))) s.settings.cells (omega (arith, room s v))) refl)
         (record {
           after = added s key value slot;
           sound = new_sound;
@@ -225,7 +227,7 @@ insert_booked : (key value : ℕ) (s : State) → Sound s → Booked (Insert key
 unfolding operation_book
 insert_booked key value s v =
     key_cases s key
-    (λ n. ends (Insert key value) s (insert_outcome_bad_key s v key value n) (off_key key (book_in s) _ n) (turned (Insert key value) s v bad_key bad_key refl))
+    (λ n. ends (Insert key value) s (insert_outcome_bad_key s v key value n) (off_key key (book_in s) _ n) (turned (Insert key value) s v BadKey BadKey refl))
     (λ l h e. free_cases s (insert_full s v key value l h e) (insert_new_lem s v key value l h e))
     (λ l h x e. live_cases x (insert_live s v key value l h x e) (insert_dead s v key value l h x e))
 
@@ -235,20 +237,20 @@ find_booked : (key : ℕ) (s : State) → Sound s → Booked (Find key) s
 unfolding operation_book find_book
 find_booked key s v =
     key_cases s key
-    (λ n. ends (Find key) s (find_outcome_bad_key s v key n) (off_key key (book_in s) _ n) (turned (Find key) s v bad_key bad_key refl))
-    (λ l h e. ends (Find key) s (find_outcome_absent s v key l h e) (finds l h none e) not_live)
+    (λ n. ends (Find key) s (find_outcome_bad_key s v key n) (off_key key (book_in s) _ n) (turned (Find key) s v BadKey BadKey refl))
+    (λ l h e. ends (Find key) s (find_outcome_absent s v key l h e) (finds l h None e) not_live)
     (λ l h x e.
     live_cases x
-    (λ q. ends (Find key) s (find_outcome_live s v key l h x e q) (finds l h (some x) e ∙ rw q refl)
+    (λ q. ends (Find key) s (find_outcome_live s v key l h x e q) (finds l h (Some x) e ∙ rw q refl)
     (record { after = s; sound = v; left = refl; settings = refl; book = refl; answered = refl }))
-    (λ q. ends (Find key) s (find_outcome_dead s v key l h x e q) (finds l h (some x) e ∙ rw q refl) not_live))
+    (λ q. ends (Find key) s (find_outcome_dead s v key l h x e q) (finds l h (Some x) e ∙ rw q refl) not_live))
   where
     finds : 1 ≤ key → key ≤ s.settings.largest → (o : Option Node) → node_at key s.row ≡ o →
         operation_book (Find key) (book_in s) ≡ find_book key (book_in s) (told o)
     finds l h o e = on_key_lem key (book_in s) _ l h ∙ ap (find_book key (book_in s)) (standing_at_lem key s.row ∙ ap told e)
 
-    not_live : OnBook (Find key) s (refused (key_not_live key (looked s key)) (picture s)) (refused (key_not_live key 0) (book_in s))
-    not_live = turned (Find key) s v (key_not_live key (looked s key)) (key_not_live key 0) refl
+    not_live : OnBook (Find key) s (refused (KeyNotLive key (looked s key)) (picture s)) (refused (KeyNotLive key 0) (book_in s))
+    not_live = turned (Find key) s v (KeyNotLive key (looked s key)) (KeyNotLive key 0) refl
 
 -- Finish
 
@@ -256,11 +258,11 @@ finish_booked : (key : ℕ) (s : State) → Sound s → Booked (Finish key) s
 unfolding operation_book finish_book finished
 finish_booked key s v =
     key_cases s key
-    (λ n. ends (Finish key) s (finish_outcome_bad_key s v key n) (off_key key (book_in s) _ n) (turned (Finish key) s v bad_key bad_key refl))
-    (λ l h e. ends (Finish key) s (finish_outcome_absent s v key l h e) (finishes l h none e) (turned (Finish key) s v (key_not_standing key) (key_not_standing key) refl))
+    (λ n. ends (Finish key) s (finish_outcome_bad_key s v key n) (off_key key (book_in s) _ n) (turned (Finish key) s v BadKey BadKey refl))
+    (λ l h e. ends (Finish key) s (finish_outcome_absent s v key l h e) (finishes l h None e) (turned (Finish key) s v (KeyNotStanding key) (KeyNotStanding key) refl))
     (λ l h x e.
     let t = with_row s (finished x.cell s.row) in
-    ends (Finish key) s (finish_outcome_standing s v key l h x e) (finishes l h (some x) e)
+    ends (Finish key) s (finish_outcome_standing s v key l h x e) (finishes l h (Some x) e)
     (record {
       after = t;
       sound = finished_sound s x.cell v;
@@ -287,8 +289,8 @@ take_booked s v = at (from_live s.row) refl
     at : (rest : List Node) → from_live s.row ≡ rest → Booked Take s
     at [] e =
         ends Take s (take_outcome_none s v e) (takes [] e)
-        (turned Take s v (nothing_live (keys_above (position_key s) s.row)) (nothing_live (standing_above (position_key s) (standing_in s.row)))
-        (ap (λ n. answer_of (nothing_live n)) (sym (keys_above_lem (position_key s) s.row))))
+        (turned Take s v (NothingLive (keys_above (position_key s) s.row)) (NothingLive (standing_above (position_key s) (standing_in s.row)))
+        (ap (λ n. answer_of (NothingLive n)) (sym (keys_above_lem (position_key s) s.row))))
     at (x ∷ later) e =
         ends Take s (take_outcome_first s v x later e) (takes (x ∷ later) e)
         (record {

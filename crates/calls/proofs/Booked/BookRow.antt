@@ -1,9 +1,9 @@
 -- What a book tells of a row, and what each change of a row does to it: the definitions of the book go over the standing keys as those of the list go
 -- over the nodes. A node changed by its cell is a standing key changed by its key, for a key has one cell. And the live pairs of a row.
+use Rattle.std.specs.Prelude.{Option, None, Some}
 use mathlib.Core.Path.{◌≡◌, refl, sym, ◌∙◌, ap, ap₂, subst}
 use mathlib.Core.Bool.{Bool, true, false, cond, ◌&&◌}
 use mathlib.Core.List.{List, [], ◌∷◌, ◌++◌, map, drop_last, map-append}
-use mathlib.Core.Option.{Option, none, some}
 use Prim.Native.Nat.{ℕ, suc, ◌+◌}
 use native.Mathlib.Omega.{arith}
 use lib.Dec.{eqb, leb, ltb}
@@ -36,8 +36,8 @@ standing_in row = map standing_key_of row
 
 -- .. and of the node with a key
 abbrev pub told : Option Node → Option StandingKey
-told none = none
-told (some x) = some (standing_key_of x)
+told None = None
+told (Some x) = Some (standing_key_of x)
 
 pub standing_at_lem : (key : ℕ) (row : List Node) → standing_at key (standing_in row) ≡ told (node_at key row)
 unfolding standing_at node_at
@@ -45,7 +45,7 @@ standing_at_lem key [] = refl
 standing_at_lem key (x ∷ row) = at (eqb x.key key) (standing_at_lem key row)
   where
     at : (t : Bool) → standing_at key (standing_in row) ≡ told (node_at key row) →
-        cond t (some (standing_key_of x)) (standing_at key (standing_in row)) ≡ told (cond t (some x) (node_at key row))
+        cond t (Some (standing_key_of x)) (standing_at key (standing_in row)) ≡ told (cond t (Some x) (node_at key row))
     at true more = refl
     at false more = more
 

@@ -1,10 +1,10 @@
 -- What reading leaves: the calls for which a read stands, made one after the other, leave the picture of the state that the file's pairs
 -- make. Each key is above all that stand, so its insert appends: the cell is the next of the chain, no cell had the slot before, and so
 -- nobody owes. Then the finishing changes nothing.
+use Rattle.std.specs.Prelude.{None}
 use mathlib.Core.Path.{◌≡◌, refl, sym, ap, ap₂, ◌∙◌}
 use mathlib.Core.Bool.{true, false, ◌&&◌, not}
 use mathlib.Core.List.{List, [], ◌∷◌, ◌++◌, append-nil}
-use mathlib.Core.Option.{none}
 use Prim.Native.Nat.{ℕ, suc, ◌-◌, ◌<◌}
 use native.Mathlib.Omega.{arith}
 use lib.Dec.{ltb}
@@ -36,7 +36,7 @@ pub use Rattle.calls.proofs.Restarted.ReadState.{read_state_sound, read_list}
 -- Insert of the next pair
 
 -- a key above all nodes has none
-pub node_absent : (key : ℕ) (row : List Node) → All (λ x. x.key < key) row → node_at key row ≡ none
+pub node_absent : (key : ℕ) (row : List Node) → All (λ x. x.key < key) row → node_at key row ≡ None
 unfolding node_at
 node_absent key [] a = refl
 node_absent key (x ∷ row) a = let h = a.0 in node_past key x row (λ e. omega arith) ∙ node_absent key row a.1

@@ -1,9 +1,9 @@
 -- What the code that reads goes by: of the state that the pairs so far make, the next key is above all; the node before it is the last, and
 -- the next node's path is the last one's with the new cell from what the two keys share on.
+use Rattle.std.specs.Prelude.{None}
 use mathlib.Core.Path.{◌≡◌, refl, sym, ap, ◌∙◌, subst}
 use mathlib.Core.Bool.{true}
 use mathlib.Core.List.{List, [], ◌∷◌, ◌++◌, append-nil}
-use mathlib.Core.Option.{none}
 use Prim.Native.Nat.{ℕ, suc, ◌<◌}
 use native.Mathlib.Omega.{arith}
 use lib.Dec.{ltb}
@@ -60,7 +60,7 @@ next_above s pairs p kept =
 pub record AboveAll (t : State) (last key : ℕ) : Type 0 where
   pub smaller : (smaller_than key t.row).key ≡ last
   pub none_above : those (λ x. ltb key x.key) t.row ≡ []
-  pub absent : node_at key t.row ≡ none
+  pub absent : node_at key t.row ≡ None
 
 pub read_state_next : (s : Settings) (pairs : List Pair) (key : ℕ) → keeps s pairs ≡ true → last_key 0 pairs < key →
     AboveAll (read_state s pairs) (last_key 0 pairs) key

@@ -1,5 +1,6 @@
 -- Write and read. What a list keeps may stand in a file, so that a file of it is read again; an accepted file is what writing gives. Reading is by
 -- definition the calls that it stands for, and these leave the picture of the state that the file's pairs make (ReadIn.antt).
+use Rattle.std.specs.Prelude.{None, Option, Some}
 use mathlib.Core.Path.{◌≡◌, refl, sym, ◌∙◌, ap, subst}
 use mathlib.Core.Bool.{Bool, true, false, ◌&&◌}
 use mathlib.Core.List.{List, [], ◌∷◌, ◌++◌, map}
@@ -16,13 +17,13 @@ use Rattle.lists.specs.Lists.{those}
 use Rattle.lists.proofs.All.{All}
 use Rattle.lists.proofs.Tests.{and_both, cond_has}
 use Rattle.files.specs.Files.{Pair, file_of, settings_in, pairs_in, rising, keeps, is_file, contents_of}
-use Rattle.files.specs.declared.Contents.TheVariants.{IsFile}
 use Rattle.files.proofs.Files.{file_keeps}
 use Rattle.meaning.specs.Row.{Node}
 use Rattle.meaning.specs.State.{State}
 use Rattle.meaning.specs.Picture.{picture}
 use Rattle.meaning.specs.Reading.{read, settings_at, is_list, reading_of}
-use Rattle.answers.specs.Refusals.{Outcome, accepted, wrong_length, not_a_list, bad_file, no_room, refused}
+use Rattle.answers.specs.Refusals.{Outcome, accepted, refused}
+use Rattle.answers.specs.declared.Refusal.TheVariants.{WrongLength, NotAList, BadFile, NoRoom}
 use Rattle.meaning.specs.Operations.{set_up_out}
 use Rattle.calls.specs.Pairs.{live_pairs}
 use Rattle.calls.specs.Saved.{FileLent, file_lent, written, write_on, write_out, inserted_all, finished_all, read_in, read_from, read_out}
@@ -30,8 +31,6 @@ use Rattle.calls.specs.Calls.{Made, operated, outcome, after_calls}
 use Rattle.calls.specs.Promises.{file_calls, ReadIsCalls, ReadList, ReadGivesList}
 use Rattle.calls.specs.Layer.ReadState.{read_state}
 use Rattle.answers.specs.declared.Operation.TheVariants.{Insert, Finish}
-use Rattle.meaning.specs.declared.Reading.{Reading}
-use Rattle.meaning.specs.declared.Reading.TheVariants.{IsList, NotAList}
 use Rattle.meaning.proofs.Rows.AscendingRow.{Asc}
 use Rattle.meaning.proofs.Pictures.State.{Sound}
 use Rattle.meaning.proofs.Pictures.StateCells.{free_length}
@@ -90,7 +89,7 @@ list_length_lem ws e = ap length (sym (list_is_picture ws e)) ∙ picture_length
 abbrev pub file_for : List ℕ → List ℕ
 file_for ws = file_of (settings_at ws) (live_pairs ws)
 
-pub write_outcome_not_a_list : (lent : FileLent) → is_list lent.words ≡ false → write_out lent ≡ refused not_a_list lent
+pub write_outcome_not_a_list : (lent : FileLent) → is_list lent.words ≡ false → write_out lent ≡ refused NotAList lent
 unfolding write_out reading_of
 write_outcome_not_a_list lent e = rw e refl
 
@@ -99,7 +98,7 @@ unfolding write_out reading_of
 write_on_list lent e = rw e refl
 
 pub write_outcome_no_room : (lent : FileLent) → is_list lent.words ≡ true → length lent.file < length (file_for lent.words) →
-    write_out lent ≡ refused no_room lent
+    write_out lent ≡ refused NoRoom lent
 write_outcome_no_room lent e h = write_on_list lent e ∙ rw (lt-leb (length (file_for lent.words)) (length lent.file) h) refl
 
 pub write_outcome : (lent : FileLent) → is_list lent.words ≡ true → length (file_for lent.words) ≤ length lent.file →
@@ -130,9 +129,9 @@ pub write_keeps_words : (lent : FileLent) → (write_out lent).left.words ≡ le
 unfolding write_out
 write_keeps_words lent = at (reading_of lent.words)
   where
-    at : (reading : Reading) → (write_on lent reading).left.words ≡ lent.words
-    at (IsList s) = cond_has (λ (o : Outcome FileLent). o.left.words ≡ lent.words) (leb (length (file_of s (live_pairs lent.words))) (length lent.file)) _ _ refl refl
-    at NotAList = refl
+    at : (reading : Option Settings) → (write_on lent reading).left.words ≡ lent.words
+    at (Some s) = cond_has (λ (o : Outcome FileLent). o.left.words ≡ lent.words) (leb (length (file_of s (live_pairs lent.words))) (length lent.file)) _ _ refl refl
+    at None = refl
 
 -- Read, case by case
 
@@ -140,15 +139,15 @@ write_keeps_words lent = at (reading_of lent.words)
 abbrev pub RightLength : FileLent → Type 0
 RightLength lent = length lent.words ≡ length_of (settings_in lent.file).dimensions (settings_in lent.file).cells
 
-pub read_outcome_bad_file : (lent : FileLent) → is_file lent.file ≡ false → read_out lent ≡ refused bad_file lent
+pub read_outcome_bad_file : (lent : FileLent) → is_file lent.file ≡ false → read_out lent ≡ refused BadFile lent
 unfolding read_out contents_of
 read_outcome_bad_file lent e = rw e refl
 
-read_of_file : (lent : FileLent) → is_file lent.file ≡ true → read_out lent ≡ read_from lent (IsFile (settings_in lent.file) (length (pairs_in lent.file)))
+read_of_file : (lent : FileLent) → is_file lent.file ≡ true → read_out lent ≡ read_from lent (Some (settings_in lent.file, length (pairs_in lent.file)))
 unfolding read_out contents_of
 read_of_file lent e = rw e refl
 
-pub read_outcome_wrong_length : (lent : FileLent) → is_file lent.file ≡ true → (RightLength lent → ⊥) → read_out lent ≡ refused wrong_length lent
+pub read_outcome_wrong_length : (lent : FileLent) → is_file lent.file ≡ true → (RightLength lent → ⊥) → read_out lent ≡ refused WrongLength lent
 read_outcome_wrong_length lent e ne =
     let s = settings_in lent.file in
     read_of_file lent e ∙ rw (ne_eqb (length lent.words) (length_of s.dimensions s.cells) ne) refl

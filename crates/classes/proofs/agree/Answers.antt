@@ -1,12 +1,13 @@
 -- `classes::agree` meets its contract: words of another length are no full reading, and others are compared with one.
 use mathlib.Core.Path.{ap, ◌∙◌}
-use borrow.Author.Rules.{rules}
 use Rattle.lists.specs.Lists.{same}
-use Rattle.classes.proofs.SameWords.{other_length}
+use Rattle.classes.proofs.Classes.{other_length, words_same}
 use Rattle.classes.proofs.agree.Goals as goal
 
 pub returns-then-classes-ne-RECORD_WORDS : goal.returns-then-classes-ne-RECORD_WORDS
-returns-then-classes-ne-RECORD_WORDS c = let a = c.args in other_length a.list.now a.classes.now (search rules)
+returns-then-classes-ne-RECORD_WORDS c = other_length c.args.list.now c.args.classes.now c.if-classes-ne-RECORD_WORDS.true
 
 pub returns : goal.returns
-returns c = c.same_words.ensures ∙ ap (same c.args.classes.now) c.tally.ensures
+returns c =
+    let classes = c.args.classes.now in
+    c.eq.ensures ∙ words_same classes c.as_slice.result.now ∙ ap (same classes) (c.as_slice.ensures ∙ c.tally.ensures)

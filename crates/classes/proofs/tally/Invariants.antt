@@ -4,6 +4,3 @@ use Rattle.classes.proofs.tally.Given as goal
 
 abbrev pub invariant-loop-x : goal.invariant-loop-x
 invariant-loop-x l = Tallied l.list l.s l.classes l.x
-
-abbrev pub decreases-loop-x : goal.decreases-loop-x
-decreases-loop-x l = l.x

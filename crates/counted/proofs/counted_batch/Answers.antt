@@ -8,34 +8,34 @@ use Rattle.counted.proofs.Outcomes.{agree_length}
 use Rattle.counted.proofs.Batched.{batch_refused, batch_bad, batch_made}
 use Rattle.counted.proofs.counted_batch.Goals as goal
 
-pub returns-then-pass-ne0 : goal.returns-then-pass-ne0
-returns-then-pass-ne0 c =
+pub returns-in-Err : goal.returns-in-Err
+returns-in-Err c =
     let a = c.args in
-    batch_refused a.calls.now (batch_lent a.list.now a.answers.now) a.classes.now c.check-pass.ensures c.if-pass-ne0.true c.refused.ensures
+    batch_refused a.calls.now (batch_lent a.list.now a.answers.now) a.classes.now (c.check.ensures.refused c.in-Err.refusal c.in-Err.is) c.refused.ensures
 
 pub returns-then-not-fit : goal.returns-then-not-fit
 returns-then-not-fit c =
     let a = c.args in
     let lent = batch_lent a.list.now a.answers.now in
-    let agreeing = c.check-pass.ensures.agreeing c.if-pass-ne0.false in
+    let agreeing = c.check.ensures.agreeing c.in-Ok.levels c.in-Ok.is in
     batch_bad a.calls.now lent a.classes.now agreeing
     (bad_batch a.calls.now lent (reading_listed agreeing.listed) (sym c.fit.ensures ∙ not-true c.fit.result c.if-not-fit.true-raw) c.refused-then-not-fit.ensures)
 
 pub batch-answer-requires : goal.batch-answer-requires
 batch-answer-requires c =
-    let agreeing = c.check-pass.ensures.agreeing c.if-pass-ne0.false in
-    (agreeing.listed, (c.check-pass.ensures.levels c.if-pass-ne0.false, sym c.fit.ensures ∙ not-false c.fit.result c.if-not-fit.false-raw))
+    let agreeing = c.check.ensures.agreeing c.in-Ok.levels c.in-Ok.is in
+    (agreeing.listed, (c.in-Ok.levels.right, sym c.fit.ensures ∙ not-false c.fit.result c.if-not-fit.false-raw))
 
 pub tally-requires : goal.tally-requires
 tally-requires c =
     let a = c.args in
-    let agreeing = c.check-pass.ensures.agreeing c.if-pass-ne0.false in
+    let agreeing = c.check.ensures.agreeing c.in-Ok.levels c.in-Ok.is in
     (batch_listed (calls_in a.calls.now) (batch_lent a.list.now a.answers.now) agreeing.listed c.batch-answer.ensures, agree_length a.list.now a.classes.now agreeing.agree)
 
 pub returns : goal.returns
 returns c =
     let a = c.args in
     let lent = batch_lent a.list.now a.answers.now in
-    let agreeing = c.check-pass.ensures.agreeing c.if-pass-ne0.false in
+    let agreeing = c.check.ensures.agreeing c.in-Ok.levels c.in-Ok.is in
     batch_made a.calls.now lent a.classes.now agreeing
     (batch_done_lem a.calls.now lent (reading_listed agreeing.listed) (sym c.fit.ensures ∙ not-false c.fit.result c.if-not-fit.false-raw) c.batch-answer.ensures) c.tally.ensures

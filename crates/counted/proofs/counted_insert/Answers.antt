@@ -4,24 +4,24 @@ use Rattle.counted.proofs.Kept.{operation_refused, operation_after, operation_re
 use Rattle.counted.proofs.Outcomes.{agree_length}
 use Rattle.counted.proofs.counted_insert.Goals as goal
 
-pub returns-then-pass-ne0 : goal.returns-then-pass-ne0
-returns-then-pass-ne0 c =
+pub returns-in-Err : goal.returns-in-Err
+returns-in-Err c =
     let a = c.args in
-    operation_refused (Insert a.key a.value) a.list.now a.classes.now c.check-pass.ensures c.if-pass-ne0.true c.refused.ensures
+    operation_refused (Insert a.key a.value) a.list.now a.classes.now (c.check.ensures.refused c.in-Err.refusal c.in-Err.is) c.refused.ensures
 
 pub insert-answer-requires : goal.insert-answer-requires
 insert-answer-requires c =
-    let agreeing = c.check-pass.ensures.agreeing c.if-pass-ne0.false in
-    (agreeing.listed, c.check-pass.ensures.levels c.if-pass-ne0.false)
+    let agreeing = c.check.ensures.agreeing c.in-Ok.levels c.in-Ok.is in
+    (agreeing.listed, c.in-Ok.levels.right)
 
 pub renew-requires : goal.renew-requires
 renew-requires c =
     let a = c.args in
-    let agreeing = c.check-pass.ensures.agreeing c.if-pass-ne0.false in
+    let agreeing = c.check.ensures.agreeing c.in-Ok.levels c.in-Ok.is in
     (operation_after (Insert a.key a.value) a.list.now agreeing.listed c.insert-answer.ensures, agree_length a.list.now a.classes.now agreeing.agree)
 
 pub returns : goal.returns
 returns c =
     let a = c.args in
-    let agreeing = c.check-pass.ensures.agreeing c.if-pass-ne0.false in
+    let agreeing = c.check.ensures.agreeing c.in-Ok.levels c.in-Ok.is in
     operation_renewed (Insert a.key a.value) a.list.now a.classes.now agreeing c.insert-answer.ensures c.renew.ensures

@@ -4,18 +4,18 @@ use Rattle.answers.specs.declared.Operation.TheVariants.{Sweep}
 use Rattle.counted.proofs.Kept.{operation_refused, operation_kept}
 use Rattle.counted.proofs.counted_sweep.Goals as goal
 
-pub returns-then-pass-ne0 : goal.returns-then-pass-ne0
-returns-then-pass-ne0 c =
+pub returns-in-Err : goal.returns-in-Err
+returns-in-Err c =
     let a = c.args in
-    operation_refused Sweep a.list.now a.classes.now c.check-pass.ensures c.if-pass-ne0.true c.refused.ensures
+    operation_refused Sweep a.list.now a.classes.now (c.check.ensures.refused c.in-Err.refusal c.in-Err.is) c.refused.ensures
 
 pub sweep-requires : goal.sweep-requires
 sweep-requires c =
-    let agreeing = c.check-pass.ensures.agreeing c.if-pass-ne0.false in
-    (agreeing.listed, c.check-pass.ensures.levels c.if-pass-ne0.false)
+    let agreeing = c.check.ensures.agreeing c.in-Ok.levels c.in-Ok.is in
+    (agreeing.listed, c.in-Ok.levels.right)
 
 pub returns : goal.returns
 returns c =
     let a = c.args in
-    let agreeing = c.check-pass.ensures.agreeing c.if-pass-ne0.false in
+    let agreeing = c.check.ensures.agreeing c.in-Ok.levels c.in-Ok.is in
     operation_kept Sweep a.list.now a.classes.now agreeing refl c.sweep.ensures

@@ -4,24 +4,24 @@ use Rattle.counted.proofs.Kept.{operation_refused, operation_after, operation_re
 use Rattle.counted.proofs.Outcomes.{agree_length}
 use Rattle.counted.proofs.counted_take.Goals as goal
 
-pub returns-then-pass-ne0 : goal.returns-then-pass-ne0
-returns-then-pass-ne0 c =
+pub returns-in-Err : goal.returns-in-Err
+returns-in-Err c =
     let a = c.args in
-    operation_refused Take a.list.now a.classes.now c.check-pass.ensures c.if-pass-ne0.true c.refused.ensures
+    operation_refused Take a.list.now a.classes.now (c.check.ensures.refused c.in-Err.refusal c.in-Err.is) c.refused.ensures
 
 pub take-answer-requires : goal.take-answer-requires
 take-answer-requires c =
-    let agreeing = c.check-pass.ensures.agreeing c.if-pass-ne0.false in
+    let agreeing = c.check.ensures.agreeing c.in-Ok.levels c.in-Ok.is in
     agreeing.listed
 
 pub renew-requires : goal.renew-requires
 renew-requires c =
     let a = c.args in
-    let agreeing = c.check-pass.ensures.agreeing c.if-pass-ne0.false in
+    let agreeing = c.check.ensures.agreeing c.in-Ok.levels c.in-Ok.is in
     (operation_after Take a.list.now agreeing.listed c.take-answer.ensures, agree_length a.list.now a.classes.now agreeing.agree)
 
 pub returns : goal.returns
 returns c =
     let a = c.args in
-    let agreeing = c.check-pass.ensures.agreeing c.if-pass-ne0.false in
+    let agreeing = c.check.ensures.agreeing c.in-Ok.levels c.in-Ok.is in
     operation_renewed Take a.list.now a.classes.now agreeing c.take-answer.ensures c.renew.ensures

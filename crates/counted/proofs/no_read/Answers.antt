@@ -11,15 +11,15 @@ returns-in_default c =
 
 pub length-requires : goal.length-requires
 length-requires c =
-    let limits = told_limits (told (sym c.read_contents-contents.ensures ∙ c.in-IsFile.is)) in
+    let limits = told_limits (told (sym c.read_contents-contents.ensures ∙ c.in-Some.is)) in
     (limits.0, limits.1.0)
 
 pub returns-then-list-length : goal.returns-then-list-length
 returns-then-list-length c =
     let a = c.args in
-    other_words_answer a.list.now a.file.now (sym c.read_contents-contents.ensures ∙ c.in-IsFile.is) (search rules) c.refused-then-list-length.ensures
+    other_words_answer a.list.now a.file.now (sym c.read_contents-contents.ensures ∙ c.in-Some.is) (search rules) c.refused-then-list-length.ensures
 
 pub returns : goal.returns
 returns c =
     let a = c.args in
-    other_record_answer a.list.now a.file.now (sym c.read_contents-contents.ensures ∙ c.in-IsFile.is) (search rules) c.refused-2.ensures
+    other_record_answer a.list.now a.file.now (sym c.read_contents-contents.ensures ∙ c.in-Some.is) (search rules) c.refused-2.ensures

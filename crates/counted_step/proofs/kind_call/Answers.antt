@@ -1,19 +1,19 @@
 -- `counted_step::kind_call` meets its contract: the call that a line makes is read off by its kind.
 -- a call's answer, and what it leaves, are the line's
+use Rattle.std.specs.Prelude.{Some}
 use mathlib.Core.Path.{◌≡◌, refl, ap, ◌∙◌}
 use Rattle.answers.specs.Refusals.{Outcome, Meets}
 use Rattle.answers.specs.declared.Answer.{Answer}
 use Rattle.calls.specs.Records.{Lent}
 use Rattle.counted.specs.Counted.{Beside}
 use Rattle.trace.specs.declared.Kind.{Kind}
-use Rattle.trace_call.specs.declared.Reply.TheVariants.{Four}
 use Rattle.counted_step.specs.Lines.{kind_reply, kind_leaves, KindCalled}
 use Rattle.counted_step.proofs.kind_call.Goals as goal
 
 called :
-    {kind : Kind} {o : Outcome (Beside Lent)} {r : Answer} {b after : Beside Lent} → Meets o r after → Four o.answered ≡ kind_reply kind b →
-    o.left ≡ kind_leaves kind b → KindCalled kind b (Four r) after
-called meets reply left = record { reply = ap (λ (a : Answer). Four a) meets.answered ∙ reply; left = meets.left ∙ left }
+    {kind : Kind} {o : Outcome (Beside Lent)} {r : Answer} {b after : Beside Lent} → Meets o r after → Some o.answered ≡ kind_reply kind b →
+    o.left ≡ kind_leaves kind b → KindCalled kind b (Some r) after
+called meets reply left = record { reply = ap (λ (a : Answer). Some a) meets.answered ∙ reply; left = meets.left ∙ left }
 
 pub returns-in-Fresh : goal.returns-in-Fresh
 returns-in-Fresh c = rw c.in-Fresh.is (called c.make.ensures refl refl)
@@ -40,4 +40,4 @@ pub returns-in-Last : goal.returns-in-Last
 returns-in-Last c = rw c.in-Last.is (record { reply = refl; left = refl })
 
 pub returns-in-Unreadable : goal.returns-in-Unreadable
-returns-in-Unreadable c = rw c.in-Unreadable.is (record { reply = ap (λ (a : Answer). Four a) c.refused.ensures; left = refl })
+returns-in-Unreadable c = rw c.in-Unreadable.is (record { reply = ap (λ (a : Answer). Some a) c.refused.ensures; left = refl })

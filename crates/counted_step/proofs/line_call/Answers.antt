@@ -1,7 +1,7 @@
 -- `counted_step::line_call` meets its contract, by the case of the line.
+use Rattle.std.specs.Prelude.{Some}
 use mathlib.Core.Path.{refl, ap}
 use Rattle.answers.specs.declared.Answer.{Answer}
-use Rattle.trace_call.specs.declared.Reply.TheVariants.{Four}
 use Rattle.counted_step.proofs.line_call.Goals as goal
 
 pub returns-in-Listed : goal.returns-in-Listed
@@ -16,4 +16,4 @@ pub returns-in-ClassWord : goal.returns-in-ClassWord
 returns-in-ClassWord c = rw c.in-ClassWord.is (record { reply = refl; left = refl })
 
 pub returns-in-Class : goal.returns-in-Class
-returns-in-Class c = rw c.in-Class.is (record { reply = ap (λ (a : Answer). Four a) c.counted_class.ensures.answered; left = refl })
+returns-in-Class c = rw c.in-Class.is (record { reply = ap (λ (a : Answer). Some a) c.counted_class.ensures.answered; left = refl })

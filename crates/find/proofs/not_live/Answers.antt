@@ -2,4 +2,4 @@
 use Rattle.find.proofs.not_live.Goals as goal
 
 pub returns : goal.returns
-returns c = c.refused_at.ensures
+returns c = c.refused.ensures

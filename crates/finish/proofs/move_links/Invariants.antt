@@ -2,16 +2,10 @@
 -- move in the list of the call.
 use mathlib.Core.Path.{◌≡◌}
 use Prim.Native.Nat.{◌-◌}
-use lib.ListN.{length}
 use Rattle.meaning.specs.Layer.Stores.{move_links}
 use Rattle.words.specs.Shaped.{Shaped}
 use Rattle.finish.proofs.move_links.Given as goal
 
 abbrev pub invariant-loop-d : goal.invariant-loop-d
 invariant-loop-d l =
-    Shaped l.list l.s
-    × ((length l.list ≡ length l.initial.list)
-    × (move_links l.s.dimensions l.initial.list l.n l.c l.low (l.high - l.low) ≡ move_links l.s.dimensions l.list l.n l.c l.d (l.high - l.d)))
-
-abbrev pub decreases-loop-d : goal.decreases-loop-d
-decreases-loop-d l = l.high - l.d
+    Shaped l.list l.s × (move_links l.s.dimensions l.initial.list l.n l.c l.low (l.high - l.low) ≡ move_links l.s.dimensions l.list l.n l.c l.d (l.high - l.d))

@@ -10,7 +10,7 @@ bounds-list-4 c = omega (arith, (listed_shaped c.requires.0.0.list).long)
 
 pub returns-then-n-eq0 : goal.returns-then-n-eq0
 returns-then-n-eq0 c =
-    full_meets c.requires.0.0 c.requires.0.1 c.args.value refl c.if-n-eq0.true c.refused_at.ensures
+    full_meets c.requires.0.0 c.requires.0.1 c.args.value refl c.if-n-eq0.true c.refused.ensures
 
 pub add-requires : goal.add-requires
 add-requires c =

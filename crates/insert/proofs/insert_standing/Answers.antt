@@ -14,7 +14,7 @@ word-requires c =
 
 pub returns-then-word-eq-LIVE : goal.returns-then-word-eq-LIVE
 returns-then-word-eq-LIVE c =
-    live_meets c.requires.0.0 c.requires.0.1 c.args.value c.word.ensures c.if-word-eq-LIVE.true c.refused_at.ensures
+    live_meets c.requires.0.0 c.requires.0.1 c.args.value c.word.ensures c.if-word-eq-LIVE.true c.refused.ensures
 
 pub revive-requires : goal.revive-requires
 revive-requires c =

@@ -9,16 +9,16 @@ returns-in_default c =
     refused_meets c.requires.0.0 c.args.logged last (no_note_asks last c.in_default.is) c.refused.ensures
 
 pub full_number-requires : goal.full_number-requires
-full_number-requires c = omega (arith, (note_within c.in-Note.is c.requires.0.1).number)
+full_number-requires c = omega (arith, (note_within c.in-Some.is c.requires.0.1).number)
 
 pub returns-in_default-full_number : goal.returns-in_default-full_number
 returns-in_default-full_number c =
     let last = c.args.last.now in
     refused_meets c.requires.0.0 c.args.logged last
-    (outside_asks last c.in-Note.is c.full_number.ensures c.in_default-full_number.is) c.refused-in_default-full_number.ensures
+    (outside_asks last c.in-Some.is c.full_number.ensures c.in_default-full_number.is) c.refused-in_default-full_number.ensures
 
 pub entry_key-requires : goal.entry_key-requires
-entry_key-requires c = (note_within c.in-Note.is c.requires.0.1).entry
+entry_key-requires c = (note_within c.in-Some.is c.requires.0.1).entry
 
 pub insert-answer-requires : goal.insert-answer-requires
 insert-answer-requires c = let pre = c.requires in (pre.0.0, pre.1)
@@ -27,5 +27,5 @@ pub returns : goal.returns
 returns c =
     let last = c.args.last.now in
     inserted_meets c.requires.0.0 c.args.logged last
-    (note_asks_lem last c.in-Note.is c.full_number.ensures c.in-Fits.is c.entry_key.ensures)
+    (note_asks_lem last c.in-Some.is c.full_number.ensures c.in-Some-full_number.is c.entry_key.ensures)
     c.insert-answer.ensures c.advance.ensures

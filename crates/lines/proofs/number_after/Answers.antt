@@ -7,14 +7,14 @@ use Rattle.lines.proofs.number_after.Goals as goal
 pub returns-then-at-line : goal.returns-then-at-line
 returns-then-at-line c = let a = c.args in number_missing a.least a.most (search rules)
 
-pub returns-in-Value : goal.returns-in-Value
-returns-in-Value c =
+pub returns-in-Some : goal.returns-in-Some
+returns-in-Some c =
     let a = c.args in
     let ends = c.field_end-end.ensures in
-    number_read a.least a.most (search rules) ends (sym c.number-numeral.ensures ∙ c.in-Value.is)
+    number_read a.least a.most (search rules) ends (sym c.number-numeral.ensures ∙ c.in-Some.is)
 
-pub returns-in-Unreadable : goal.returns-in-Unreadable
-returns-in-Unreadable c =
+pub returns-in-None : goal.returns-in-None
+returns-in-None c =
     let a = c.args in
     let ends = c.field_end-end.ensures in
-    number_none a.least a.most (search rules) ends (sym c.number-numeral.ensures ∙ c.in-Unreadable.is)
+    number_none a.least a.most (search rules) ends (sym c.number-numeral.ensures ∙ c.in-None.is)

@@ -1,17 +1,20 @@
 -- `lists::all_zero` meets its contract: the bits are those of the first i words and of the last eight, and in the end of all.
 use native.Mathlib.Omega.{arith}
 use borrow.Author.Rules.{rules}
-use Rattle.lists.proofs.AllZero.{zero_start, zero_join, zero_or, or_left, zero_decides}
+use Rattle.lists.proofs.AllZero.{zero_join, zero_or, or_left, zero_decides, zeros_tested}
 use Rattle.lists.proofs.all_zero.Goals as goal
+use Rattle.lists.proofs.all_zero.Goals.{else-loop-i-test, then-loop-i-test+else-i-end-i-gt8}
+use Rattle.std.proofs.lemmas.Iterator.{YieldsList-from_slice}
+use Rattle.std.proofs.lemmas.Iterator.Search.{all_from_yields_List}
+use Rattle.std.proofs.Common.{tests, nat_eq, ◌+◌, ◌∙◌}
 
 pub returns-then-n-lt4 : goal.returns-then-n-lt4
-returns-then-n-lt4 c = zero_decides _ c.few.ensures
+returns-then-n-lt4 c =
+    let ws = c.args.part.now in
+    all_from_yields_List (λ w. nat_eq w 0) _ _ _ c.all.ensures.ran (YieldsList-from_slice ws cc) (λ x b q k. search (rules, tests)) ∙ zeros_tested ws
 
 pub returns-then-n-lt8 : goal.returns-then-n-lt8
 returns-then-n-lt8 c = zero_decides _ (zero_or _ c.four.ensures c.four-then-n-lt8.ensures (omega arith) (omega arith))
-
-pub loop-i-init : goal.loop-i-init
-loop-i-init c = (search rules, (zero_start _ 0 _ c.eight-bits.ensures.none, c.eight-bits.ensures))
 
 pub loop-i-preserved : goal.loop-i-preserved
 loop-i-preserved c =
@@ -22,4 +25,10 @@ loop-i-preserved c =
 pub returns : goal.returns
 returns c =
     let v = c.loop-i in
-    zero_decides _ (zero_join _ v.invariant.1.0 v.invariant.1.1 (omega arith) (omega arith))
+    elim c.loop-i-test.branch [
+      | else-loop-i-test w ↦ rw w.bits-is (zero_decides _ (zero_join _ v.invariant.1.0 v.invariant.1.1 (omega arith) (omega arith)))
+      | then-loop-i-test+else-i-end-i-gt8 w ↦
+          let read = w.eight-bits-in-loop-i.ensures in
+          let first = zero_or _ {l = v.i + 8} v.invariant.1.0 read (omega arith) (omega arith) in
+          rw w.bits-is (zero_decides _ (zero_join _ first (or_left _ v.invariant.1.1 read) (omega arith) (omega arith)))
+    ]

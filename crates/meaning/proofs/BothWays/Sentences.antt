@@ -1,11 +1,11 @@
 -- Every rule from Numbers to A list holds of a list, as a condition on its words. A list is the picture of a state in order; its standing
 -- cells have their places, its other cells are free, and what a rule says of cells by their words is so of the places by the laws of the
 -- row.
+use Rattle.std.specs.Prelude.{Option, None, Some}
 use mathlib.Core.Path.{◌≡◌, refl, sym, ap, ◌∙◌, subst, subst₂}
 use mathlib.Core.Bool.{Bool, true, false, cond, false≢true}
 use mathlib.Core.List.{List, [], ◌∷◌, Memᴰ}
 use mathlib.Core.Logic.{inr}
-use mathlib.Core.Option.{Option, none, some}
 use Prim.Native.Nat.{ℕ, suc, ◌≤◌, ◌<◌}
 use native.Mathlib.Omega.{arith}
 use Rattle.settings.proofs.Numbers.{base_is}
@@ -269,7 +269,7 @@ module _ {s : State} (v : Sound s) where
 
   -- The free chain
 
-  chained_from : (cs : List ℕ) → Follow s.free cs → All (λ c. (0 < c) × (c < s.settings.cells)) cs → All (λ c. place_of c (places_of s s.row) ≡ none) cs →
+  chained_from : (cs : List ℕ) → Follow s.free cs → All (λ c. (0 < c) × (c < s.settings.cells)) cs → All (λ c. place_of c (places_of s s.row) ≡ None) cs →
       Chained (picture s) (first_number cs) cs
   chained_from [] f r u = ended
   chained_from (c ∷ cs) f r u =
@@ -304,8 +304,8 @@ module _ {s : State} (v : Sound s) where
       of false = omega arith
 
       at : (o : Option Place) → place_of x (places_of s s.row) ≡ o → mark_at (picture s) x ≤ 2
-      at none e = let m = (free_cell_free s x h e).mark in omega arith
-      at (some p) e = omega (arith, place_mark v (record { found = e }), of p.node.live)
+      at None e = let m = (free_cell_free s x h e).mark in omega arith
+      at (Some p) e = omega (arith, place_mark v (record { found = e }), of p.node.live)
 
   -- The words 3: a dead cell's value
   dead_sentence : (x : ℕ) → x < s.settings.cells → mark_at (picture s) x ≡ 2 → value_at (picture s) x ≡ 0

@@ -1,10 +1,10 @@
 -- The operations 6, as laws of the swept state and its words: nobody owes, what is freed and what is kept, and the position is the greatest
 -- dead cell below every live key.
+use Rattle.std.specs.Prelude.{Option, None, Some}
 use mathlib.Core.Path.{◌≡◌, refl, sym, ap, ◌∙◌, subst}
 use mathlib.Core.Bool.{true, false, true≢false}
 use mathlib.Core.List.{List, [], ◌∷◌, ◌++◌, map, drop_last}
 use mathlib.Core.Logic.{◌⊎◌, inl, inr}
-use mathlib.Core.Option.{Option, none, some}
 use Prim.Native.Nat.{ℕ, zero, suc, ◌≤◌, ◌<◌}
 use native.Mathlib.Decide.{dec_lt}
 use native.Mathlib.Omega.{arith}
@@ -42,12 +42,12 @@ unfolding swept
 swept_owes_nothing s v x h = at (place_of x (places_of (swept s) (swept s).row)) refl
   where
     at : (o : Option Place) → place_of x (places_of (swept s) (swept s).row) ≡ o → OwesNothing (picture (swept s)) x
-    at none e = (
+    at None e = (
       free_cell_rest (swept s) x h e 3 (omega arith) (omega arith),
       free_cell_rest (swept s) x h e 4 (omega arith) (omega arith),
       free_cell_rest (swept s) x h e 5 (omega arith) (omega arith),
     )
-    at (some p) e =
+    at (Some p) e =
         let here : Placed (swept s) x p = record { found = e } in
         place_unowing (swept_sound s v) here (placed_node here (λ y. y.owes ≡ false) refl (swept_unowing s))
 

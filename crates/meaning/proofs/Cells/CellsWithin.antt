@@ -1,9 +1,9 @@
 -- Every cell number that the words of a picture hold is below C: a cell that is owed from, where a link leads as it stands, and as it is
 -- read. A standing cell's debt and links lead to nodes of the row, and a free cell has neither.
+use Rattle.std.specs.Prelude.{Option, None, Some}
 use mathlib.Core.Path.{◌≡◌, refl}
 use mathlib.Core.Bool.{Bool, cond, ◌&&◌, not}
 use mathlib.Core.List.{List, [], ◌∷◌}
-use mathlib.Core.Option.{Option, none, some}
 use Prim.Native.Nat.{ℕ, ◌<◌}
 use native.Mathlib.Omega.{arith}
 use lib.Dec.{eqb, leb}
@@ -59,8 +59,8 @@ module _ (s : State) (v : Sound s) where
   owed_within x h = at (place_of x (places_of s s.row)) refl
     where
       at : (o : Option Place) → place_of x (places_of s s.row) ≡ o → owed_at (picture s) x < s.settings.cells
-      at none e = rw (free_cell_rest s x h e 3 (omega arith) (omega arith)) cell_none
-      at (some p) e =
+      at None e = rw (free_cell_rest s x h e 3 (omega arith) (omega arith)) cell_none
+      at (Some p) e =
           let here : Placed s x p = record { found = e } in
           rw (place_owed v here) (owed_among (λ c. c < s.settings.cells) p cell_none (later_within x p here))
 
@@ -68,9 +68,9 @@ module _ (s : State) (v : Sound s) where
   link_within x d h l = at (place_of x (places_of s s.row)) refl
     where
       at : (o : Option Place) → place_of x (places_of s s.row) ≡ o → link_at (picture s) x d < s.settings.cells
-      at none e =
+      at None e =
           rw (free_cell_rest s x h e (link_field d) (omega arith) (omega arith)) cell_none
-      at (some p) e =
+      at (Some p) e =
           let here : Placed s x p = record { found = e } in
           let cell : p.node.cell < s.settings.cells = rw (placed_cell here) h in
           rw (place_link v here d l) (link_among (λ c. c < s.settings.cells) s.settings.base s.settings.dimensions p d cell_none cell

@@ -1,10 +1,10 @@
 -- The picture of a state in which nodes change and keep their cells and keys, word by word. Places stay where they are; the words of
 -- a cell follow from its place, from the values, marks and debts after the change, and from nothing else; and the path follows from the
 -- position, the cells and the keys.
+use Rattle.std.specs.Prelude.{Option, None, Some}
 use mathlib.Core.Path.{◌≡◌, refl, sym, ap, ap₂, ◌∙◌, fun_ext}
 use mathlib.Core.Bool.{Bool, true, false, cond, ◌&&◌}
 use mathlib.Core.List.{List, [], ◌∷◌, map}
-use mathlib.Core.Option.{Option, none, some}
 use Prim.Native.Nat.{ℕ, zero, suc, ◌+◌, ◌<◌}
 use native.Mathlib.Omega.{arith}
 use lib.Dec.{eqb, leb}
@@ -132,18 +132,18 @@ module _ (f : Node → Node) (keeping : Keeping f) where
       ∷ map (fun_ext (link_by-changed b D beforeOwes owes q) i) (numbers_from 0 D)
 
   found_changed : Option Place → Option Place
-  found_changed none = none
-  found_changed (some q) = some (changed_place f q)
+  found_changed None = None
+  found_changed (Some q) = Some (changed_place f q)
 
   place_of-changed : (x : ℕ) (ps : List Place) → place_of x (map (changed_place f) ps) ≡ found_changed (place_of x ps)
   unfolding place_of found_changed
   place_of-changed x [] = refl
   place_of-changed x (p ∷ ps) =
-      ap (λ c. cond (eqb c x) (some (changed_place f p)) (place_of x (map (changed_place f) ps))) (keeping.cell p.node)
+      ap (λ c. cond (eqb c x) (Some (changed_place f p)) (place_of x (map (changed_place f) ps))) (keeping.cell p.node)
       ∙ at (eqb p.node.cell x) (place_of-changed x ps)
     where
       at : (t : Bool) → place_of x (map (changed_place f) ps) ≡ found_changed (place_of x ps) →
-          cond t (some (changed_place f p)) (place_of x (map (changed_place f) ps)) ≡ found_changed (cond t (some p) (place_of x ps))
+          cond t (Some (changed_place f p)) (place_of x (map (changed_place f) ps)) ≡ found_changed (cond t (Some p) (place_of x ps))
       at true e = refl
       at false e = e
 
@@ -185,7 +185,7 @@ module _ (s : State) (f : Node → Node) (keeping : Keeping f) (position : ℕ) 
       (f q.node).owes q)
 
   -- a free cell's, the header and the path are as before
-  pub changed_free : (x : ℕ) → place_of x (places_of s s.row) ≡ none → (j : ℕ) → x < s.settings.cells → j < cell_words s.settings.dimensions →
+  pub changed_free : (x : ℕ) → place_of x (places_of s s.row) ≡ None → (j : ℕ) → x < s.settings.cells → j < cell_words s.settings.dimensions →
       word_in s.settings.dimensions (picture (changed_state s f position)) x j ≡ word_in s.settings.dimensions (picture s) x j
   unfolding found_changed
   changed_free x e j h k =

@@ -1,11 +1,11 @@
 -- Which cells of a picture stand, which are free, and the words of each. A standing cell has one place, whose words it has; every other
 -- cell is met once by the free chain, because the head, the cells of the row and those of the chain are all the numbers below C. So a
 -- buffer that has the words of each place and of each free cell is the picture.
+use Rattle.std.specs.Prelude.{Option, None, Some}
 use mathlib.Core.Path.{◌≡◌, refl, sym, ap, ◌∙◌, subst}
 use mathlib.Core.Bool.{Bool, true, false, cond}
 use mathlib.Core.List.{List, [], ◌∷◌, map}
 use mathlib.Core.Logic.{◌⊎◌, inl, inr}
-use mathlib.Core.Option.{Option, none, some}
 use Prim.Native.Nat.{ℕ, zero, suc, ◌+◌, ◌≤◌, ◌<◌}
 use native.Mathlib.Decide.{ℕ_discrete}
 use native.Mathlib.Omega.{arith}
@@ -34,18 +34,18 @@ use Rattle.meaning.proofs.Cells.Stores.{picture_exact, field_cases, words_equal}
 -- Cells and places
 
 -- a cell for which no place is found is the cell of none
-pub unfound_none : (c : ℕ) (ps : List Place) → place_of c ps ≡ none → occurrences c (map (λ p. p.node.cell) ps) ≡ 0
+pub unfound_none : (c : ℕ) (ps : List Place) → place_of c ps ≡ None → occurrences c (map (λ p. p.node.cell) ps) ≡ 0
 unfolding occurrences place_of
 unfound_none c [] e = refl
 unfound_none c (p ∷ ps) e = at (ℕ_discrete p.node.cell c) (unfound_none c ps)
   where
-    at : Dec (p.node.cell ≡ c) → (place_of c ps ≡ none → occurrences c (map (λ q. q.node.cell) ps) ≡ 0) →
+    at : Dec (p.node.cell ≡ c) → (place_of c ps ≡ None → occurrences c (map (λ q. q.node.cell) ps) ≡ 0) →
         occurrences c (map (λ q. q.node.cell) (p ∷ ps)) ≡ 0
     at (yes q) more = absurd (let f = place_here c p ps q in let z : ◌≡◌ {A = ℕ} 0 1 = cc in omega arith)
     at (no ne) more = occurrences_past c p.node.cell (map (λ q. q.node.cell) ps) ne ∙ more (sym (place_past c p ps ne) ∙ e)
 
 -- the key of a cell is that of its place, in the part of a row after a node
-key_of_after : (b D c : ℕ) (a : Node) (e : ℕ) (row : List Node) (p : Place) → place_of c (places_after b D a e row) ≡ some p → key_of c row ≡ p.node.key
+key_of_after : (b D c : ℕ) (a : Node) (e : ℕ) (row : List Node) (p : Place) → place_of c (places_after b D a e row) ≡ Some p → key_of c row ≡ p.node.key
 unfolding places_after place_of
 key_of_after b D c a e [] p f = absurd (let z : ◌≡◌ {A = ℕ} 0 1 = cc in omega arith)
 key_of_after b D c a e (x ∷ row) p f = at (ℕ_discrete x.cell c) (key_of_after b D c x (shared b D a.key x.key) row p)
@@ -56,7 +56,7 @@ key_of_after b D c a e (x ∷ row) p f = at (ℕ_discrete x.cell c) (key_of_afte
     more : List Place
     more = places_after b D x (shared b D a.key x.key) row
 
-    at : Dec (x.cell ≡ c) → (place_of c more ≡ some p → key_of c row ≡ p.node.key) → key_of c (x ∷ row) ≡ p.node.key
+    at : Dec (x.cell ≡ c) → (place_of c more ≡ Some p → key_of c row ≡ p.node.key) → key_of c (x ∷ row) ≡ p.node.key
     at (yes q) rest =
         let g = place_here c here more q in
         let same : here ≡ p = cc in
@@ -65,7 +65,7 @@ key_of_after b D c a e (x ∷ row) p f = at (ℕ_discrete x.cell c) (key_of_afte
 
 -- cell x of a state stands, in place p
 pub record Placed (s : State) (x : ℕ) (p : Place) : Type 0 where
-  pub found : place_of x (places_of s s.row) ≡ some p
+  pub found : place_of x (places_of s s.row) ≡ Some p
 
 -- p is the place of its cell
 abbrev pub Own : State → Place → Type 0
@@ -117,10 +117,10 @@ pub occurs_placed : (s : State) (x : ℕ) → 0 < occurrences x (0 ∷ map (λ y
 occurs_placed s x h = at (place_of x (places_of s s.row)) refl
   where
     at : (o : Option Place) → place_of x (places_of s s.row) ≡ o → (p : Place) × Placed s x p
-    at none e =
+    at None e =
         let cells = ap (occurrences x) (places_cells s.settings.base s.settings.dimensions s.row) in
         absurd (omega (arith, h, cells, unfound_none x (places_of s s.row) e))
-    at (some p) e = (p, record { found = e })
+    at (Some p) e = (p, record { found = e })
 
 -- The words of a standing cell
 
@@ -156,9 +156,9 @@ module _ {s : State} (v : Sound s) {x : ℕ} {p : Place} (here : Placed s x p) w
       omega arith
 
   -- it is the node with its key, and what stands at a larger key stands after it
-  pub placed_at : 0 < p.node.key → node_at p.node.key s.row ≡ some p.node
+  pub placed_at : 0 < p.node.key → node_at p.node.key s.row ≡ Some p.node
   placed_at =
-      placed_node here (λ y. 0 < y.key → node_at y.key s.row ≡ some y) (λ h. absurd (omega arith))
+      placed_node here (λ y. 0 < y.key → node_at y.key s.row ≡ Some y) (λ h. absurd (omega arith))
       (all_map (λ y e h. e) s.row (node_found 0 s.row v.ascends))
 
   pub placed_passed : (k : ℕ) → p.node.key < k → node_at k s.row ≡ node_at k p.later
@@ -223,7 +223,7 @@ module _ {s : State} (v : Sound s) {x : ℕ} {p : Place} (here : Placed s x p) w
 
 -- The words of any other cell
 
-module _ (s : State) (x : ℕ) (below : x < s.settings.cells) (unfound : place_of x (places_of s s.row) ≡ none) where
+module _ (s : State) (x : ℕ) (below : x < s.settings.cells) (unfound : place_of x (places_of s s.row) ≡ None) where
   pub free_cell_word : (j : ℕ) → j < cell_words s.settings.dimensions →
       word_at (picture s) x j ≡ get_or (free_words s.settings.dimensions (next_free x s.free)) j 0
   unfolding words_of
@@ -258,16 +258,16 @@ unfolding picture
 cell_standing s x stands = at (place_of x (places_of s s.row)) refl
   where
     at : (o : Option Place) → place_of x (places_of s s.row) ≡ o → (p : Place) × Placed s x p
-    at none e = absurd (standing_not_free stands (free_cell_free s x stands.cell e))
-    at (some p) e = (p, record { found = e })
+    at None e = absurd (standing_not_free stands (free_cell_free s x stands.cell e))
+    at (Some p) e = (p, record { found = e })
 
 -- and a free one has none
-pub cell_unfound : {s : State} → Sound s → (x : ℕ) → Free (picture s) x → place_of x (places_of s s.row) ≡ none
+pub cell_unfound : {s : State} → Sound s → (x : ℕ) → Free (picture s) x → place_of x (places_of s s.row) ≡ None
 cell_unfound {s} v x free = at (place_of x (places_of s s.row)) refl
   where
-    at : (o : Option Place) → place_of x (places_of s s.row) ≡ o → o ≡ none
-    at none e = refl
-    at (some p) e = absurd (standing_not_free (place_standing v (record { found = e })) free)
+    at : (o : Option Place) → place_of x (places_of s s.row) ≡ o → o ≡ None
+    at None e = refl
+    at (Some p) e = absurd (standing_not_free (place_standing v (record { found = e })) free)
 
 module _ {s : State} (v : Sound s) where
   -- The words 4: every free cell once
@@ -288,7 +288,7 @@ module _ {s : State} (v : Sound s) where
   pub free_cell_lem : (x : ℕ) → 0 < occurrences x s.free → Free (picture s) x
   free_cell_lem x h =
       free_cell_free s x (occurs_has (λ c. (0 < c) × (c < s.settings.cells)) x s.free h (free_range s v)).1
-      (occurs_has (λ c. place_of c (places_of s s.row) ≡ none) x s.free h (free_found s v))
+      (occurs_has (λ c. place_of c (places_of s s.row) ≡ None) x s.free h (free_found s v))
 
   pub position_placed : (p : Place) × Placed s s.position p
   position_placed = occurs_placed s s.position v.position

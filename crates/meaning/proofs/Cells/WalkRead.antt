@@ -1,9 +1,9 @@
 -- What the words of a picture say of each standing cell: each word is that of its place, and a link read through what is owed is the
 -- settled one. A cell that owes reads the links in question from the next standing cell, which holds them for it.
+use Rattle.std.specs.Prelude.{Some}
 use mathlib.Core.Path.{◌≡◌, refl, ◌∙◌, sym, ap, ap₂}
 use mathlib.Core.Bool.{Bool, true, false, cond, ◌&&◌, not, and-false}
 use mathlib.Core.List.{List, [], ◌∷◌, ◌++◌, map}
-use mathlib.Core.Option.{some}
 use Prim.Native.Nat.{ℕ, ◌+◌, ◌≤◌, ◌<◌}
 use native.Mathlib.Nat.{zero-add}
 use native.Mathlib.Decide.{dec_le}
@@ -65,14 +65,14 @@ all_places P b D row h r = (h, places_nodes P b D head_node 0 row r)
 
 module _ (s : State) where
   -- word j of the cell of a place
-  pub standing_word : (x : ℕ) (p : Place) → x < s.settings.cells → place_of x (places s.settings.base s.settings.dimensions s.row) ≡ some p →
+  pub standing_word : (x : ℕ) (p : Place) → x < s.settings.cells → place_of x (places s.settings.base s.settings.dimensions s.row) ≡ Some p →
       (j : ℕ) → j < cell_words s.settings.dimensions → word_at (picture s) x j ≡ get_or (standing_words s.settings.base s.settings.dimensions p) j 0
   unfolding words_of
   standing_word x p h found j l =
       picture_word s x j h l ∙ ap (λ o. get_or (words_of s.settings.base s.settings.dimensions s.free x o) j 0) found
 
   held : (p : Place) → p.node.cell < s.settings.cells →
-      place_of p.node.cell (places s.settings.base s.settings.dimensions s.row) ≡ some p →
+      place_of p.node.cell (places s.settings.base s.settings.dimensions s.row) ≡ Some p →
       Held (picture s) s.settings.base s.settings.dimensions p
   unfolding standing_words
   held p h found =

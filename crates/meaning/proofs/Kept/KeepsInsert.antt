@@ -2,10 +2,10 @@
 -- inserted one and not above the old position's, and up to there all are dead. Of debts, a new node can touch that of the node
 -- before it, which then is its parent, and, by a new dimension, that of the next larger node, which then has the slot: the two that
 -- an insert finishes.
+use Rattle.std.specs.Prelude.{None, Some}
 use mathlib.Core.Path.{◌≡◌, refl, ◌∙◌, sym, ap, ap₂, subst, subst₂}
 use mathlib.Core.Bool.{Bool, true, false, cond, not}
 use mathlib.Core.List.{List, [], ◌∷◌, ◌++◌, map, map-append}
-use mathlib.Core.Option.{none, some}
 use Prim.Native.Nat.{ℕ, ◌≤◌, ◌<◌}
 use native.Mathlib.Omega.{arith}
 use native.Mathlib.Decide.{dec_le}
@@ -159,7 +159,7 @@ module _ (s : State) (x : Node) (value : ℕ) (v : Sound s) (pre post : List Nod
       (all_zip (λ y only dead l. on_cell-cases (λ z. z.live ≡ false) x.cell (revived_node value) y
       (λ here. absurd (let q = only here in omega arith)) (λ other. dead (omega arith))) s.row same_cell v.dead)
 
-pub revived_sound : (s : State) (x : Node) (value : ℕ) → Sound s → node_at x.key s.row ≡ some x → x.live ≡ false → Sound (revived s x value)
+pub revived_sound : (s : State) (x : Node) (value : ℕ) → Sound s → node_at x.key s.row ≡ Some x → x.live ≡ false → Sound (revived s x value)
 revived_sound s x value v e dead = let t = node_split x.key x s.row e in revived_sound_at s x value v t.0 t.1 t.2
 
 -- A new node
@@ -575,7 +575,7 @@ module _ (s : State) (v : Sound s) (key value : ℕ) (positive : 0 < key) (g : G
       (first_free s.free f ∙ ap {B = List ℕ} (λ c. c ∷ drop 1 s.free) (sym i.n_is))
       (λ l. absurd (let z : ◌≡◌ {A = ℕ} 0 1 = cc in omega arith)) last_unowing new_debt next_same new_lowered)
 
-pub added_sound : (s : State) (key value : ℕ) → Sound s → 1 ≤ key → key ≤ s.settings.largest → node_at key s.row ≡ none → 0 < length s.free →
+pub added_sound : (s : State) (key value : ℕ) → Sound s → 1 ≤ key → key ≤ s.settings.largest → node_at key s.row ≡ None → 0 < length s.free →
     Sound (added s key value (slot_for s key))
 added_sound s key value v positive most e f =
     let g = gap key 0 s.row v.ascends e in

@@ -1,10 +1,10 @@
 -- Where a key that does not stand goes: between the nodes below it and those above it, as link p of its parent. The parent's link p
 -- led, before, past all that share more than p with the parent, to the next larger node, if that shares at least p with the key:
 -- else the next larger node, and so all after it, share less than p with the parent.
+use Rattle.std.specs.Prelude.{Option, None, Some}
 use mathlib.Core.Path.{◌≡◌, refl, ◌∙◌, sym, ap, ap₂, subst}
 use mathlib.Core.Bool.{false, cond}
 use mathlib.Core.List.{List, [], ◌∷◌, ◌++◌, map, map-append}
-use mathlib.Core.Option.{Option, none, some}
 use Prim.Native.Nat.{ℕ, suc, ◌≤◌, ◌<◌}
 use native.Mathlib.Omega.{arith}
 use native.Mathlib.Decide.{ℕ_discrete, dec_lt, dec_le}
@@ -38,12 +38,12 @@ pub record Gap (key : ℕ) (row : List Node) : Type 0 where
   pub below : All (λ y. y.key < key) pre
   pub above : All (λ y. key < y.key) post
 
-pub gap : (key low : ℕ) (row : List Node) → Asc low row → node_at key row ≡ none → Gap key row
+pub gap : (key low : ℕ) (row : List Node) → Asc low row → node_at key row ≡ None → Gap key row
 unfolding node_at
 gap key low [] a e = record { pre = []; post = []; splits = refl; below = tt; above = tt }
 gap key low (y ∷ row) a e = at (dec_lt key y.key) (ℕ_discrete y.key key) e (gap key y.key row a.1)
   where
-    at : Dec (key < y.key) → Dec (y.key ≡ key) → cond (eqb y.key key) (some y) (node_at key row) ≡ none → (node_at key row ≡ none → Gap key row) →
+    at : Dec (key < y.key) → Dec (y.key ≡ key) → cond (eqb y.key key) (Some y) (node_at key row) ≡ None → (node_at key row ≡ None → Gap key row) →
         Gap key (y ∷ row)
     at (yes h) eq q ih = record {
       pre = [];
@@ -52,7 +52,7 @@ gap key low (y ∷ row) a e = at (dec_lt key y.key) (ℕ_discrete y.key key) e (
       below = tt;
       above = (h, all_map (λ z l. omega arith) row (asc_above y.key row a.1));
     }
-    at (no h) (yes eq) q ih = absurd (let r : ◌≡◌ {A = Option Node} (some y) none = rw (eq-eqb y.key key eq) at q in
+    at (no h) (yes eq) q ih = absurd (let r : ◌≡◌ {A = Option Node} (Some y) None = rw (eq-eqb y.key key eq) at q in
         let z : ◌≡◌ {A = ℕ} 0 1 = cc in omega arith)
     at (no h) (no ne) q ih =
         let g = ih (rw (ne_eqb y.key key ne) at q) in

@@ -2,9 +2,9 @@
 -- the smaller key share as much with one as with the other, as far as it matters. From a cell's dimension on, its path's words are the
 -- cell itself: every cell before it shares less. And link d of path word d leads to the next cell if d is that one's dimension, and
 -- nowhere if d is larger: all up to there share more than d with that word's cell.
+use Rattle.std.specs.Prelude.{Some}
 use mathlib.Core.Path.{◌≡◌, refl, sym, ap, ◌∙◌, subst}
 use mathlib.Core.List.{List, [], ◌∷◌, ◌++◌, append-nil}
-use mathlib.Core.Option.{some}
 use Prim.Native.Nat.{ℕ, suc, ◌+◌, ◌-◌, ◌≤◌, ◌<◌, min}
 use native.Mathlib.Nat.{zero-add}
 use native.Mathlib.Decide.{dec_lt}
@@ -160,7 +160,7 @@ module _ (b D : ℕ) (pos : 0 < b) (pre : List Node) where
 -- Word d of a key's path is a cell of dimension at most d, whose settled link d leads to c.
 pub record PathLink (b D : ℕ) (row : List Node) (key d c : ℕ) : Type 0 where
   pub place : Place
-  pub found : place_of (get_or (path_for b D row key) d 0) (places b D row) ≡ some place
+  pub found : place_of (get_or (path_for b D row key) d 0) (places b D row) ≡ Some place
   pub dimension : place.dimension ≤ d
   pub leads : settled_link b D place d ≡ c
 

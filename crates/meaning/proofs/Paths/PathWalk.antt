@@ -1,9 +1,9 @@
 -- The path that the walk for k builds is the path of the cell where it comes to rest; so, for a standing key, the key's own path. The walk
 -- goes from a cell x to a cell y by link d of x: d is y's dimension and what x and y share, so y's path is x's below d, and y from d on.
+use Rattle.std.specs.Prelude.{None}
 use mathlib.Core.Path.{◌≡◌, sym, ap, ◌∙◌}
 use mathlib.Core.Logic.{◌⊎◌, inl, inr}
 use mathlib.Core.List.{List, [], ◌∷◌}
-use mathlib.Core.Option.{none}
 use Prim.Native.Nat.{ℕ, suc, ◌≤◌, ◌<◌}
 use native.Mathlib.Decide.{ℕ_discrete}
 use native.Mathlib.Omega.{arith}
@@ -83,7 +83,7 @@ module _ {s : State} (v : Sound s) where
   path_rests (reaches h e) r here = ap (path_for s.settings.base s.settings.dimensions s.row) (sym (place_key v here))
 
 -- for a standing key the walk rests at the cell with the key
-rest_at_key : (s : State) → Sound s → (k : ℕ) → 1 ≤ k → k ≤ s.settings.largest → (node_at k s.row ≡ none → ⊥) →
+rest_at_key : (s : State) → Sound s → (k : ℕ) → 1 ≤ k → k ≤ s.settings.largest → (node_at k s.row ≡ None → ⊥) →
     key_at (picture s) (rest (picture s) k).at ≡ k
 rest_at_key s v k least most stands = at (rests s v k least most)
   where

@@ -1,8 +1,8 @@
 -- Where each word of a picture stands: header, path, and the words of each cell, as equal blocks; and which cells it shows standing.
+use Rattle.std.specs.Prelude.{Option, None, Some}
 use mathlib.Core.Path.{◌≡◌, refl, sym, ap, ◌∙◌, subst}
 use mathlib.Core.Bool.{cond}
 use mathlib.Core.List.{List, [], ◌∷◌, map}
-use mathlib.Core.Option.{Option, none, some}
 use Prim.Native.Nat.{ℕ, zero, suc, ◌+◌, ◌*◌, ◌<◌, ◌-◌}
 use native.Mathlib.Nat.{zero-add}
 use native.Mathlib.Decide.{ℕ_discrete}
@@ -30,8 +30,8 @@ use Rattle.meaning.proofs.Pictures.StateCells.{cells_distinct}
 
 pub words_of_length : (b D c : ℕ) (free : List ℕ) (x : Option Place) → length (words_of b D free c x) ≡ cell_words D
 unfolding standing_words free_words words_of
-words_of_length b D c free none = omega (arith, length-replicate {A = ℕ} (cell_words D - 1) 0)
-words_of_length b D c free (some x) =
+words_of_length b D c free None = omega (arith, length-replicate {A = ℕ} (cell_words D - 1) 0)
+words_of_length b D c free (Some x) =
     omega (
       arith,
       length-append (coordinates b D x.node.key) (map (link b D x) (numbers_from 0 D)),
@@ -121,7 +121,7 @@ free_words-rest D next (suc j) h l = get_or-replicate {A = ℕ} (cell_words D - 
 
 -- Which cells stand
 
-pub place_here : (c : ℕ) (p : Place) (ps : List Place) → p.node.cell ≡ c → place_of c (p ∷ ps) ≡ some p
+pub place_here : (c : ℕ) (p : Place) (ps : List Place) → p.node.cell ≡ c → place_of c (p ∷ ps) ≡ Some p
 unfolding place_of
 place_here c p ps e = rw (eq-eqb p.node.cell c e) refl
 
@@ -129,26 +129,26 @@ pub place_past : (c : ℕ) (p : Place) (ps : List Place) → (p.node.cell ≡ c 
 unfolding place_of
 place_past c p ps ne = rw (ne_eqb p.node.cell c ne) refl
 
-pub place_none : (c : ℕ) (ps : List Place) → All (λ p. p.node.cell ≡ c → ⊥) ps → place_of c ps ≡ none
+pub place_none : (c : ℕ) (ps : List Place) → All (λ p. p.node.cell ≡ c → ⊥) ps → place_of c ps ≡ None
 unfolding place_of
 place_none c [] a = refl
 place_none c (p ∷ ps) a = place_past c p ps a.0 ∙ place_none c ps a.1
 
 -- what is known of a place that was found
 abbrev pub Told : (Place → Type 0) → ℕ → Option Place → Type 0
-Told P c none = Unit {0}
-Told P c (some x) = (x.node.cell ≡ c) × P x
+Told P c None = Unit {0}
+Told P c (Some x) = (x.node.cell ≡ c) × P x
 
 pub told : (P : Place → Type 0) (c : ℕ) (ps : List Place) → All P ps → Told P c (place_of c ps)
 unfolding place_of
 told P c [] a = tt
 told P c (p ∷ ps) a = at (ℕ_discrete p.node.cell c) (told P c ps a.1)
   where
-    at : Dec (p.node.cell ≡ c) → Told P c (place_of c ps) → Told P c (cond (eqb p.node.cell c) (some p) (place_of c ps))
+    at : Dec (p.node.cell ≡ c) → Told P c (place_of c ps) → Told P c (cond (eqb p.node.cell c) (Some p) (place_of c ps))
     at (yes e) more = rw (eq-eqb p.node.cell c e) (e, a.0)
     at (no ne) more = rw (ne_eqb p.node.cell c ne) more
 
-places_distinct : (ps : List Place) → Distinct (map (λ p. p.node.cell) ps) → All (λ p. place_of p.node.cell ps ≡ some p) ps
+places_distinct : (ps : List Place) → Distinct (map (λ p. p.node.cell) ps) → All (λ p. place_of p.node.cell ps ≡ Some p) ps
 places_distinct [] d = tt
 places_distinct (p ∷ ps) d = (
   place_here p.node.cell p ps refl,
@@ -182,7 +182,7 @@ unfolding places
 places_later P b D row h = (h, later_after P b D head_node 0 row h)
 
 -- each standing cell is found at its place, and a free cell is no standing one
-pub place_found : (s : State) → Sound s → All (λ p. place_of p.node.cell (places s.settings.base s.settings.dimensions s.row) ≡ some p)
+pub place_found : (s : State) → Sound s → All (λ p. place_of p.node.cell (places s.settings.base s.settings.dimensions s.row) ≡ Some p)
     (places s.settings.base s.settings.dimensions s.row)
 place_found s v =
     let b = s.settings.base in
@@ -190,7 +190,7 @@ place_found s v =
     places_distinct (places b D s.row)
     (subst Distinct (sym (places_cells b D s.row)) (distinct_left (0 ∷ map (λ x. x.cell) s.row) s.free (cells_distinct s v)))
 
-pub free_found : (s : State) → Sound s → All (λ c. place_of c (places s.settings.base s.settings.dimensions s.row) ≡ none) s.free
+pub free_found : (s : State) → Sound s → All (λ c. place_of c (places s.settings.base s.settings.dimensions s.row) ≡ None) s.free
 free_found s v =
     let ps = places s.settings.base s.settings.dimensions s.row in
     all_map (λ c apart.

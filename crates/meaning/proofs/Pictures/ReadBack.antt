@@ -2,10 +2,10 @@
 -- blocks are cut out as they were put in; put one by one into a row, the standing cells numbered i and more are those of the row; the
 -- free cells are distinct, so each leads to the next; the last word of the path is the position, since only equal keys share all
 -- coordinates.
+use Rattle.std.specs.Prelude.{Option, None, Some}
 use mathlib.Core.Path.{◌≡◌, refl, sym, ap, ◌∙◌, subst}
 use mathlib.Core.Bool.{Bool, true, false, cond, ◌&&◌, not, false≢true}
 use mathlib.Core.List.{List, [], ◌∷◌, map}
-use mathlib.Core.Option.{Option, none, some}
 use Prim.Native.Nat.{ℕ, zero, suc, ◌+◌, ◌-◌, ◌≤◌, ◌<◌}
 use native.Mathlib.Nat.{zero-add}
 use native.Mathlib.Decide.{ℕ_discrete, dec_le}
@@ -76,8 +76,8 @@ from i x = leb i x.cell
 
 -- the node found at i put to those numbered more than i gives those numbered i and more
 abbrev Cut : ℕ → ℕ → List Node → Option Place → Type 0
-Cut low i row none = those (from i) row ≡ those (from (suc i)) row
-Cut low i row (some p) = (low < p.node.key) × (those (from i) row ≡ put p.node (those (from (suc i)) row))
+Cut low i row None = those (from i) row ≡ those (from (suc i)) row
+Cut low i row (Some p) = (low < p.node.key) × (those (from i) row ≡ put p.node (those (from (suc i)) row))
 
 from_other : (i c : ℕ) → (c ≡ i → ⊥) → leb i c ≡ leb (suc i) c
 from_other i c ne = at (dec_le i c)
@@ -98,8 +98,8 @@ cut_here i x row e above others =
 cut_past : (low i : ℕ) (x : Node) (row : List Node) → low < x.key → (x.cell ≡ i → ⊥) →
     (o : Option Place) → Cut x.key i row o → Cut low i (x ∷ row) o
 unfolding those
-cut_past low i x row h ne none more = rw (from_other i x.cell ne, more) refl
-cut_past low i x row h ne (some p) more =
+cut_past low i x row h ne None more = rw (from_other i x.cell ne, more) refl
+cut_past low i x row h ne (Some p) more =
     (let k = more.0 in omega arith, rw (from_other i x.cell ne, more.1) (at (leb (suc i) x.cell)))
   where
     rest : List Node
@@ -121,7 +121,7 @@ cut b D a e i (x ∷ row) asc d = at (ℕ_discrete x.cell i) (cut b D x (shared 
     here : Place
     here = record { node = x; dimension = shared b D a.key x.key; before = a; before_dimension = e; later = row }
 
-    at : Dec (x.cell ≡ i) → Cut x.key i row (place_of i later) → Cut a.key i (x ∷ row) (cond (eqb x.cell i) (some here) (place_of i later))
+    at : Dec (x.cell ≡ i) → Cut x.key i row (place_of i later) → Cut a.key i (x ∷ row) (cond (eqb x.cell i) (Some here) (place_of i later))
     at (yes q) more =
         rw (eq-eqb x.cell i q)
         (asc.0, cut_here i x row q (asc_above x.key row asc.1) (all_of_map (λ c. x.cell ≡ c → ⊥) (λ y. y.cell) row d.0))
@@ -141,8 +141,8 @@ standing_read : (b D : ℕ) (free : List ℕ) (i : ℕ) (row : List Node) (cells
     Told (λ p. not (eqb (owed p) 0) ≡ p.node.owes) i o → Cut 0 i row o → standing (suc i) cells ≡ those (from (suc i)) row →
     standing i (words_of b D free i o ∷ cells) ≡ those (from i) row
 unfolding standing words_of standing_words
-standing_read b D free i row cells none t c more = rw (free_words-rest D (next_free i free) 2 (omega arith) (omega arith)) (more ∙ sym c)
-standing_read b D free i row cells (some p) t c more =
+standing_read b D free i row cells None t c more = rw (free_words-rest D (next_free i free) 2 (omega arith) (omega arith)) (more ∙ sym c)
+standing_read b D free i row cells (Some p) t c more =
     rw (mark_stands p.node.live)
     (ap (λ x. put x (standing (suc i) cells)) (node_read b D i p t.0 t.1)
     ∙ ap (put p.node) more
@@ -191,7 +191,7 @@ unfolding next_free
 distinct_follow [] d = tt
 distinct_follow (x ∷ free) d = (rw (eq-eqb x x refl) refl, follow_past x free free d.0 (distinct_follow free d.1))
 
-pub free_word : (s : State) (c : ℕ) → c < s.settings.cells → place_of c (places s.settings.base s.settings.dimensions s.row) ≡ none →
+pub free_word : (s : State) (c : ℕ) → c < s.settings.cells → place_of c (places s.settings.base s.settings.dimensions s.row) ≡ None →
     get_or (get_or (cell_blocks (picture s)) c []) 0 0 ≡ next_free c s.free
 unfolding words_of free_words
 free_word s c h e =
@@ -208,7 +208,7 @@ chain_more fuel cells c ne = rw (ne_eqb c 0 ne, chain) refl
 
 chain_read : (s : State) (fuel : ℕ) (cs : List ℕ) → length cs ≤ fuel → Follow s.free cs →
     All (λ c. (0 < c) × (c < s.settings.cells)) cs →
-    All (λ c. place_of c (places s.settings.base s.settings.dimensions s.row) ≡ none) cs →
+    All (λ c. place_of c (places s.settings.base s.settings.dimensions s.row) ≡ None) cs →
     chain fuel (cell_blocks (picture s)) (first_number cs) ≡ cs
 unfolding chain
 chain_read s zero [] h f range free = refl

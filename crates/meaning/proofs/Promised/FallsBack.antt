@@ -1,9 +1,9 @@
 -- What an insert at or below the position leaves. The position is the node before the inserted one, so that the inserted one is the first live node
 -- and the only one that a take passes.
+use Rattle.std.specs.Prelude.{None, Some}
 use mathlib.Core.Path.{◌≡◌, refl, sym, ap, ap₂, ◌∙◌, subst, subst₂}
 use mathlib.Core.Bool.{Bool, true, false, cond, ◌&&◌, and-false, true≢false}
 use mathlib.Core.List.{List, [], ◌∷◌, ◌++◌, map, map-append}
-use mathlib.Core.Option.{none, some}
 use Prim.Native.Nat.{ℕ, suc, ◌≤◌, ◌<◌}
 use native.Mathlib.Omega.{arith}
 use lib.Dec.{leb, ltb}
@@ -15,7 +15,8 @@ use Rattle.lists.proofs.All.{All, all_map, all_append, all_left, all_zip, all_at
 use Rattle.meaning.specs.Row.{Node, head_node, node_at}
 use Rattle.meaning.specs.State.{State, key_of, position_key}
 use Rattle.meaning.specs.Picture.{picture}
-use Rattle.answers.specs.Refusals.{Outcome, answer, refused, bad_key, key_live}
+use Rattle.answers.specs.Refusals.{Outcome, answer, refused}
+use Rattle.answers.specs.declared.Refusal.TheVariants.{BadKey, KeyLive}
 use Rattle.meaning.specs.Words.{key_at, position_at}
 use Rattle.meaning.specs.Operations.{looked, insert_out, from_live, parent_in, keys_passed, revived, revived_node, slot_for, slot_owes, new_node, finished, added}
 use Rattle.meaning.specs.Promises.{FellBack, LateInserts}
@@ -138,19 +139,19 @@ module _ (t : State) (v : Sound t) (pre : List Node) (x : Node) (post : List Nod
             ∙ ap (answer 0 x.key x.value) passes_one;
         parent = λ y e k.
             subst
-            (λ u. node_at x.key u.row ≡ some y →
+            (λ u. node_at x.key u.row ≡ Some y →
             (key_of (parent_in u y.cell u.row) (head_node ∷ u.row) ≤ position_key u) ×
             (keys_passed (position_key u) k u.row ≤ keys_passed (key_of (parent_in u y.cell u.row) (head_node ∷ u.row)) k u.row))
             (sym (read_of_picture t v)) (own y k) e;
       }
     where
-      own : (y : Node) (k : ℕ) → node_at x.key t.row ≡ some y →
+      own : (y : Node) (k : ℕ) → node_at x.key t.row ≡ Some y →
           (key_of (parent_in t y.cell t.row) (head_node ∷ t.row) ≤ position_key t) ×
           (keys_passed (position_key t) k t.row ≤ keys_passed (key_of (parent_in t y.cell t.row) (head_node ∷ t.row)) k t.row)
       own y k e =
-          let found = all_at (λ z. node_at z.key t.row ≡ some z) pre x post (subst (All (λ z. node_at z.key t.row ≡ some z)) split
+          let found = all_at (λ z. node_at z.key t.row ≡ Some z) pre x post (subst (All (λ z. node_at z.key t.row ≡ Some z)) split
           (node_found 0 t.row v.ascends)) in
-          let same : some x ≡ some y = sym found ∙ e in
+          let same : Some x ≡ Some y = sym found ∙ e in
           let is : x ≡ y = cc in
           subst
           (λ z. (key_of (parent_in t z.cell t.row) (head_node ∷ t.row) ≤ position_key t) ×
@@ -159,7 +160,7 @@ module _ (t : State) (v : Sound t) (pre : List Node) (x : Node) (post : List Nod
 
 -- A dead key that is revived, and a new one
 
-revived_back : (s : State) (x : Node) (value : ℕ) → Sound s → node_at x.key s.row ≡ some x → x.live ≡ false → x.key ≤ position_key s →
+revived_back : (s : State) (x : Node) (value : ℕ) → Sound s → node_at x.key s.row ≡ Some x → x.live ≡ false → x.key ≤ position_key s →
     FellBack (picture (revived s x value)) x.key value
 unfolding revived
 revived_back s x value v a dead low =
@@ -170,7 +171,7 @@ revived_back s x value v a dead low =
     (fell_back (revived s x value) (revived_sound s x value v a dead) (map revive pre) (revive x) (map revive post)
     (ap (map revive) split ∙ map-append revive pre (x ∷ post)) (ap (λ y. y.live) own) (revived_position s x value v pre post split low))
 
-added_back : (s : State) → Sound s → (key value : ℕ) → 1 ≤ key → key ≤ s.settings.largest → node_at key s.row ≡ none → 0 < length s.free →
+added_back : (s : State) → Sound s → (key value : ℕ) → 1 ≤ key → key ≤ s.settings.largest → node_at key s.row ≡ None → 0 < length s.free →
     key ≤ position_key s → FellBack (picture (added s key value (slot_for s key))) key value
 added_back s v key value least most absent room low =
     let g = gap key 0 s.row v.ascends absent in
@@ -191,7 +192,7 @@ late_inserts =
     back s v key value z low =
         let down : key ≤ position_key s = omega (arith, position_key_is v) in
         key_cases s key
-        (λ n. absurd (refused_not (insert_out (picture s) key value) (refused bad_key (picture s)) 3 (insert_outcome_bad_key s v key value n) refl z))
+        (λ n. absurd (refused_not (insert_out (picture s) key value) (refused BadKey (picture s)) 3 (insert_outcome_bad_key s v key value n) refl z))
         (λ h l a.
         let (least, most, room) = new_accepted s v key value a z in
         subst (λ us. FellBack us key value) (ap (λ (o : Outcome (List ℕ)). o.left) (sym (insert_outcome_new s v key value h l a room)))
@@ -199,8 +200,8 @@ late_inserts =
         (λ h l x a.
         let same = node_key key x s.row a in
         live_cases x
-        (λ q. absurd (refused_not (insert_out (picture s) key value) (refused (key_live key (looked s key)) (picture s)) 4
+        (λ q. absurd (refused_not (insert_out (picture s) key value) (refused (KeyLive key (looked s key)) (picture s)) 4
         (insert_outcome_live s v key value h l x a q) refl z))
         (λ q.
         subst₂ (λ us k. FellBack us k value) (ap (λ (o : Outcome (List ℕ)). o.left) (sym (insert_outcome_dead s v key value h l x a q))) same
-        (revived_back s x value v (subst (λ k. node_at k s.row ≡ some x) (sym same) a) q (omega arith))))
+        (revived_back s x value v (subst (λ k. node_at k s.row ≡ Some x) (sym same) a) q (omega arith))))

@@ -1,9 +1,9 @@
 -- Present means that same key: on the words of a list a key is live exactly if the node with that key is, for a cell with mark 1 stands and
 -- is not the head, and no two nodes have the same key. Insert and find answer by that node.
+use Rattle.std.specs.Prelude.{Option, None, Some}
 use mathlib.Core.Path.{◌≡◌, refl, sym, ◌∙◌, ap, subst}
 use mathlib.Core.Bool.{Bool, true, false, false≢true}
 use mathlib.Core.Logic.{◌↔◌}
-use mathlib.Core.Option.{Option, none, some}
 use Prim.Native.Nat.{ℕ, ◌≤◌, ◌<◌}
 use native.Mathlib.Decide.{ℕ_discrete}
 use native.Mathlib.Omega.{arith}
@@ -29,7 +29,7 @@ use Rattle.meaning.proofs.Rows.Nodes.{is_live, node_key, node_has}
 
 -- the node of a place is the one with its key, if it is live
 abbrev Named : State → Node → Type 0
-Named s x = x.live ≡ true → node_at x.key s.row ≡ some x
+Named s x = x.live ≡ true → node_at x.key s.row ≡ Some x
 
 places_named : (s : State) → Sound s → All (λ p. Named s p.node) (places s.settings.base s.settings.dimensions s.row)
 places_named s v =
@@ -37,7 +37,7 @@ places_named s v =
     (all_map (λ x found e. found) s.row (node_found 0 s.row v.ascends))
 
 module _ (s : State) (v : Sound s) (key : ℕ) where
-  live_shown : (x : Node) → node_at key s.row ≡ some x → x.live ≡ true → Live (picture s) key
+  live_shown : (x : Node) → node_at key s.row ≡ Some x → x.live ≡ true → Live (picture s) key
   live_shown x e live =
       record {
         cell = x.cell;
@@ -66,18 +66,18 @@ module _ (s : State) (v : Sound s) (key : ℕ) where
       at : (o : Option Place) → key_at (picture s) l.cell ≡ get_or (words_of b D s.free l.cell o) 0 0 →
           mark_at (picture s) l.cell ≡ get_or (words_of b D s.free l.cell o) 2 0 → Told (λ p. Named s p.node) l.cell o →
           is_live (node_at key s.row) ≡ true
-      at none k m t =
+      at None k m t =
           absurd (let zero = m ∙ free_words-rest D (next_free l.cell s.free) 2 (omega arith) (omega arith) in let one = l.mark in omega arith)
-      at (some p) k m t =
+      at (Some p) k m t =
           let live = mark_one p.node.live (sym m ∙ l.mark) in
-          ap is_live (subst (λ n. node_at n s.row ≡ some p.node) (sym k ∙ l.same) (t.1 live)) ∙ live
+          ap is_live (subst (λ n. node_at n s.row ≡ Some p.node) (sym k ∙ l.same) (t.1 live)) ∙ live
 
   pub live_on_words : (is_live (node_at key s.row) ≡ true) ↔ Live (picture s) key
   live_on_words = (at (node_at key s.row) refl, shown_live)
     where
       at : (o : Option Node) → node_at key s.row ≡ o → is_live o ≡ true → Live (picture s) key
-      at none e q = absurd (false≢true q)
-      at (some x) e q = live_shown x e q
+      at None e q = absurd (false≢true q)
+      at (Some x) e q = live_shown x e q
 
   module _ (l : 1 ≤ key) (h : key ≤ s.settings.largest) where
     insert_tells : (value : ℕ) → ((insert_out (picture s) key value).answered.refusal ≡ 5) ↔ (is_live (node_at key s.row) ≡ true)
@@ -86,11 +86,11 @@ module _ (s : State) (v : Sound s) (key : ℕ) where
         refusal : ℕ
         refusal = (insert_out (picture s) key value).answered.refusal
 
-        absent : node_at key s.row ≡ none → Dec (length s.free ≡ 0) → refusal ≡ 5 → ⊥
+        absent : node_at key s.row ≡ None → Dec (length s.free ≡ 0) → refusal ≡ 5 → ⊥
         absent e (yes full) q = let r = ap (λ o. o.answered.refusal) (insert_outcome_full s v key value l h e full) in omega arith
         absent e (no space) q = let r = ap (λ o. o.answered.refusal) (insert_outcome_new s v key value l h e (omega arith)) in omega arith
 
-        standing : (x : Node) → node_at key s.row ≡ some x → (t : Bool) → x.live ≡ t → (refusal ≡ 5) ↔ (t ≡ true)
+        standing : (x : Node) → node_at key s.row ≡ Some x → (t : Bool) → x.live ≡ t → (refusal ≡ 5) ↔ (t ≡ true)
         standing x e true live = ((λ q. refl), (λ q. ap (λ o. o.answered.refusal) (insert_outcome_live s v key value l h x e live)))
         standing x e false dead = (
           (λ q. absurd (let r = ap (λ o. o.answered.refusal) (insert_outcome_dead s v key value l h x e dead) in omega arith)),
@@ -98,8 +98,8 @@ module _ (s : State) (v : Sound s) (key : ℕ) where
         )
 
         at : (o : Option Node) → node_at key s.row ≡ o → (refusal ≡ 5) ↔ (is_live o ≡ true)
-        at none e = ((λ q. absurd (absent e (ℕ_discrete (length s.free) 0) q)), (λ q. absurd (false≢true q)))
-        at (some x) e = standing x e x.live refl
+        at None e = ((λ q. absurd (absent e (ℕ_discrete (length s.free) 0) q)), (λ q. absurd (false≢true q)))
+        at (Some x) e = standing x e x.live refl
 
     find_tells : ((find_out (picture s) key).answered.refusal ≡ 0) ↔ (is_live (node_at key s.row) ≡ true)
     find_tells = at (node_at key s.row) refl
@@ -107,7 +107,7 @@ module _ (s : State) (v : Sound s) (key : ℕ) where
         refusal : ℕ
         refusal = (find_out (picture s) key).answered.refusal
 
-        standing : (x : Node) → node_at key s.row ≡ some x → (t : Bool) → x.live ≡ t → (refusal ≡ 0) ↔ (t ≡ true)
+        standing : (x : Node) → node_at key s.row ≡ Some x → (t : Bool) → x.live ≡ t → (refusal ≡ 0) ↔ (t ≡ true)
         standing x e true live = ((λ q. refl), (λ q. ap (λ o. o.answered.refusal) (find_outcome_live s v key l h x e live)))
         standing x e false dead = (
           (λ q. absurd (let r = ap (λ o. o.answered.refusal) (find_outcome_dead s v key l h x e dead) in omega arith)),
@@ -115,11 +115,11 @@ module _ (s : State) (v : Sound s) (key : ℕ) where
         )
 
         at : (o : Option Node) → node_at key s.row ≡ o → (refusal ≡ 0) ↔ (is_live o ≡ true)
-        at none e = (
+        at None e = (
           (λ q. absurd (let r = ap (λ o. o.answered.refusal) (find_outcome_absent s v key l h e) in omega arith)),
           (λ q. absurd (false≢true q)),
         )
-        at (some x) e = standing x e x.live refl
+        at (Some x) e = standing x e x.live refl
 
 -- On lists
 

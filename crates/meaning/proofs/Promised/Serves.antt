@@ -1,7 +1,7 @@
 -- A cell freed by a sweep serves again: cells are counted, a sweep puts the freed ones first, and an insert uses the first.
+use Rattle.std.specs.Prelude.{None, Some}
 use mathlib.Core.Path.{◌≡◌, refl, ◌∙◌, sym, ap, subst}
 use mathlib.Core.List.{List, map, reverse_aux}
-use mathlib.Core.Option.{none, some}
 use Prim.Native.Nat.{ℕ, suc, ◌+◌, ◌≤◌, ◌<◌}
 use native.Mathlib.Omega.{arith}
 use lib.ListN.{length, drop}
@@ -12,7 +12,8 @@ use Rattle.meaning.specs.Row.{Node, node_at}
 use Rattle.meaning.specs.State.{State}
 use Rattle.meaning.specs.Picture.{picture}
 use Rattle.meaning.specs.Reading.{read}
-use Rattle.answers.specs.Refusals.{Outcome, refused, bad_key, no_free_cell}
+use Rattle.answers.specs.Refusals.{Outcome, refused}
+use Rattle.answers.specs.declared.Refusal.TheVariants.{BadKey, NoFreeCell}
 use Rattle.meaning.specs.Operations.{sweep_out, insert_out, swept, freed_by, added, slot_for, slot_owes, new_node, finished, looked}
 use Rattle.meaning.specs.Promises.{EachCellOnce, SweptCellsFirst, UsesFirst, InsertUsesFirst}
 use Rattle.meaning.specs.Words.{cells_at}
@@ -44,8 +45,8 @@ swept_cells_first =
     (λ s v. ap (λ (o : Outcome (List ℕ)). (read o.left).free) (sweep_outcome s v) ∙ ap (λ (t : State). t.free) (read_of_picture (swept s) (swept_sound s v)))
 
 -- the new cell of an insert
-new_uses_first : (s : State) → Sound s → (key value : ℕ) → 1 ≤ key → key ≤ s.settings.largest → node_at key s.row ≡ none → 0 < length s.free →
-    (e : Node) × (node_at key (added s key value (slot_for s key)).row ≡ some e) × (e.cell ≡ first_number s.free)
+new_uses_first : (s : State) → Sound s → (key value : ℕ) → 1 ≤ key → key ≤ s.settings.largest → node_at key s.row ≡ None → 0 < length s.free →
+    (e : Node) × (node_at key (added s key value (slot_for s key)).row ≡ Some e) × (e.cell ≡ first_number s.free)
 new_uses_first s v key value h l a f =
     let g = gap key 0 s.row v.ascends a in
     let t = slot_for s key in
@@ -53,9 +54,9 @@ new_uses_first s v key value h l a f =
     let e = new_node t.n key value (slot_owes t) in
     let sound = added_sound s key value v h l a f in
     let found =
-    all_at (λ x. node_at x.key (added s key value t).row ≡ some x) (finished t.c (finished t.parent g.pre)) e
+    all_at (λ x. node_at x.key (added s key value t).row ≡ Some x) (finished t.c (finished t.parent g.pre)) e
     (finished t.c (finished t.parent g.post))
-    (subst (All (λ x. node_at x.key (added s key value t).row ≡ some x)) (added_row s v key value h g f t i)
+    (subst (All (λ x. node_at x.key (added s key value t).row ≡ Some x)) (added_row s v key value h g f t i)
     (node_found 0 (added s key value t).row sound.ascends)) in
     (e, found, i.n_is)
 
@@ -64,19 +65,19 @@ pub refused_not : (o p : Outcome (List ℕ)) (n : ℕ) → o ≡ p → p.answere
 refused_not o p n e q z = let t = ap (λ (w : Outcome (List ℕ)). w.answered.refusal) e in omega arith
 
 -- an accepted insert of a key that does not stand has a key in range and a free cell
-pub new_accepted : (s : State) → Sound s → (key value : ℕ) → node_at key s.row ≡ none → (insert_out (picture s) key value).answered.refusal ≡ 0 →
+pub new_accepted : (s : State) → Sound s → (key value : ℕ) → node_at key s.row ≡ None → (insert_out (picture s) key value).answered.refusal ≡ 0 →
     (1 ≤ key) × (key ≤ s.settings.largest) × (0 < length s.free)
 new_accepted s v key value a z =
     key_cases s key
-    (λ n. absurd (refused_not (insert_out (picture s) key value) (refused bad_key (picture s)) 3 (insert_outcome_bad_key s v key value n) refl z))
+    (λ n. absurd (refused_not (insert_out (picture s) key value) (refused BadKey (picture s)) 3 (insert_outcome_bad_key s v key value n) refl z))
     (λ h l b.
     free_cases s
-    (λ f. absurd (refused_not (insert_out (picture s) key value) (refused (no_free_cell key (looked s key)) (picture s)) 5
+    (λ f. absurd (refused_not (insert_out (picture s) key value) (refused (NoFreeCell key (looked s key)) (picture s)) 5
     (insert_outcome_full s v key value h l b f) refl z))
     (λ f. (h, l, f)))
     (λ h l x b. absurd (let q : ◌≡◌ {A = ℕ} 0 1 = cc in omega arith))
 
-made_uses_first : (s : State) → Sound s → (key value : ℕ) → 1 ≤ key → key ≤ s.settings.largest → node_at key s.row ≡ none → 0 < length s.free →
+made_uses_first : (s : State) → Sound s → (key value : ℕ) → 1 ≤ key → key ≤ s.settings.largest → node_at key s.row ≡ None → 0 < length s.free →
     UsesFirst (picture s) (insert_out (picture s) key value).left key
 unfolding added
 made_uses_first s v key value h l a f =
@@ -91,12 +92,12 @@ made_uses_first s v key value h l a f =
       free = ap (λ (w : State). w.free) back ∙ ap (λ (w : State). drop 1 w.free) (sym (read_of_picture s v));
     }
 
-uses_first : (s : State) → Sound s → (key value : ℕ) → node_at key s.row ≡ none → (insert_out (picture s) key value).answered.refusal ≡ 0 →
+uses_first : (s : State) → Sound s → (key value : ℕ) → node_at key s.row ≡ None → (insert_out (picture s) key value).answered.refusal ≡ 0 →
     UsesFirst (picture s) (insert_out (picture s) key value).left key
 uses_first s v key value a z = let (h, l, f) = new_accepted s v key value a z in made_uses_first s v key value h l a f
 
 pub insert_uses_first : InsertUsesFirst
 insert_uses_first =
     on_read_lists
-    (λ s ws. (key value : ℕ) → node_at key s.row ≡ none → (insert_out ws key value).answered.refusal ≡ 0 → UsesFirst ws (insert_out ws key value).left key)
+    (λ s ws. (key value : ℕ) → node_at key s.row ≡ None → (insert_out ws key value).answered.refusal ≡ 0 → UsesFirst ws (insert_out ws key value).left key)
     uses_first

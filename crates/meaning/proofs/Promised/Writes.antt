@@ -1,8 +1,8 @@
 -- What a call leaves alone, carried from states to lists.
+use Rattle.std.specs.Prelude.{None, Some}
 use mathlib.Core.Path.{◌≡◌, refl, ◌∙◌, sym, ap, subst, subst₂}
 use mathlib.Core.Bool.{true, false, true≢false}
 use mathlib.Core.List.{List, [], ◌∷◌, map, map-append}
-use mathlib.Core.Option.{none, some}
 use Prim.Native.Nat.{ℕ, zero, suc, ◌≤◌, ◌<◌}
 use native.Mathlib.Decide.{ℕ_discrete, dec_lt}
 use native.Mathlib.Omega.{arith}
@@ -13,7 +13,8 @@ use Rattle.lists.proofs.All.{All, all_map, all_append, all_at}
 use Rattle.meaning.specs.Row.{Node, node_at, place_of}
 use Rattle.meaning.specs.State.{State, places_of}
 use Rattle.meaning.specs.Picture.{mark, picture, path}
-use Rattle.answers.specs.Refusals.{Outcome, refused, bad_key, key_live, nothing_live, key_not_standing}
+use Rattle.answers.specs.Refusals.{Outcome, refused}
+use Rattle.answers.specs.declared.Refusal.TheVariants.{BadKey, KeyLive, NothingLive, KeyNotStanding}
 use Rattle.meaning.specs.Words.{key_at, mark_at, position_at, word_at, dimensions_at}
 use Rattle.meaning.specs.Operations.{looked, insert_out, finish_out, take_out, sweep_out, dead_front, from_live, taken, revived, revived_node}
 use Rattle.meaning.specs.Operations.{slot_for, finished, with_row, links_moved, keys_above}
@@ -134,7 +135,7 @@ unfolding picture taken
 take_taken s v z = go (from_live s.row) refl
   where
     go : (row : List Node) → from_live s.row ≡ row → Taken (picture s) (take_out (picture s)).left (take_out (picture s)).answered.key
-    go [] e = absurd (refused_not (take_out (picture s)) (refused (nothing_live (keys_above _ s.row)) (picture s)) 6 (take_outcome_none s v e) refl z)
+    go [] e = absurd (refused_not (take_out (picture s)) (refused (NothingLive (keys_above _ s.row)) (picture s)) 6 (take_outcome_none s v e) refl z)
     go (x ∷ later) e =
         let o = take_outcome_first s v x later e in
         let here = at_live (HasPlace s) s.row x later e (row_placed v) in
@@ -156,7 +157,7 @@ take_writes =
     on_read_lists (λ s ws. (take_out ws).answered.refusal ≡ 0 → Taken ws (take_out ws).left (take_out ws).answered.key) take_taken
 
 -- the words of a revival
-revived_leaves : (s : State) (x : Node) (value : ℕ) → Sound s → node_at x.key s.row ≡ some x → x.live ≡ false →
+revived_leaves : (s : State) (x : Node) (value : ℕ) → Sound s → node_at x.key s.row ≡ Some x → x.live ≡ false →
     Revived (picture s) (picture (revived s x value)) x.key value
 unfolding picture revived
 revived_leaves s x value v a dead =
@@ -180,29 +181,29 @@ revived_leaves s x value v a dead =
           (split_next_smaller after sound (map revive pre) (revive x) (map revive post) (ap (map revive) split ∙ map-append revive pre (x ∷ post)));
     }
 
-revive_revived : (s : State) → Sound s → (key value : ℕ) → (node_at key s.row ≡ none → ⊥) → (insert_out (picture s) key value).answered.refusal ≡ 0 →
+revive_revived : (s : State) → Sound s → (key value : ℕ) → (node_at key s.row ≡ None → ⊥) → (insert_out (picture s) key value).answered.refusal ≡ 0 →
     Revived (picture s) (insert_out (picture s) key value).left key value
 revive_revived s v key value stands z =
     key_cases s key
-    (λ n. absurd (refused_not (insert_out (picture s) key value) (refused bad_key (picture s)) 3 (insert_outcome_bad_key s v key value n) refl z))
+    (λ n. absurd (refused_not (insert_out (picture s) key value) (refused BadKey (picture s)) 3 (insert_outcome_bad_key s v key value n) refl z))
     (λ h l a. absurd (stands a))
     (λ h l x a. live_cases x
-    (λ q. absurd (refused_not (insert_out (picture s) key value) (refused (key_live key (looked s key)) (picture s)) 4
+    (λ q. absurd (refused_not (insert_out (picture s) key value) (refused (KeyLive key (looked s key)) (picture s)) 4
     (insert_outcome_live s v key value h l x a q) refl z))
     (λ q.
     let k = node_key key x s.row a in
     let o = ap (λ (p : Outcome (List ℕ)). p.left) (insert_outcome_dead s v key value h l x a q) in
     subst₂ (λ (us : List ℕ) (m : ℕ). Revived (picture s) us m value) (sym o) k
-    (revived_leaves s x value v (subst (λ (m : ℕ). node_at m s.row ≡ some x) (sym k) a) q)))
+    (revived_leaves s x value v (subst (λ (m : ℕ). node_at m s.row ≡ Some x) (sym k) a) q)))
 
 pub revive_writes : ReviveWrites
 revive_writes =
     on_read_lists
-    (λ s ws. (key value : ℕ) → (node_at key s.row ≡ none → ⊥) → (insert_out ws key value).answered.refusal ≡ 0 →
+    (λ s ws. (key value : ℕ) → (node_at key s.row ≡ None → ⊥) → (insert_out ws key value).answered.refusal ≡ 0 →
     Revived ws (insert_out ws key value).left key value)
     revive_revived
 
-insert_inserted : (s : State) → Sound s → (key value : ℕ) → node_at key s.row ≡ none → (insert_out (picture s) key value).answered.refusal ≡ 0 →
+insert_inserted : (s : State) → Sound s → (key value : ℕ) → node_at key s.row ≡ None → (insert_out (picture s) key value).answered.refusal ≡ 0 →
     Inserted (picture s) (insert_out (picture s) key value).left key value (slot_for s key)
 insert_inserted s v key value a z =
     let (h, l, f) = new_accepted s v key value a z in
@@ -212,24 +213,24 @@ insert_inserted s v key value a z =
 pub insert_writes : InsertWrites
 insert_writes =
     on_read_lists
-    (λ s ws. (key value : ℕ) → node_at key s.row ≡ none → (insert_out ws key value).answered.refusal ≡ 0 →
+    (λ s ws. (key value : ℕ) → node_at key s.row ≡ None → (insert_out ws key value).answered.refusal ≡ 0 →
     Inserted ws (insert_out ws key value).left key value (slot_for s key))
     insert_inserted
 
 -- the cell of a standing key is one of the row's
-node_stands : (s : State) (key : ℕ) (x : Node) → node_at key s.row ≡ some x → 0 < occurrences x.cell (0 ∷ map (λ y. y.cell) s.row)
+node_stands : (s : State) (key : ℕ) (x : Node) → node_at key s.row ≡ Some x → 0 < occurrences x.cell (0 ∷ map (λ y. y.cell) s.row)
 node_stands s key x a = let t = node_split key x s.row a in cell_stands s t.0 x t.1 t.2
 
 finish_finishes : (s : State) → Sound s → (key : ℕ) → (finish_out (picture s) key).answered.refusal ≡ 0 →
     Finishes (picture s) (finish_out (picture s) key).left key (finish_out (picture s) key).answered.count
 finish_finishes s v key z =
     key_cases s key
-    (λ n. absurd (refused_not (finish_out (picture s) key) (refused bad_key (picture s)) 3 (finish_outcome_bad_key s v key n) refl z))
-    (λ h l a. absurd (refused_not (finish_out (picture s) key) (refused (key_not_standing key) (picture s)) 7 (finish_outcome_absent s v key h l a) refl z))
+    (λ n. absurd (refused_not (finish_out (picture s) key) (refused BadKey (picture s)) 3 (finish_outcome_bad_key s v key n) refl z))
+    (λ h l a. absurd (refused_not (finish_out (picture s) key) (refused (KeyNotStanding key) (picture s)) 7 (finish_outcome_absent s v key h l a) refl z))
     (λ h l x a. subst (λ (p : Outcome (List ℕ)). Finishes (picture s) p.left key p.answered.count)
     (sym (finish_outcome_standing s v key h l x a)) (done x a))
   where
-    done : (x : Node) → node_at key s.row ≡ some x → Finishes (picture s) (picture (with_row s (finished x.cell s.row))) key
+    done : (x : Node) → node_at key s.row ≡ Some x → Finishes (picture s) (picture (with_row s (finished x.cell s.row))) key
         (links_moved s (place_of x.cell (places_of s s.row)))
     done x a =
         let n = node_stands s key x a in

@@ -1,10 +1,10 @@
 -- The parent of a standing cell: of the head and the nodes up to the one before the cell, the first that shares more with that one
 -- than the cell does. All between it and the cell share more with it than the cell does, so its link of the cell's dimension leads to
 -- the cell. What comes before it shares too little, what comes after it has too large a dimension: no other link leads there.
+use Rattle.std.specs.Prelude.{Some}
 use mathlib.Core.Path.{◌≡◌, refl, ◌∙◌, sym, subst}
 use mathlib.Core.Bool.{cond}
 use mathlib.Core.List.{List, [], ◌∷◌, ◌++◌}
-use mathlib.Core.Option.{some}
 use Prim.Native.Nat.{ℕ, suc, ◌≤◌, ◌<◌}
 use native.Mathlib.Omega.{arith}
 use native.Mathlib.Decide.{ℕ_discrete, dec_lt, dec_le}
@@ -103,7 +103,7 @@ apart_at y (z ∷ pre) x post o = (λ e. (all_right (λ t. t.cell ≡ y.cell →
 -- the place of a standing cell
 pub place_at :
     (b D : ℕ) (w : Node) (f : ℕ) (y : Node) (e : ℕ) (pre : List Node) (x : Node) (post : List Node) → Without x.cell (y ∷ pre) →
-    place_of x.cell (places_from b D w f y e (pre ++ x ∷ post)) ≡ some
+    place_of x.cell (places_from b D w f y e (pre ++ x ∷ post)) ≡ Some
     (record {
       node = x;
       dimension = dimension_after b D y pre x.key;
@@ -447,7 +447,7 @@ module _ (b D : ℕ) (pos : 0 < b) (deep : 0 < D) where
   pub first_place :
       (d : ℕ) (w : Node) (f : ℕ) (y : Node) (e : ℕ) (pre later : List Node) → Asc y.key pre → Apart (y ∷ pre) → d < D →
       (d < shared b D y.key (last_from y pre).key → e ≤ d) →
-      (p : Place) × (place_of (first_with b D (last_from y pre).key (suc d) (y ∷ pre)) (places_from b D w f y e (pre ++ later)) ≡ some p)
+      (p : Place) × (place_of (first_with b D (last_from y pre).key (suc d) (y ∷ pre)) (places_from b D w f y e (pre ++ later)) ≡ Some p)
       × ParentPlace b D d (last_from y pre) later p
   unfolding place_of places_after last_from
   first_place d w f y e [] later a o h i =
@@ -468,7 +468,7 @@ module _ (b D : ℕ) (pos : 0 < b) (deep : 0 < D) where
       y_place = record { node = y; dimension = e; before = w; before_dimension = f; later = z ∷ (pre ++ later) }
 
       Stands : List Node → List Place → Type 0
-      Stands row standing = (p : Place) × (place_of (first_with b D A.key (suc d) row) standing ≡ some p) × ParentPlace b D d A later p
+      Stands row standing = (p : Place) × (place_of (first_with b D A.key (suc d) row) standing ≡ Some p) × ParentPlace b D d A later p
 
       at : Dec (d < shared b D y.key A.key) → ((d < shared b D z.key A.key → shared b D y.key z.key ≤ d) →
           Stands (z ∷ pre) (places_after b D y e y_place.later)) → Stands (y ∷ z ∷ pre) (y_place ∷ places_after b D y e y_place.later)
@@ -487,7 +487,7 @@ module _ (b D : ℕ) (pos : 0 < b) (deep : 0 < D) where
           let other : y.cell ≡ first_with b D A.key (suc d) (z ∷ pre) → ⊥ =
           first_among b D (λ c. y.cell ≡ c → ⊥) A.key (suc d) z pre q (λ r. o.0.0 (sym r)) (all_map (λ x n r. n (sym r)) pre o.0.1) in
           let m : shared b D y.key A.key < suc d = omega arith in
-          let Found : ℕ → Type 0 = λ c. place_of c (y_place ∷ places_after b D y e y_place.later) ≡ some t.0 in
+          let Found : ℕ → Type 0 = λ c. place_of c (y_place ∷ places_after b D y e y_place.later) ≡ Some t.0 in
           (t.0, subst Found (sym (first_skips b D A.key (suc d) y (z ∷ pre) m)) (rw (ne_eqb y.cell (first_with b D A.key (suc d) (z ∷ pre)) other) t.1), t.2)
 
   -- what a node shares with the last one is at most that one's dimension

@@ -1,10 +1,10 @@
 -- Laws of rows and of their places under append and map, by induction on the row: members, how often a number occurs, the node with a key,
 -- the key of a cell, ascending keys, and places. An operation that changes only values, marks and debts is a map, and keeps cells, keys and
 -- dimensions.
+use Rattle.std.specs.Prelude.{Some}
 use mathlib.Core.Path.{◌≡◌, refl, sym, ◌∙◌, ap, ap₂}
 use mathlib.Core.Bool.{Bool, true, false, cond}
 use mathlib.Core.List.{List, [], ◌∷◌, ◌++◌, map}
-use mathlib.Core.Option.{some}
 use Prim.Native.Nat.{ℕ, ◌<◌}
 use native.Mathlib.Decide.{ℕ_discrete}
 use native.Mathlib.Omega.{arith}
@@ -48,12 +48,12 @@ pub node_past : (key : ℕ) (x : Node) (row : List Node) → (x.key ≡ key → 
 unfolding node_at
 node_past key x row n = rw (ne_eqb x.key key n) refl
 
-node_here : (x : Node) (row : List Node) → node_at x.key (x ∷ row) ≡ some x
+node_here : (x : Node) (row : List Node) → node_at x.key (x ∷ row) ≡ Some x
 unfolding node_at
 node_here x row = rw (eq-eqb x.key x.key refl) refl
 
 -- each node of an ascending row is found by its key
-pub node_found : (key : ℕ) (row : List Node) → Asc key row → All (λ x. node_at x.key row ≡ some x) row
+pub node_found : (key : ℕ) (row : List Node) → Asc key row → All (λ x. node_at x.key row ≡ Some x) row
 node_found key [] asc = tt
 node_found key (x ∷ row) asc = (
   node_here x row,

@@ -1,10 +1,10 @@
 -- Where the walk comes to rest: either below k, for want of a link, or, after a last move, at the first cell that its link leads to at k or
 -- above it. If k does not stand, the cell that the link wanted or gone along belongs to is k's parent: every cell between shares more with
 -- it than k does.
+use Rattle.std.specs.Prelude.{None, Some}
 use mathlib.Core.Path.{◌≡◌, refl, ◌∙◌, sym, ap, subst}
 use mathlib.Core.Logic.{◌⊎◌, inl, inr}
 use mathlib.Core.List.{List, [], ◌∷◌}
-use mathlib.Core.Option.{none, some}
 use Prim.Native.Nat.{ℕ, suc, ◌+◌, ◌-◌, ◌≤◌, ◌<◌, min}
 use native.Mathlib.Decide.{dec_le}
 use native.Mathlib.Omega.{arith}
@@ -51,7 +51,7 @@ pub record Wanting (s : State) (k : ℕ) (r : Rest) : Type 0 where
   pub hangs : Hangs s.settings.base s.settings.dimensions k place
   pub coordinate : r.coordinate ≡ shared s.settings.base s.settings.dimensions place.node.key k
   pub leads : first_sharing s.settings.base s.settings.dimensions place.node.key r.coordinate place.later ≡ 0
-  pub absent : node_at k s.row ≡ none
+  pub absent : node_at k s.row ≡ None
 
 -- The walk ends after a last move, from the place from which k hangs, or would hang, to the next, at k or above it.
 pub record Moved (s : State) (k : ℕ) (r : Rest) : Type 0 where
@@ -63,17 +63,17 @@ pub record Moved (s : State) (k : ℕ) (r : Rest) : Type 0 where
   pub to : Place
   pub to_placed : Placed s r.at to
   pub reached : k ≤ to.node.key
-  pub present : to.node.key ≡ k → node_at k s.row ≡ some to.node
-  pub absent : k < to.node.key → node_at k s.row ≡ none
+  pub present : to.node.key ≡ k → node_at k s.row ≡ Some to.node
+  pub absent : k < to.node.key → node_at k s.row ≡ None
   pub coordinate : r.coordinate ≡ min (shared s.settings.base s.settings.dimensions to.node.key k) (s.settings.dimensions - 1)
 
 -- Nodes up to k that share more with x than k does are not k's.
-node_none : (key : ℕ) (row : List Node) → All (λ x. x.key ≡ key → ⊥) row → node_at key row ≡ none
+node_none : (key : ℕ) (row : List Node) → All (λ x. x.key ≡ key → ⊥) row → node_at key row ≡ None
 unfolding node_at
 node_none key [] a = refl
 node_none key (x ∷ row) a = node_past key x row a.0 ∙ node_none key row a.1
 
-node_between : (b D k x : ℕ) (later : List Node) → All (λ y. y.key ≤ k → shared b D x k < shared b D x y.key) later → node_at k later ≡ none
+node_between : (b D k x : ℕ) (later : List Node) → All (λ y. y.key ≤ k → shared b D x k < shared b D x y.key) later → node_at k later ≡ None
 node_between b D k x later a =
     node_none k later (all_map (λ y f q. let more = f (omega arith) in let same = ap (λ z. shared b D x z) q in omega arith) later a)
 

@@ -1,9 +1,9 @@
 -- What finishing writes: the picture of the state with the debt of cell n paid is the words after the links have moved and the debt is
 -- cleared. Only two cells' words depend on that debt: those of n and those of the standing cell after it.
+use Rattle.std.specs.Prelude.{Option, None, Some}
 use mathlib.Core.Path.{◌≡◌, refl, sym, ap, ap₂, ◌∙◌, subst}
 use mathlib.Core.Bool.{Bool, true, false, cond}
 use mathlib.Core.List.{◌∷◌, map}
-use mathlib.Core.Option.{Option, none, some}
 use Prim.Native.Nat.{ℕ, zero, suc, ◌+◌, ◌-◌, ◌≤◌, ◌<◌}
 use native.Mathlib.Nat.{pos_of_ne-zero}
 use native.Mathlib.Decide.{ℕ_discrete, dec_le, dec_lt}
@@ -140,8 +140,8 @@ module _ {s : State} (v : Sound s) {n : ℕ} {p : Place} (here : Placed s n p) w
     where
       at : (x j : ℕ) → x < s.settings.cells → j < cell_words D → (o : Option Place) → place_of x (places_of s s.row) ≡ o →
           word_in D (picture after) x j ≡ word_in D (picture s) x j
-      at x j h k none e = changed_free s (on_cell n paid) (paid_keeping n) s.position x e j h k
-      at x j h k (some q) e = word_kept (record { found = e }) (λ same. unowing) (λ next. unowing) j k
+      at x j h k None e = changed_free s (on_cell n paid) (paid_keeping n) s.position x e j h k
+      at x j h k (Some q) e = word_kept (record { found = e }) (λ same. unowing) (λ next. unowing) j k
 
   -- If n owes, q is the place after it.
   module _ (owes : p.node.owes ≡ true) {q : Place} (there : Placed s q.node.cell q) (next : NextIn s p q) (debt : Debt b D p) where
@@ -339,8 +339,8 @@ module _ {s : State} (v : Sound s) {n : ℕ} {p : Place} (here : Placed s n p) w
         at (place_of x (places_of s s.row)) refl ∙ sym (finish_words-cell (picture_exact s) n owing x j k not-n (λ e. not-next (e ∙ owed_is)))
       where
         at : (o : Option Place) → place_of x (places_of s s.row) ≡ o → word_in D (picture after) x j ≡ word_in D (picture s) x j
-        at none e = changed_free s (on_cell n paid) (paid_keeping n) s.position x e j h k
-        at (some r) e =
+        at None e = changed_free s (on_cell n paid) (paid_keeping n) s.position x e j h k
+        at (Some r) e =
             let found : Placed s x r = record { found = e } in
             word_kept found (λ same. absurd (not-n same))
             (λ step. absurd (not-next (sym (placed_cell found) ∙ ap (λ l. (first_of l).cell) (sym step.later ∙ next.later)))) j k

@@ -1,10 +1,10 @@
 -- What a new node x changes of the links of a row, where nothing is owed that it touches. A link of a node before x changes only if it
 -- leads to x, and that is link p of the parent. The next larger node's dimension becomes q: if that is more than it was, x owes, and
 -- what the node then has below q is just what x is due. What comes later keeps its links.
+use Rattle.std.specs.Prelude.{Option, None, Some}
 use mathlib.Core.Path.{◌≡◌, refl, sym, ◌∙◌, ap, subst, subst₂}
 use mathlib.Core.Bool.{Bool, true, false, cond, ◌&&◌, and-false}
 use mathlib.Core.List.{List, [], ◌∷◌, ◌++◌}
-use mathlib.Core.Option.{Option, none, some}
 use Prim.Native.Nat.{ℕ, ◌≤◌, ◌<◌, min}
 use native.Mathlib.Omega.{arith}
 use native.Mathlib.Decide.{ℕ_discrete, dec_lt, dec_le}
@@ -93,18 +93,18 @@ pub record Kept (b D n : ℕ) (p q : Place) : Type 0 where
 
 -- both are found, and R holds of them, or neither is
 abbrev pub OnBoth : (Place → Place → Type 0) → Option Place → Option Place → Type 0
-OnBoth R none none = Unit {0}
-OnBoth R none (some q) = ⊥
-OnBoth R (some p) none = ⊥
-OnBoth R (some p) (some q) = R p q
+OnBoth R None None = Unit {0}
+OnBoth R None (Some q) = ⊥
+OnBoth R (Some p) None = ⊥
+OnBoth R (Some p) (Some q) = R p q
 
 module _ (b D n : ℕ) where
   kept_itself : (p : Place) → Kept b D n p p
   kept_itself p = record { node = refl; owed = refl; low = refl; high = refl; links = λ d h. refl }
 
   both_itself : (o : Option Place) → OnBoth (Kept b D n) o o
-  both_itself none = tt
-  both_itself (some p) = kept_itself p
+  both_itself None = tt
+  both_itself (Some p) = kept_itself p
 
   both_step :
       (c : ℕ) (p q : Place) (ps qs : List Place) → Kept b D n p q → OnBoth (Kept b D n) (place_of c ps) (place_of c qs) →
@@ -450,7 +450,7 @@ module _ (s : State) (pre : List Node) (x : Node) (post : List Node) (pos : 0 < 
   -- link p of the parent leads to x
   pub link_of_parent :
       (p : Place) → place_of (parent_after s.settings.base s.settings.dimensions head_node pre x.key)
-      (places s.settings.base s.settings.dimensions (pre ++ x ∷ post)) ≡ some p →
+      (places s.settings.base s.settings.dimensions (pre ++ x ∷ post)) ≡ Some p →
       link s.settings.base s.settings.dimensions p (dimension_after s.settings.base s.settings.dimensions head_node pre x.key) ≡ x.cell
   unfolding places
   link_of_parent p found =
@@ -479,7 +479,7 @@ module _ (s : State) (pre : List Node) (x : Node) (post : List Node) (pos : 0 < 
       low : A.key < x.key
       low = (asc_last head_node pre (x ∷ post) a).0
 
-      at : (t : Place) × (place_of (parent_after b D head_node pre x.key) (places b D row) ≡ some t) × ParentPlace b D d A (x ∷ post) t
+      at : (t : Place) × (place_of (parent_after b D head_node pre x.key) (places b D row) ≡ Some t) × ParentPlace b D d A (x ∷ post) t
       at =
           first_place b D pos deep d head_node 0 head_node 0 pre (x ∷ post) (asc_left 0 pre (x ∷ post) a) (apart_left (head_node ∷ pre) (x ∷ post) o)
           (shared_less b D A.key x.key deep (omega (arith, low))) (λ q. omega arith)
@@ -491,7 +491,7 @@ module _ (s : State) (pre : List Node) (x : Node) (post : List Node) (pos : 0 < 
       h = at.2
 
       same : t ≡ p
-      same = let e = at.1 in let f : some t ≡ some p = sym e ∙ found in cc
+      same = let e = at.1 in let f : Some t ≡ Some p = sym e ∙ found in cc
 
       fact : (t.node.cell ≡ parent_after b D head_node pre x.key)
           × ((t.node.cell ≡ parent_after b D head_node pre x.key → t.node.owes ≡ false) × Asc t.node.key t.later)
@@ -512,8 +512,8 @@ module _ (s : State) (pre : List Node) (x : Node) (post : List Node) (pos : 0 < 
 
   -- every other link of a cell other than x is as it was
   pub link_of_other :
-      (c d : ℕ) (p q : Place) → place_of c (places s.settings.base s.settings.dimensions (pre ++ x ∷ post)) ≡ some p →
-      place_of c (places s.settings.base s.settings.dimensions (pre ++ post)) ≡ some q → (x.cell ≡ c → ⊥) →
+      (c d : ℕ) (p q : Place) → place_of c (places s.settings.base s.settings.dimensions (pre ++ x ∷ post)) ≡ Some p →
+      place_of c (places s.settings.base s.settings.dimensions (pre ++ post)) ≡ Some q → (x.cell ≡ c → ⊥) →
       (c ≡ parent_after s.settings.base s.settings.dimensions head_node pre x.key →
       d ≡ dimension_after s.settings.base s.settings.dimensions head_node pre x.key → ⊥) →
       link s.settings.base s.settings.dimensions p d ≡ link s.settings.base s.settings.dimensions q d

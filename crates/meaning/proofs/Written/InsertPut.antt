@@ -1,10 +1,10 @@
 -- What a new node writes where neither the parent nor c owes: word 4, its own cell's words, link p of the parent, and the path; no other
 -- word changes. A standing cell has its words by its place, which keeps all but links that lead to the new cell; a free cell by the
 -- chain, which loses its first cell.
+use Rattle.std.specs.Prelude.{Option, None, Some}
 use mathlib.Core.Path.{◌≡◌, refl, sym, ◌∙◌, ap, subst, subst₂}
 use mathlib.Core.Bool.{Bool, true, false, cond, not}
 use mathlib.Core.List.{List, [], ◌∷◌, ◌++◌, map}
-use mathlib.Core.Option.{Option, none, some}
 use Prim.Native.Nat.{ℕ, zero, suc, ◌<◌}
 use native.Mathlib.Nat.{zero-add}
 use native.Mathlib.Omega.{arith}
@@ -186,13 +186,13 @@ module _ (s : State) (v : Sound s) (key value : ℕ) (positive : 0 < key) (g : G
     where
       at : (o q : Option Place) → place_of c (places_of now now.row) ≡ o → place_of c (places_of s s.row) ≡ q → OnBoth (Kept b D t.n) o q →
           word_at (picture now) c j ≡ word_at (picture s) c j
-      at none none e u k =
+      at None None e u k =
           free_cell_word now c below e j h
           ∙ ap (λ n. get_or (free_words D n) j 0) (next_free_lem c s.free (λ m. other (i.n_is ∙ m)))
           ∙ sym (free_cell_word s c below u j h)
-      at none (some q) e u k = absurd k
-      at (some p) none e u k = absurd k
-      at (some p) (some q) e u k =
+      at None (Some q) e u k = absurd k
+      at (Some p) None e u k = absurd k
+      at (Some p) (Some q) e u k =
           word_kept c p q (record { found = e }) (record { found = u }) k j h
           (λ d is.
           link_of_other s g.pre x g.post pos deep w.ascends apart clear c d p q e (ap (λ r. place_of c (places b D r)) (sym g.splits) ∙ u) other
@@ -208,8 +208,8 @@ module _ (s : State) (v : Sound s) (key value : ℕ) (positive : 0 < key) (g : G
 
       at : (o : Option Place) → place_of t.parent (places_of now now.row) ≡ o →
           OnBoth (Kept b D t.n) o (place_of t.parent (places_of s s.row)) → word_at (picture now) t.parent (link_field t.p) ≡ t.n
-      at none e k = absurd (subst (OnBoth (Kept b D t.n) none) (slot_parent_placed s v key positive g f t i).1.found k)
-      at (some p) e k =
+      at None e k = absurd (subst (OnBoth (Kept b D t.n) None) (slot_parent_placed s v key positive g f t i).1.found k)
+      at (Some p) e k =
           place_link w (record { found = e }) t.p inside
           ∙ ap (link b D p) i.p_is
           ∙ link_of_parent s g.pre x g.post pos deep w.ascends apart clear p (ap (λ c. place_of c (places_of now now.row)) (sym i.parent_is) ∙ e)
@@ -224,7 +224,7 @@ module _ (s : State) (v : Sound s) (key value : ℕ) (positive : 0 < key) (g : G
 
   new_words-length : length (new_words D key value t) ≡ cell_words D
   unfolding words_of
-  new_words-length = ap length put_new_words ∙ words_of_length b D 0 [] (some new)
+  new_words-length = ap length put_new_words ∙ words_of_length b D 0 [] (Some new)
 
   off_exact : Exact D s.settings.cells off
   off_exact = exact_set (picture_exact s) 4 (get_or (picture s) (word_index D t.n 0) 0)

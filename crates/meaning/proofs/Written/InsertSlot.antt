@@ -1,9 +1,9 @@
 -- What the slot of a key that does not stand says: where its parent stands, whether the new node owes, which link it has; that
 -- finishing debts does not move it; and that, where neither its parent nor c owes, nothing is owed that the new node touches.
+use Rattle.std.specs.Prelude.{None}
 use mathlib.Core.Path.{◌≡◌, refl, sym, ◌∙◌, ap, ap₂, subst}
 use mathlib.Core.Bool.{Bool, true, false, cond, ◌&&◌, not}
 use mathlib.Core.List.{List, [], ◌∷◌, ◌++◌, map}
-use mathlib.Core.Option.{none}
 use Prim.Native.Nat.{ℕ, ◌≤◌, ◌<◌}
 use native.Mathlib.Omega.{arith}
 use native.Mathlib.Decide.{ℕ_discrete, dec_le}
@@ -227,8 +227,8 @@ module _ (s : State) (v : Sound s) (key : ℕ) (positive : 0 < key) (g : Gap key
   -- the new cell's first word leads on in the chain
   pub slot_next : word_at (picture s) t.n 0 ≡ first_number (drop 1 s.free)
   slot_next =
-      free_cell_first s t.n slot_below (subst (λ c. place_of c (places_of s s.row) ≡ none) (sym i.n_is)
-      (first_free_all (λ c. place_of c (places_of s s.row) ≡ none) s.free f (free_found s v)))
+      free_cell_first s t.n slot_below (subst (λ c. place_of c (places_of s s.row) ≡ None) (sym i.n_is)
+      (first_free_all (λ c. place_of c (places_of s s.row) ≡ None) s.free f (free_found s v)))
       ∙ ap (λ c. next_free c s.free) i.n_is ∙ first_next s.free
 
   -- c stands, or is 0, the head

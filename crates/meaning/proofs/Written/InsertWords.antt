@@ -1,10 +1,10 @@
 -- What an insert of a key that does not stand writes, word by word: the words after the debts of the parent and of c are finished, with
 -- the new cell written, taken off the free chain and set as link p of the parent. Finishing does not move the slot, so the new node
 -- comes into the row of the state with both debts paid, where it changes only those words.
+use Rattle.std.specs.Prelude.{None}
 use mathlib.Core.Path.{◌≡◌, refl, sym, ◌∙◌, ap, subst, subst₂}
 use mathlib.Core.Bool.{Bool, true, false, cond, ◌&&◌, not, and-false}
 use mathlib.Core.List.{◌∷◌, map}
-use mathlib.Core.Option.{none}
 use Prim.Native.Nat.{ℕ, zero, suc, ◌≤◌, ◌<◌}
 use native.Mathlib.Decide.{ℕ_discrete, dec_lt}
 use native.Mathlib.Omega.{arith}
@@ -405,7 +405,7 @@ module _ (s : State) (v : Sound s) (key value : ℕ) (positive : 0 < key) (g : G
 
 -- A key that does not stand, and a free cell
 
-module _ (s : State) (v : Sound s) (key value : ℕ) (positive : 1 ≤ key) (most : key ≤ s.settings.largest) (absent : node_at key s.row ≡ none)
+module _ (s : State) (v : Sound s) (key value : ℕ) (positive : 1 ≤ key) (most : key ≤ s.settings.largest) (absent : node_at key s.row ≡ None)
     (f : 0 < length s.free) where
   abbrev around : Gap key s.row
   around = gap key 0 s.row v.ascends absent

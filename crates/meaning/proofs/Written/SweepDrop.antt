@@ -1,9 +1,9 @@
 -- Dropping the front of a row in which nobody owes, word by word. Every link is settled; so the words of a cell that stays depend on its
 -- node, its dimension and the nodes after it, and dropping the front changes them for the head and the new position alone.
+use Rattle.std.specs.Prelude.{Option, None, Some}
 use mathlib.Core.Path.{◌≡◌, refl, sym, ap, ap₂, ◌∙◌, subst}
 use mathlib.Core.Bool.{Bool, false}
 use mathlib.Core.List.{List, [], ◌∷◌, ◌++◌, map, reverse_aux, map-append}
-use mathlib.Core.Option.{Option, none, some}
 use Prim.Native.Nat.{ℕ, zero, suc, ◌+◌, ◌≤◌, ◌<◌}
 use native.Mathlib.Decide.{ℕ_discrete, dec_lt}
 use native.Mathlib.Omega.{arith}
@@ -99,7 +99,7 @@ later_words b D free y a e f (x ∷ later) h = at (ℕ_discrete x.cell y)
     more : List Place
     more = places_after b D x (shared b D a.key x.key) later
 
-    words : (n : ℕ) → words_of b D free y (some (here n)) ≡ words_by b D x.value x.live false x.owes (here n)
+    words : (n : ℕ) → words_of b D free y (Some (here n)) ≡ words_by b D x.value x.live false x.owes (here n)
     words n = standing_by b D (here n) ∙ ap (λ t. words_by b D x.value x.live t x.owes (here n)) h
 
     at : Dec (x.cell ≡ y) → words_of b D free y (place_of y (here e ∷ more)) ≡ words_of b D free y (place_of y (here f ∷ more))
@@ -122,8 +122,8 @@ places_past b D y a e (z ∷ front) x later o ne =
 -- cells that are put in front of the free chain do not show in the words of others
 words_behind : (b D y : ℕ) (xs free : List ℕ) → All (λ c. y ≡ c → ⊥) xs → (o : Option Place) → words_of b D free y o ≡ words_of b D (reverse_aux xs free) y o
 unfolding words_of
-words_behind b D y xs free a none = ap (free_words D) (sym (next_free-behind y xs free a))
-words_behind b D y xs free a (some p) = refl
+words_behind b D y xs free a None = ap (free_words D) (sym (next_free-behind y xs free a))
+words_behind b D y xs free a (Some p) = refl
 
 -- the words of the settings
 header_settings : (s t : State) → s.settings ≡ t.settings → (i : ℕ) → i < 4 → get_or (picture s) i 0 ≡ get_or (picture t) i 0
@@ -301,7 +301,7 @@ module _ (s : State) (front : List Node) (x : Node) (later : List Node) (v : Sou
       let freed = map (λ z. z.cell) front in
       let chain = reverse_aux freed s.free in
       let met : 0 < occurrences y chain = omega (arith, within, occurrences_reverse_aux y freed s.free) in
-      let unfound = occurs_has (λ c. place_of c (places_of (dropped s front x later) (dropped s front x later).row) ≡ none) y chain met
+      let unfound = occurs_has (λ c. place_of c (places_of (dropped s front x later) (dropped s front x later).row) ≡ None) y chain met
       (free_found (dropped s front x later) w) in
       picture_place (dropped s front x later) y j h k
       ∙ ap (λ o. get_or (words_of b D chain y o) j 0) unfound

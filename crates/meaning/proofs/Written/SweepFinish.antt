@@ -1,9 +1,9 @@
 -- All that is owed is finished: cell after cell, what each owes is finished, and at the end no node owes. A free cell owes nothing; and
 -- of a standing one, what is written is the picture of the state with that debt paid, which is a state in order again.
+use Rattle.std.specs.Prelude.{None}
 use mathlib.Core.Path.{◌≡◌, refl, sym, ap, ap₂, ◌∙◌, subst}
 use mathlib.Core.Bool.{false}
 use mathlib.Core.List.{List, [], ◌∷◌, map}
-use mathlib.Core.Option.{none}
 use Prim.Native.Nat.{ℕ, zero, suc, ◌+◌, ◌-◌, ◌≤◌, ◌<◌}
 use native.Mathlib.Decide.{dec_lt}
 use native.Mathlib.Omega.{arith}
@@ -49,7 +49,7 @@ finish_cell s v x below = at (dec_lt 0 (occurrences x (0 ∷ cells)))
     at (no free) =
         let others = occurrences_none x (0 ∷ cells) (omega arith) in
         let apart = subst (All (λ c. x ≡ c → ⊥)) (sym (places_cells s.settings.base s.settings.dimensions s.row)) others in
-        let unfound : place_of x (places_of s s.row) ≡ none =
+        let unfound : place_of x (places_of s s.row) ≡ None =
         place_none x (places_of s s.row) (all_map (λ p ne e. ne (sym e)) (places_of s s.row)
         (all_of_map (λ c. x ≡ c → ⊥) (λ p. p.node.cell) (places_of s s.row) apart)) in
         finish_words-none s.settings.dimensions (picture s) x (free_cell_rest s x below unfound 3 (omega arith) (omega arith))

@@ -1,8 +1,8 @@
 -- What a take and a revived key write: value and mark of one cell, and the path. Debts, cells and keys stay, so every link stays.
+use Rattle.std.specs.Prelude.{Option, None, Some}
 use mathlib.Core.Path.{◌≡◌, refl, sym, ap, ap₂, ◌∙◌, subst}
 use mathlib.Core.Bool.{Bool, true, false}
 use mathlib.Core.List.{List, [], ◌∷◌}
-use mathlib.Core.Option.{Option, none, some}
 use Prim.Native.Nat.{ℕ, zero, suc, ◌+◌, ◌≤◌, ◌<◌}
 use native.Mathlib.Decide.{ℕ_discrete}
 use native.Mathlib.Omega.{arith}
@@ -65,8 +65,8 @@ module _ {s : State} (v : Sound s) {c : ℕ} {p : Place} (here : Placed s c p) (
   other_kept x j h k ne = at (place_of x (places_of s s.row)) refl
     where
       at : (o : Option Place) → place_of x (places_of s s.row) ≡ o → word_in D (picture after) x j ≡ word_in D (picture s) x j
-      at none e = changed_free s (on_cell c g) keeping position x e j h k
-      at (some q) e =
+      at None e = changed_free s (on_cell c g) keeping position x e j h k
+      at (Some q) e =
           let there : Placed s x q = record { found = e } in
           let same : on_cell c g q.node ≡ q.node = on_cell-cases (λ z. z ≡ q.node) c g q.node (λ f. absurd (ne (sym (placed_cell there) ∙ f)))
           (λ f. refl) in
@@ -121,7 +121,7 @@ taken_words_lem s x later v e =
     node_written v here dead_node (dead_keeping x.cell) (λ y. refl) 0 false (λ y. refl) (λ y. refl) x.cell
 
 -- The operations 2: what a revival writes
-pub revived_words : (s : State) (x : Node) (value : ℕ) → Sound s → node_at x.key s.row ≡ some x →
+pub revived_words : (s : State) (x : Node) (value : ℕ) → Sound s → node_at x.key s.row ≡ Some x →
     picture (revived s x value) ≡ write_path (write_node s.settings.dimensions (picture s) x.cell value 1) (path (revived s x value))
 unfolding revived
 revived_words s x value v e =
@@ -131,7 +131,7 @@ revived_words s x value v e =
     (revived s x value).position
 
 -- above the position, the path stays
-pub revived_path : (s : State) (x : Node) (value : ℕ) → Sound s → node_at x.key s.row ≡ some x → position_key s < x.key → path (revived s x value) ≡ path s
+pub revived_path : (s : State) (x : Node) (value : ℕ) → Sound s → node_at x.key s.row ≡ Some x → position_key s < x.key → path (revived s x value) ≡ path s
 unfolding revived position_after
 revived_path s x value v e h =
     let (pre, post, split) = node_split x.key x s.row e in
@@ -139,7 +139,7 @@ revived_path s x value v e h =
     path_unmoved (revived s x value) s refl (rw (lt-leb x.key (position_key s) h) refl)
     (cells_changed (on_cell x.cell (revived_node value)) keeping s.row) (keys_changed (on_cell x.cell (revived_node value)) keeping s.row)
 
-pub revived_words_above : (s : State) (x : Node) (value : ℕ) → Sound s → node_at x.key s.row ≡ some x → position_key s < x.key →
+pub revived_words_above : (s : State) (x : Node) (value : ℕ) → Sound s → node_at x.key s.row ≡ Some x → position_key s < x.key →
     picture (revived s x value) ≡ write_node s.settings.dimensions (picture s) x.cell value 1
 revived_words_above s x value v e h =
     let D = s.settings.dimensions in

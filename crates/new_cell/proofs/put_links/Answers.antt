@@ -3,23 +3,12 @@ use mathlib.Core.Path.{refl}
 use Rattle.meaning.specs.Words.{link_field}
 use Rattle.meaning.specs.Layer.Stores.{new_links}
 use Rattle.words.proofs.Shaped.{stores_shaped}
-use Rattle.new_cell.proofs.NewWords.{links_inside, links_long, links_written}
+use Rattle.new_cell.proofs.NewWords.{links_written}
 use Rattle.new_cell.proofs.put_links.Goals as goal
-
-pub slice_bounds-write_links-end : goal.slice_bounds-write_links-end
-slice_bounds-write_links-end c =
-    let pre = c.requires in
-    links_inside pre.0 pre.1.0 c.word_index-start.ensures.0 refl
-
-pub write_links-requires : goal.write_links-requires
-write_links-requires c =
-    let pre = c.requires in
-    λ held. rw (links_long pre.0 pre.1.0 c.word_index-start.ensures.0 refl) (pre.1.1 held)
 
 pub returns : goal.returns
 returns c =
     let a = c.args in
     let pre = c.requires in
-    rw (links_written pre.0 pre.1.0 c.word_index-start.ensures.0 refl a.q a.c
-    c.write_links.ensures)
+    rw (links_written pre.0 pre.1.0 c.word_index-start.ensures.0 refl a.q a.c c.write_links.ensures)
     (refl, stores_shaped pre.0 a.n (link_field 0) (new_links a.s.dimensions a.q a.c))

@@ -15,4 +15,4 @@ pub returns : goal.returns
 unfolding place_after
 returns c =
     let a = c.args in
-    ap (λ n. past n (λ class. AtUnit class NoDigit)) (sym c.in-Value.is ∙ c.ended_at.ensures)
+    ap (λ n. past n (λ class. AtUnit class NoDigit)) (sym c.in-Some.is ∙ c.ended_at.ensures)

@@ -17,4 +17,4 @@ unfolding place_after
 returns c =
     let a = c.args in
     ap (λ (e : Entry). AtText e) c.entry_of.ensures ∙
-    ap (λ n. past n (λ serial. AtText (entry_of a.class a.unit serial))) (sym c.in-Value.is ∙ c.ended_at.ensures)
+    ap (λ n. past n (λ serial. AtText (entry_of a.class a.unit serial))) (sym c.in-Some.is ∙ c.ended_at.ensures)

@@ -3,14 +3,14 @@ use mathlib.Core.Path.{sym, ◌∙◌, ap}
 use Rattle.notes.specs.Reader.{numbered, note_in}
 use Rattle.notes.proofs.numbered.Goals as goal
 
-pub returns-in_default : goal.returns-in_default
+pub returns-in_err-number : goal.returns-in_err-number
 unfolding note_in
-returns-in_default c =
+returns-in_err-number c =
     let a = c.args in
-    ap (λ n. numbered a.e n) (sym c.in_default.is ∙ c.ended_at.ensures)
+    rw c.from_residual.ensures (ap (λ n. numbered a.e n) (sym c.in_err-number.was ∙ c.ended_at.ensures))
 
 pub returns : goal.returns
 unfolding note_in
 returns c =
     let a = c.args in
-    ap (λ n. numbered a.e n) (sym c.in-Value.is ∙ c.ended_at.ensures)
+    ap (λ n. numbered a.e n) (sym c.in_ok-number.was ∙ c.ended_at.ensures)

@@ -10,14 +10,14 @@ returns-in_default c =
     let a = c.args in
     not_read_meets a.bytes.now a.list.now (sym c.parse.ensures ∙ c.in_default.is) c.refused.ensures
 
-pub powers-powers-requires : goal.powers-powers-requires
-powers-powers-requires c = let h = c.requires in ((listed_shaped h).dimensions_most, (listed_base h, listed_power h))
+pub of-levels-requires : goal.of-levels-requires
+of-levels-requires c = let h = c.requires in ((listed_shaped h).dimensions_most, (listed_base h, listed_power h))
 
 pub operation_of-requires : goal.operation_of-requires
 operation_of-requires c = read_in_range c.args.bytes.now (sym c.parse.ensures ∙ c.in-Readable.is)
 
 pub operate-requires : goal.operate-requires
-operate-requires c = (c.requires, c.powers-powers.ensures)
+operate-requires c = (c.requires, (rw (← c.of-levels.ensures) c.of-levels.result.right))
 
 pub returns : goal.returns
 returns c =

@@ -1,14 +1,8 @@
 -- `read_file::put_pairs` meets its contract: the words have been given the pairs of the file before pair i.
-use mathlib.Core.Path.{◌≡◌}
-use Prim.Native.Nat.{◌-◌, ◌≤◌}
-use lib.ListN.{length, drop}
+use lib.ListN.{drop}
 use Rattle.files.specs.Files.{before, pairs_from}
 use Rattle.read_file.specs.Putting.{Putting}
 use Rattle.read_file.proofs.put_pairs.Given as goal
 
 abbrev pub invariant-loop-i : goal.invariant-loop-i
-invariant-loop-i l =
-    (l.i ≤ l.n) × (Putting l.list l.s (pairs_from l.i (drop (before l.n) l.file)) l.last l.path × (length l.list ≡ length l.initial.list))
-
-abbrev pub decreases-loop-i : goal.decreases-loop-i
-decreases-loop-i l = l.n - l.i
+invariant-loop-i l = Putting l.list l.s (pairs_from l.i (drop (before l.n) l.file)) l.last l.path

@@ -12,23 +12,23 @@ returns-in_default c =
 
 pub length-requires : goal.length-requires
 length-requires c =
-    let limits = told_limits (told (sym c.read_contents-contents.ensures ∙ c.in-IsFile.is)) in
+    let limits = told_limits (told (sym c.read_contents-contents.ensures ∙ c.in-Some.is)) in
     (limits.0, limits.1.0)
 
 pub returns-then-list-length : goal.returns-then-list-length
 returns-then-list-length c =
     let a = c.args in
-    wrong_length_meets a.list.now a.file.now (sym c.read_contents-contents.ensures ∙ c.in-IsFile.is)
+    wrong_length_meets a.list.now a.file.now (sym c.read_contents-contents.ensures ∙ c.in-Some.is)
     (λ e. omega arith) c.refused-then-list-length.ensures
 
 pub put_pairs-requires : goal.put_pairs-requires
 put_pairs-requires c =
     let a = c.args in
-    let is = sym c.read_contents-contents.ensures ∙ c.in-IsFile.is in
+    let is = sym c.read_contents-contents.ensures ∙ c.in-Some.is in
     (set_up_left (told is) a.list.now (omega arith) c.set_up.ensures, is)
 
 pub returns : goal.returns
 returns c =
     let a = c.args in
-    let is = sym c.read_contents-contents.ensures ∙ c.in-IsFile.is in
+    let is = sym c.read_contents-contents.ensures ∙ c.in-Some.is in
     read_meets a.list.now a.file.now is (omega arith) c.put_pairs.ensures c.accepted.ensures

@@ -1,9 +1,10 @@
 -- `row_step::reply` meets its contract: the bytes written are those that `put_line` puts for what the line did.
+use Rattle.answers.specs.declared.Answer.{Answer}
+use Rattle.std.specs.Prelude.{Option}
 use mathlib.Core.Path.{sym, ap, ◌∙◌}
 use native.Mathlib.Omega.{arith}
 use lib.ListN.{take}
 use lib.Seq.{length-take-le}
-use Rattle.trace_call.specs.declared.Reply.{Reply}
 use Rattle.row_step.specs.Lines.{row_text}
 use Rattle.row_step.proofs.reply.Goals as goal
 
@@ -30,5 +31,5 @@ write-requires c =
     record {
       before = take a.used a.words.now;
       left = done.ensures.words_are.is;
-      is = c.put_line-end.ensures.0 ∙ ap (λ (r : Reply). row_text r after) done.ensures.reply_is;
+      is = c.put_line-end.ensures.0 ∙ ap (λ (r : Option Answer). row_text r after) done.ensures.reply_is;
     }

@@ -8,4 +8,4 @@ returns c =
     let h = c.write_header in
     let z = c.fill in
     c.write_cells.ensures
-    ∙ list_written c.args.s c.args.list.now h.new.list z.new.part c.requires h.ensures z.ensures
+    ∙ list_written c.args.s c.args.list.now h.new.list z.new.self c.requires h.ensures (z.ensures.after (λ y e. e))

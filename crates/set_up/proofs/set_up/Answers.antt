@@ -15,13 +15,13 @@ pub length-requires : goal.length-requires
 length-requires c =
     let a = c.args in
     let n = c.new-checked in
-    limits a.d a.k a.c n.result n.ensures c.in-Accepted.is
+    limits a.d a.k a.c n.result n.ensures c.in-Some.is
 
 pub returns-then-list-length : goal.returns-then-list-length
 returns-then-list-length c =
     let a = c.args in
     let n = c.new-checked in
-    wrong_length_meets a.d a.k a.c n.result n.ensures a.list.now c.refused-then-list-length.result c.in-Accepted.is (λ e. omega arith)
+    wrong_length_meets a.d a.k a.c n.result n.ensures a.list.now c.refused-then-list-length.result c.in-Some.is (λ e. omega arith)
     c.refused-then-list-length.ensures
 
 pub returns : goal.returns
@@ -29,5 +29,5 @@ returns c =
     let a = c.args in
     let n = c.new-checked in
     let w = c.draw in
-    fresh_meets a.d a.k a.c n.result n.ensures a.list.now c.accepted.result w.new.list c.in-Accepted.is (omega arith)
+    fresh_meets a.d a.k a.c n.result n.ensures a.list.now c.accepted.result w.new.list c.in-Some.is (omega arith)
     c.accepted.ensures w.ensures

@@ -2,15 +2,12 @@
 -- what stood after them.
 use mathlib.Core.List.{◌++◌}
 use mathlib.Core.Path.{◌≡◌}
-use Prim.Native.Nat.{◌+◌, ◌*◌, ◌-◌, ◌≤◌}
-use lib.ListN.{length, drop}
+use Prim.Native.Nat.{◌+◌, ◌*◌}
+use lib.ListN.{drop}
 use Rattle.settings.specs.Numbers.{header_words, cell_words}
 use Rattle.set_up.proofs.Drawing.{cells_done}
 use Rattle.set_up.proofs.write_cells.Given as goal
 
 abbrev pub invariant-loop-x : goal.invariant-loop-x
 invariant-loop-x l =
-    (l.x ≤ l.c) × ((l.at ≡ header_words + l.d + l.x * cell_words l.d) × ((length l.list ≡ length l.initial.list) × (l.list ≡ cells_done l.initial.list l.d l.c l.x ++ drop l.at l.initial.list)))
-
-abbrev pub decreases-loop-x : goal.decreases-loop-x
-decreases-loop-x l = l.c - l.x
+    l.list ≡ cells_done l.initial.list l.d l.c l.x ++ drop (header_words + l.d + l.x * cell_words l.d) l.initial.list

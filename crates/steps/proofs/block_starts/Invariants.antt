@@ -1,13 +1,9 @@
 -- `words::block_starts` meets its contract: the starts before number d are written.
 use mathlib.Core.Path.{◌≡◌}
-use Prim.Native.Nat.{◌-◌, ◌≤◌}
 use lib.ListN.{length}
 use Rattle.settings.specs.Numbers.{most_dimensions}
 use Rattle.steps.proofs.Steps.{StartsTo}
 use Rattle.steps.proofs.block_starts.Given as goal
 
 abbrev pub invariant-loop-d : goal.invariant-loop-d
-invariant-loop-d l = (l.d ≤ l.s.dimensions) × ((length l.starts ≡ most_dimensions) × StartsTo l.s l.k l.starts l.d)
-
-abbrev pub decreases-loop-d : goal.decreases-loop-d
-decreases-loop-d l = l.s.dimensions - l.d
+invariant-loop-d l = (length l.starts ≡ most_dimensions) × StartsTo l.fn.s l.k l.starts l.d

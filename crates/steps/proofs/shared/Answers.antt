@@ -1,14 +1,8 @@
 -- `words::shared` meets its contract: x lies in the block of y of each level up to d, so the two share d coordinates or more.
 use native.Mathlib.Omega.{arith}
-use Rattle.settings.proofs.Levels.{power_some}
+use Rattle.settings.proofs.Powers.{power_some}
 use Rattle.steps.proofs.Sharing.{shared_not_all, shared_more, shared_ends}
 use Rattle.steps.proofs.shared.Goals as goal
-
-pub loop-d-init : goal.loop-d-init
-loop-d-init c = omega arith
-
-pub bounds-powers-d : goal.bounds-powers-d
-bounds-powers-d c = let p = c.requires in omega (arith, p.0, p.1.0.long, c.loop-d-test.true)
 
 pub block_start-requires : goal.block_start-requires
 block_start-requires c = power_some c.requires.1.0 (omega (arith, c.loop-d-test.true))
@@ -19,9 +13,6 @@ returns-then-key-block_start c =
     let v = c.loop-d in
     let inside = c.loop-d-test.true in
     (shared_ends p.0 p.1.0 p.1.1 (omega (arith, inside)) c.block_start.ensures v.invariant (omega (arith, c.if-key-block_start.true)), omega (arith, inside))
-
-pub loop-d-smaller : goal.loop-d-smaller
-loop-d-smaller c = omega arith
 
 pub loop-d-preserved : goal.loop-d-preserved
 loop-d-preserved c =

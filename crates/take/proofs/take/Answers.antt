@@ -8,7 +8,7 @@ use Rattle.take.proofs.take.Goals as goal
 
 pub returns-then-ahead-eq0 : goal.returns-then-ahead-eq0
 returns-then-ahead-eq0 c =
-    take_none_meets c.requires c.first_live-ahead.ensures c.if-ahead-eq0.true c.refused_at.ensures
+    take_none_meets c.requires c.first_live-ahead.ensures c.if-ahead-eq0.true c.refused.ensures
 
 pub word-key-requires : goal.word-key-requires
 word-key-requires c =

@@ -1,20 +1,20 @@
 -- `trace_call::call` meets its contract: the call that a line makes is read off by its kind.
+use Rattle.std.specs.Prelude.{Some}
 use mathlib.Core.Path.{◌≡◌, refl, ap, ◌∙◌}
 use Rattle.answers.specs.Refusals.{Outcome, Meets}
 use Rattle.calls.specs.Records.{Lent}
 use Rattle.answers.specs.declared.Answer.{Answer}
 use Rattle.trace_call.specs.Calling.{reply_of, after_call, Called}
 use Rattle.trace.specs.declared.Kind.{Kind}
-use Rattle.trace_call.specs.declared.Reply.TheVariants.{Four}
 use Rattle.trace_call.proofs.call.Goals as goal
 
-four : {r a : Answer} → r ≡ a → Four r ≡ Four a
-four e = ap (λ (a : Answer). Four a) e
+four : {r a : Answer} → r ≡ a → Some r ≡ Some a
+four e = ap (λ (a : Answer). Some a) e
 
 -- a call's answer, and what it leaves, are the line's
 called :
-    {kind : Kind} {o : Outcome Lent} {r : Answer} {lent after : Lent} → Meets o r after → Four o.answered ≡ reply_of kind lent →
-    o.left ≡ after_call kind lent → Called kind lent (Four r) after
+    {kind : Kind} {o : Outcome Lent} {r : Answer} {lent after : Lent} → Meets o r after → Some o.answered ≡ reply_of kind lent →
+    o.left ≡ after_call kind lent → Called kind lent (Some r) after
 called meets reply left = record { reply = four meets.answered ∙ reply; left = meets.left ∙ left }
 
 pub returns-in-Fresh : goal.returns-in-Fresh

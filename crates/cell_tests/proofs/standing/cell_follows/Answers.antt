@@ -1,11 +1,8 @@
 -- `cell_tests::standing::cell_follows` meets its contract: the two starts are those of the levels e and e + 1.
 use native.Mathlib.Omega.{arith}
-use Rattle.settings.proofs.Levels.{power_some}
+use Rattle.settings.proofs.Powers.{power_some}
 use Rattle.cell_tests.proofs.OneCell.{follows_not, follows_to}
 use Rattle.cell_tests.proofs.standing.cell_follows.Goals as goal
-
-pub bounds-powers-d : goal.bounds-powers-d
-bounds-powers-d c = omega (arith, c.requires.1.0.long, c.requires.0.dimensions_most, c.requires.1.1.1.1)
 
 pub block_start-requires : goal.block_start-requires
 block_start-requires c =
@@ -15,9 +12,6 @@ pub returns-then-before-block_start : goal.returns-then-before-block_start
 returns-then-before-block_start c =
     follows_not c.requires.0 c.requires.1.0 c.args.x c.args.y c.requires.1.1.1.1 c.word-before.ensures c.word-key.ensures
     c.block_start.ensures c.if-before-block_start.true
-
-pub bounds-powers-d-2 : goal.bounds-powers-d-2
-bounds-powers-d-2 c = omega (arith, c.requires.1.0.long, c.requires.0.dimensions_most, c.requires.1.1.1.1)
 
 pub block_start-requires-2 : goal.block_start-requires-2
 block_start-requires-2 c =

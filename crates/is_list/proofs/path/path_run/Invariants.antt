@@ -5,7 +5,4 @@ use Rattle.account.specs.Tree.{path_run}
 use Rattle.is_list.proofs.path.path_run.Given as goal
 
 abbrev pub invariant-loop-i : goal.invariant-loop-i
-invariant-loop-i l = (l.i ≤ l.s.dimensions) × (path_run l.list l.y l.d (l.s.dimensions - l.d) ≡ path_run l.list l.y l.i (l.s.dimensions - l.i))
-
-abbrev pub decreases-loop-i : goal.decreases-loop-i
-decreases-loop-i l = l.s.dimensions - l.i
+invariant-loop-i l = path_run l.list l.y l.d (l.s.dimensions - l.d) ≡ path_run l.list l.y l.i (l.s.dimensions - l.i)

@@ -1,9 +1,8 @@
 -- `Settings::base` meets its contract: low to the power D is at most K and high to the power D above it, so that high is the base once
 -- the two are neighbours, and there is only one base.
-use mathlib.Core.Path.{◌≡◌, sym, ◌∙◌}
+use mathlib.Core.Path.{◌≡◌}
 use Prim.Native.Nat.{◌-◌, ◌^◌, ◌≤◌}
 use native.Mathlib.Omega.{arith}
-use borrow.Author.Tests.{ltb-true, ltb-false}
 use borrow.Author.Rules.{rules}
 use Rattle.settings.proofs.Numbers.{one_power, is_base_lem, base_is, base_unique, base_at_least_two, base_at_most}
 use Rattle.settings.proofs.Settings.base.Goals as goal
@@ -13,14 +12,6 @@ loop-low-init c =
     let e = c.full_base-high.ensures in
     let one : 1 ^ c.args.d ≤ c.args.k = rw one_power c.requires.1.1 in
     (search rules, (base_at_least_two (search rules) e, (one, (omega (arith, e.above), base_at_most c.requires.0 (search rules) e))))
-
-pub loop-low-preserved-then-above : goal.loop-low-preserved-then-above
-loop-low-preserved-then-above c =
-    (search rules, (search rules, (search rules, (ltb-true _ _ (sym c.above.ensures ∙ c.if-above.true), search rules))))
-
-pub loop-low-preserved : goal.loop-low-preserved
-loop-low-preserved c =
-    (search rules, (search rules, (ltb-false _ _ (sym c.above.ensures ∙ c.if-above.false), (search rules, search rules))))
 
 pub returns : goal.returns
 returns c =

@@ -3,10 +3,10 @@ use native.Mathlib.Omega.{arith}
 use Rattle.trace_step.specs.Printed.{head_text}
 use Rattle.trace_step.proofs.put.put_head.Goals as goal
 
-pub returns-in-Four : goal.returns-in-Four
+pub returns-in-Some : goal.returns-in-Some
 unfolding head_text
-returns-in-Four c = rw c.in-Four.is c.put_answer.ensures
+returns-in-Some c = rw c.in-Some.is c.put_answer.ensures
 
-pub returns-in-NoCall : goal.returns-in-NoCall
+pub returns-in-None : goal.returns-in-None
 unfolding head_text
-returns-in-NoCall c = let put = c.put.ensures in rw c.in-NoCall.is (put, omega (arith, put.end))
+returns-in-None c = let put = c.put.ensures in rw c.in-None.is (put, omega (arith, put.end))
