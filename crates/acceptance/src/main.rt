@@ -53,17 +53,14 @@ fn feed_part(words: &mut [u32], keys: &mut [u32], line: &mut [u8], before: Fed, 
     ensures { Kept words.new keys.new line.new result }
 {
     let mut s = before;
-    let mut i = 0;
-    while i < part.len() {
-        let byte = part[i];
-        i += 1;
-        s = feed_byte(words, keys, line, s, byte);
+    for byte in part {
+        s = feed_byte(words, keys, line, s, *byte);
     }
     s
 }
 
-// The input, in parts, to its end or to a read that fails, and the verdict. Nothing says that an input ends, so the turns are counted down from a
-// number that no run uses up.
+// The input, in parts, to its end or to a read that fails, and the verdict. Nothing says that an input ends, so the turns are counted up to a
+// number that no run reaches.
 fn read_all(input: &mut Stdin, words: &mut [u32], keys: &mut [u32], line: &mut [u8])
     requires { (length words.old ≡ most_words) × ((length keys.old ≡ most_row_words) × (length line.old ≡ most_bytes)) }
 {
@@ -75,8 +72,7 @@ fn read_all(input: &mut Stdin, words: &mut [u32], keys: &mut [u32], line: &mut [
         },
     };
     let mut part = io::large_buffer();
-    let mut turns = u64::MAX;
-    while 0 < turns {
+    for _ in 0..u64::MAX {
         let Ok(n) = input.read(&mut part) else {
             break;
         };
@@ -84,7 +80,6 @@ fn read_all(input: &mut Stdin, words: &mut [u32], keys: &mut [u32], line: &mut [
             break;
         }
         s = feed_part(words, keys, line, s, &part[..n]);
-        turns -= 1;
     }
     let ended = text::feed::finish(s.feed);
     let before = s.state;

@@ -14,7 +14,6 @@ ghost use Rattle.acceptance_step.specs.Printed.{Room, held_in, answers_to, left_
 use answers::{Answer, Operation, Refusal};
 use settings::Settings;
 use text::feed::Told;
-use trace::Numbers;
 
 // The words of a row whose list has as many words as are held: at D = 2 that list has 19,457 cells.
 pub const MOST_ROW_WORDS: usize = 58373;
@@ -81,80 +80,32 @@ fn set_up_line(d: u32, k: u32, c: u32) -> Kind
     Kind::SetUp(d, k, c)
 }
 
-// The lines of a letter alone.
-fn alone(letter: u8) -> Kind
+// What a letter and the numbers after it say.
+fn kind_of(letter: u8, numbers: &[u32]) -> Kind
     ensures { KindFits result }
 {
-    if letter == b'T' {
-        return Kind::Make(Operation::Take);
+    match (letter, numbers) {
+        (b'U', [d, k, c]) => set_up_line(*d, *k, *c),
+        (b'N', [key, value]) => Kind::Make(Operation::Insert(*key, *value)),
+        (b'F', [key]) => Kind::Make(Operation::Find(*key)),
+        (b'A', [key]) => Kind::Make(Operation::Finish(*key)),
+        (b'T', []) => Kind::Make(Operation::Take),
+        (b'S', []) => Kind::Make(Operation::Sweep),
+        _ => Kind::Unreadable,
     }
-    if letter == b'S' {
-        return Kind::Make(Operation::Sweep);
-    }
-    Kind::Unreadable
-}
-
-// The lines of a letter and one number.
-fn with_one(letter: u8, a: u32) -> Kind
-    ensures { KindFits result }
-{
-    if letter == b'F' {
-        return Kind::Make(Operation::Find(a));
-    }
-    if letter == b'A' {
-        return Kind::Make(Operation::Finish(a));
-    }
-    Kind::Unreadable
-}
-
-fn with_two(letter: u8, a: u32, b: u32) -> Kind
-    ensures { KindFits result }
-{
-    if letter == b'N' {
-        return Kind::Make(Operation::Insert(a, b));
-    }
-    Kind::Unreadable
-}
-
-fn with_three(letter: u8, a: u32, b: u32, c: u32) -> Kind
-    ensures { KindFits result }
-{
-    if letter == b'U' {
-        return set_up_line(a, b, c);
-    }
-    Kind::Unreadable
-}
-
-fn kind_of(letter: u8, n: Numbers) -> Kind
-    ensures { KindFits result }
-{
-    if !n.readable {
-        return Kind::Unreadable;
-    }
-    if n.count == 0 {
-        return alone(letter);
-    }
-    if n.count == 1 {
-        return with_one(letter, n.values[0]);
-    }
-    if n.count == 2 {
-        return with_two(letter, n.values[0], n.values[1]);
-    }
-    if n.count == 3 {
-        return with_three(letter, n.values[0], n.values[1], n.values[2]);
-    }
-    Kind::Unreadable
 }
 
 // A line of at most 64 bytes. Its first field is one letter.
 fn parse(line: &[u8]) -> Kind
     ensures { KindFits result }
 {
-    let end = text::fields::field_end(line, 0);
-    if end != 1 {
-        return Kind::Unreadable;
+    match line {
+        [letter] | [letter, b' ', ..] => match trace::numbers_after(line, 1) {
+            Some(numbers) => kind_of(*letter, numbers.as_slice()),
+            None => Kind::Unreadable,
+        },
+        _ => Kind::Unreadable,
     }
-    kind_of(line[0], trace::numbers_after(line, end))
 }
 
 // How many words a row with C cells has.

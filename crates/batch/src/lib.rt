@@ -3,13 +3,12 @@
 
 ghost use Rattle.std.specs.Prelude.{◌≡◌, true, ◌+◌, ◌≤◌, length};
 ghost use Rattle.std.proofs.lemmas.List.Edits.{sets};
-ghost use Rattle.settings.specs.Levels.{PowersOf};
 ghost use Rattle.answers.specs.Refusals.{Meets};
 ghost use Rattle.calls.specs.Batch.{is_kind, operation_of, are_calls, calls_in, answer_words, fits, batch_lent, batch_done};
 ghost use Rattle.meaning.specs.Layer.Listed.{Listed};
 
 use answers::{Answer, Operation};
-use settings::Settings;
+use settings::Levels;
 
 const INSERT: u32 = 1;
 
@@ -77,20 +76,15 @@ pub fn fit(calls: &[u32], answers: &[u32]) -> bool
     are_calls(calls) && n <= answers.len() / WORDS_PER_ANSWER && n <= MOST_CALLS
 }
 
-// On a list with settings s: The operations 8, where the calls fit.
-pub fn batch(
-    list: &mut [u32],
-    s: Settings,
-    powers: &[u64],
-    calls: &[u32],
-    answers: &mut [u32],
-) -> Answer
-    requires { Listed list.old s × (PowersOf s powers.now × (fits calls.now answers.old ≡ true)) }
+// On a list with these settings: The operations 8, where the calls fit.
+#[tactic(auto, using(crate::proofs::Calls::fits_room))]
+pub fn batch(list: &mut [u32], levels: &Levels, calls: &[u32], answers: &mut [u32]) -> Answer
+    requires { Listed list.old levels.now.settings × (fits calls.now answers.old ≡ true) }
     ensures { Meets (batch_done (calls_in calls.now) (batch_lent list.old answers.old)) result (batch_lent list.new answers.new) }
 {
     let (whole, _) = calls.as_chunks::<WORDS_PER_CALL>();
     for (i, &[kind, key, value]) in whole.iter().enumerate() {
-        let a = operate::operate(list, s, powers, operation_of(kind, key, value));
+        let a = operate::operate(list, levels, operation_of(kind, key, value));
         put(answers, WORDS_PER_ANSWER * i, a);
     }
     answers::accepted(0, 0, whole.len() as u32)

@@ -1,26 +1,25 @@
 // Whether one standing cell is right: when it is met by a link, after the cell that was read before it, and when its links are put.
 ghost use Rattle.std.specs.Prelude.{◌≡◌, ◌≤◌, ◌<◌};
-ghost use Rattle.settings.specs.Levels.{PowersOf};
 ghost use Rattle.words.specs.Shaped.{Shaped};
 ghost use Rattle.account.specs.Tree.{follows, node_right};
 ghost use Rattle.account.specs.Loop.{alone_right, links_none, owes_nothing, owes_right};
 ghost use Rattle.cell_tests.specs.Tests.{only_link};
 
 use account::Seen;
-use settings::Settings;
+use settings::{Levels, Settings};
 
 // Whether cell y comes after cell x in key order and shares exactly e coordinates with it.
-fn cell_follows(list: &[u32], s: Settings, powers: &[u64], x: u32, y: u32, e: u32) -> bool
-    requires { Shaped list.now s × (PowersOf s powers.now × ((x < s.cells) × ((y < s.cells) × (e < s.dimensions)))) }
+fn cell_follows(list: &[u32], levels: &Levels, x: u32, y: u32, e: u32) -> bool
+    requires { Shaped list.now levels.now.settings × ((x < levels.now.settings.cells) × ((y < levels.now.settings.cells) × (e < levels.now.settings.dimensions))) }
     ensures { result ≡ follows list.now x y e }
 {
-    let before = words::word(list, s, x, words::KEY) as u64;
-    let key = words::word(list, s, y, words::KEY);
+    let before = words::word(list, levels.settings, x, words::KEY) as u64;
+    let key = words::word(list, levels.settings, y, words::KEY);
     let d = e as usize;
-    if before < steps::block_start(key, powers[d]) {
+    if before < steps::block_start(key, levels.powers[d]) {
         return false;
     }
-    before < steps::block_start(key, powers[d + 1])
+    before < steps::block_start(key, levels.powers[d + 1])
 }
 
 // Whether the key of cell y is at most K, and its mark and value are right: dead as long as the position has not been read.
@@ -113,18 +112,18 @@ pub fn owes_right(list: &[u32], s: Settings, y: u32, e: u32) -> bool
 }
 
 // Whether cell y, met by link e, is right after what has been seen, but for the path, its links and its debt.
-pub fn alone_right(list: &[u32], s: Settings, powers: &[u64], y: u32, e: u32, seen: Seen) -> bool
-    requires { Shaped list.now s × (PowersOf s powers.now × ((e < s.dimensions) × (seen.last < s.cells))) }
+pub fn alone_right(list: &[u32], levels: &Levels, y: u32, e: u32, seen: Seen) -> bool
+    requires { Shaped list.now levels.now.settings × ((e < levels.now.settings.dimensions) × (seen.last < levels.now.settings.cells)) }
     ensures { result ≡ alone_right list.now y e seen }
 {
     if seen.left == 0 {
         return false;
     }
-    if s.cells <= y {
+    if levels.settings.cells <= y {
         return false;
     }
-    if !cell_follows(list, s, powers, seen.last, y, e) {
+    if !cell_follows(list, levels, seen.last, y, e) {
         return false;
     }
-    node_right(list, s, y, seen.reached)
+    node_right(list, levels.settings, y, seen.reached)
 }

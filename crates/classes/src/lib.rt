@@ -69,6 +69,7 @@ pub fn tally(list: &[u32], s: Settings, classes: &mut [u32])
 }
 
 // Whether the record is what a full reading of the list gives.
+#[tactic(auto, using(crate::proofs::Classes::other_length, crate::proofs::Classes::words_same))]
 pub fn agree(list: &[u32], s: Settings, classes: &[u32]) -> bool
     requires { Listed list.now s }
     ensures { result ≡ agrees list.now classes.now }

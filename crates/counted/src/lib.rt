@@ -105,7 +105,7 @@ pub fn counted_insert(list: &mut [u32], classes: &mut [u32], key: u32, value: u3
         Ok(levels) => levels,
         Err(refusal) => return answers::refused(refusal),
     };
-    let answer = insert::insert(list, levels.settings, &levels.powers, key, value);
+    let answer = insert::insert(list, &levels, key, value);
     renew(list, levels.settings, classes, answer)
 }
 
@@ -117,7 +117,7 @@ pub fn counted_find(list: &[u32], classes: &[u32], key: u32) -> Answer
         Ok(levels) => levels,
         Err(refusal) => return answers::refused(refusal),
     };
-    find::find(list, levels.settings, &levels.powers, key)
+    find::find(list, &levels, key)
 }
 
 // Moves the links that a key's cell still owes; no key lives or dies by it.
@@ -128,7 +128,7 @@ pub fn counted_finish(list: &mut [u32], classes: &[u32], key: u32) -> Answer
         Ok(levels) => levels,
         Err(refusal) => return answers::refused(refusal),
     };
-    finish::finish(list, levels.settings, &levels.powers, key)
+    finish::finish(list, &levels, key)
 }
 
 // Takes the least live key.
@@ -151,7 +151,7 @@ pub fn counted_sweep(list: &mut [u32], classes: &[u32]) -> Answer
         Ok(levels) => levels,
         Err(refusal) => return answers::refused(refusal),
     };
-    sweep::sweep(list, levels.settings, &levels.powers)
+    sweep::sweep(list, &levels)
 }
 
 // Puts what a record of the logger's export notes into the list, with its full number as the value; `last` is the last full number.
@@ -168,7 +168,7 @@ pub fn counted_record(
         Err(refusal) => return answers::refused(refusal),
     };
     let logged = notes::note_by(record);
-    let answer = insert_record::insert_record(list, levels.settings, &levels.powers, logged, last);
+    let answer = insert_record::insert_record(list, &levels, logged, last);
     renew(list, levels.settings, classes, answer)
 }
 
@@ -214,7 +214,7 @@ pub fn counted_batch(
     if !batch::fit(calls, answers) {
         return answers::refused(Refusal::BadBatch);
     }
-    let answer = batch::batch(list, levels.settings, &levels.powers, calls, answers);
+    let answer = batch::batch(list, &levels, calls, answers);
     classes::tally(list, levels.settings, classes);
     answer
 }

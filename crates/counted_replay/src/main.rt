@@ -64,17 +64,14 @@ fn feed_part(
     ensures { Kept words.new bytes.new classes.new line.new result }
 {
     let mut s = state;
-    let mut i = 0;
-    while i < part.len() {
-        let byte = part[i];
-        i += 1;
-        s = feed_byte(words, bytes, last, classes, line, s, byte);
+    for byte in part {
+        s = feed_byte(words, bytes, last, classes, line, s, *byte);
     }
     s
 }
 
-// The input, in parts, to its end or to a read that fails. Nothing says that an input ends, so the turns are counted down from a number
-// that no run uses up.
+// The input, in parts, to its end or to a read that fails. Nothing says that an input ends, so the turns are counted up to a number
+// that no run reaches.
 fn read_all(
     input: &mut Stdin,
     words: &mut [u32],
@@ -94,8 +91,7 @@ fn read_all(
         },
     };
     let mut part = io::large_buffer();
-    let mut turns = u64::MAX;
-    while 0 < turns {
+    for _ in 0..u64::MAX {
         let Ok(n) = input.read(&mut part) else {
             break;
         };
@@ -103,7 +99,6 @@ fn read_all(
             break;
         }
         s = feed_part(words, bytes, last, classes, line, s, &part[..n]);
-        turns -= 1;
     }
     let ended = text::feed::finish(s.feed);
     let sizes = s.sizes;

@@ -16,7 +16,7 @@ ghost use Rattle.counted_step.specs.Printed.{Room, held_in, left_by, text_of, li
 use answers::{Answer, Operation, Refusal};
 use calls::Call;
 use text::feed::Told;
-use trace::{Kind, Numbers};
+use trace::Kind;
 
 pub const MOST_CLASSES: usize = 64;
 
@@ -60,54 +60,34 @@ fn unreadable() -> Line
 }
 
 // K, X and C with their numbers.
-fn classes_line(letter: u8, n: Numbers) -> Line
+fn classes_line(letter: u8, numbers: &[u32]) -> Line
     ensures { LineFits result }
 {
-    if !n.readable {
-        return unreadable();
+    match (letter, numbers) {
+        (b'K', [len]) if *len as usize <= MOST_CLASSES => Line::ClassWords(*len),
+        (b'X', [index, value]) => Line::ClassWord(*index, *value),
+        (b'C', [key]) => Line::Class(*key),
+        _ => unreadable(),
     }
-    if n.count == 2 {
-        if letter == b'X' {
-            return Line::ClassWord(n.values[0], n.values[1]);
-        }
-        return unreadable();
-    }
-    if n.count != 1 {
-        return unreadable();
-    }
-    if letter == b'C' {
-        return Line::Class(n.values[0]);
-    }
-    if letter == b'K' {
-        if n.values[0] as usize <= MOST_CLASSES {
-            return Line::ClassWords(n.values[0]);
-        }
-    }
-    unreadable()
 }
 
 fn is_classes_letter(letter: u8) -> bool {
-    if letter == b'K' {
-        return true;
-    }
-    if letter == b'X' {
-        return true;
-    }
-    letter == b'C'
+    matches!(letter, b'K' | b'X' | b'C')
 }
 
 // A line of at most 64 bytes. Its first field is one letter.
 fn parse(line: &[u8]) -> Line
     ensures { LineFits result }
 {
-    let end = text::fields::field_end(line, 0);
-    if end != 1 {
-        return unreadable();
+    match line {
+        [letter] | [letter, b' ', ..] if is_classes_letter(*letter) => match trace::numbers_after(
+            line, 1,
+        ) {
+            Some(numbers) => classes_line(*letter, numbers.as_slice()),
+            None => unreadable(),
+        },
+        _ => Line::Listed(trace::parse(line)),
     }
-    if is_classes_letter(line[0]) {
-        return classes_line(line[0], trace::numbers_after(line, end));
-    }
-    Line::Listed(trace::parse(line))
 }
 
 // The replay's line in a line.
@@ -131,7 +111,7 @@ fn classes_altered(classes: &mut [u32], held: usize, line: Line) -> usize
     match line {
         Line::Listed(_) => return held,
         Line::ClassWords(n) => return trace_held::buffer::resized(classes, held, n as usize),
-        Line::ClassWord(index, value) => return trace_held::buffer::put(
+        Line::ClassWord(index, value) => return trace_held::put(
             classes,
             held,
             index as usize,

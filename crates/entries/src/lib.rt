@@ -12,6 +12,27 @@ pub struct Entry {
     pub serial: u32,
 }
 
+impl Entry {
+    pub fn new(class: u32, unit: u32, serial: u32) -> Entry
+        ensures { result ≡ entry_of class unit serial }
+    {
+        Entry {
+            class,
+            unit,
+            serial,
+        }
+    }
+
+    // Entries 2. The ranges are asked for here, not kept by the type: while a record is read, only its bytes tell that class and unit are in
+    // range.
+    pub fn key(self) -> u32
+        requires { InRange self }
+        ensures { result ≡ entry_key self }
+    {
+        self.class * KEYS_PER_CLASS + self.unit * KEYS_PER_UNIT + self.serial
+    }
+}
+
 pub const LEAST_CLASS: u32 = 0;
 
 pub const MOST_CLASS: u32 = 15;
@@ -28,21 +49,3 @@ const KEYS_PER_UNIT: u32 = 4096;
 
 // A class has as many keys.
 pub const KEYS_PER_CLASS: u32 = 268435456;
-
-pub fn entry_of(class: u32, unit: u32, serial: u32) -> Entry
-    ensures { result ≡ entry_of class unit serial }
-{
-    Entry {
-        class,
-        unit,
-        serial,
-    }
-}
-
-// Entries 2.
-pub fn entry_key(e: Entry) -> u32
-    requires { InRange e }
-    ensures { result ≡ entry_key e }
-{
-    e.class * KEYS_PER_CLASS + e.unit * KEYS_PER_UNIT + e.serial
-}

@@ -49,6 +49,7 @@ fn place(n: u32, i: u32) -> usize
 }
 
 // The number that the bytes of a part are, the most significant first.
+#[tactic(auto, using(crate::proofs::Numbers::number_of_four))]
 fn number(part: &[u8]) -> u32
     requires { length part.now ≤ 4 }
     ensures { result ≡ number_on 0 part.now }
@@ -90,6 +91,7 @@ pub fn value_at(file: &[u8], n: u32, i: u32) -> u32
 }
 
 // The bytes of a number, over the bytes of a part, the most significant first.
+#[tactic(auto, using(crate::proofs::Numbers::last_of_four))]
 fn put_number(part: &mut [u8], v: u32)
     requires { length part.old ≤ 4 }
     ensures { part.new ≡ big_endian (length part.old) v }
@@ -119,6 +121,7 @@ fn settings_in(file: &[u8]) -> Option<Settings>
 }
 
 // Whether the keys of n pairs are from 1 to `largest`, each above the one before.
+#[tactic(auto, using(crate::proofs::Pairs::rising_stops_low, crate::proofs::Pairs::rising_stops_high, crate::proofs::Pairs::rising_turn, crate::proofs::Pairs::rising_ends))]
 fn keys_rise(file: &[u8], largest: u32, n: u32) -> bool
     requires { file_length n ≤ length file.now }
     ensures { result ≡ rising 0 largest (pairs_from n (drop (before n) file.now)) }
@@ -173,6 +176,7 @@ pub fn read_contents(file: &[u8]) -> Option<(Settings, u32)>
 }
 
 // A number in four bytes from place i on.
+#[tactic(auto, using(crate::proofs::Parts::part_written))]
 fn put_number_at(file: &mut [u8], i: usize, v: u32)
     requires { i + 4 ≤ length file.old }
     ensures { file.new ≡ sets file.old i (big_endian 4 v) }
@@ -181,6 +185,7 @@ fn put_number_at(file: &mut [u8], i: usize, v: u32)
 }
 
 // A body in the table of contents at place i.
+#[tactic(auto, using(crate::proofs::Written::body_written))]
 fn put_body(file: &mut [u8], i: usize, tag: u8, offset: u32, long: u32)
     requires { i + 9 ≤ length file.old }
     ensures { file.new ≡ sets file.old i (body_at tag offset long) }
@@ -191,6 +196,7 @@ fn put_body(file: &mut [u8], i: usize, tag: u8, offset: u32, long: u32)
 }
 
 // The table of contents of a file with n pairs.
+#[tactic(auto, using(crate::proofs::Written::table_written))]
 fn put_table(file: &mut [u8], n: u32)
     requires { (n < most_cells) × (entries_start ≤ length file.old) }
     ensures { file.new ≡ sets file.old 0 (table_of n) }
@@ -203,6 +209,7 @@ fn put_table(file: &mut [u8], n: u32)
 }
 
 // The settings, behind the table.
+#[tactic(auto, using(crate::proofs::Written::settings_written))]
 fn put_settings(file: &mut [u8], s: Settings)
     requires { entries_start ≤ length file.old }
     ensures { file.new ≡ sets file.old settings_start (settings_body s) }
@@ -223,6 +230,7 @@ pub fn write_front(file: &mut [u8], s: Settings, n: u32)
 }
 
 // Pair i of n.
+#[tactic(auto, using(crate::proofs::Written::pair_written))]
 pub fn write_pair(file: &mut [u8], n: u32, i: u32, key: u32, value: u32)
     requires { place n (i + 1) ≤ length file.old }
     ensures { file.new ≡ sets file.old (place n i) (pair_bytes (record { key = key; value = value } ∷ [])) }

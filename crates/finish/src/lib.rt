@@ -2,7 +2,6 @@
 #![tactic(auto)]
 
 ghost use Rattle.std.specs.Prelude.{◌≡◌, ◌-◌, ◌≤◌, ◌<◌};
-ghost use Rattle.settings.specs.Levels.{PowersOf};
 ghost use Rattle.answers.specs.Refusals.{Meets};
 ghost use Rattle.meaning.specs.Operations.{finish_out};
 ghost use Rattle.meaning.specs.Layer.Stores.{move_links, clear_debt, finish_words};
@@ -11,9 +10,10 @@ ghost use Rattle.words.specs.Shaped.{Shaped};
 ghost use Rattle.finish.specs.Payable.{Payable};
 
 use answers::{Answer, Refusal};
-use settings::Settings;
+use settings::{Levels, Settings};
 
 // Links low to high-1 move from cell c to cell n.
+#[tactic(auto, using(crate::proofs::Finishing::move_more, crate::proofs::Finishing::move_all))]
 fn move_links(list: &mut [u32], s: Settings, n: u32, c: u32, low: u32, high: u32)
     requires { Shaped list.old s × ((n < s.cells) × ((c < s.cells) × (high ≤ s.dimensions))) }
     ensures { (list.new ≡ move_links s.dimensions list.old n c low (high - low)) × Shaped list.new s }
@@ -36,6 +36,7 @@ fn clear_debt(list: &mut [u32], s: Settings, n: u32)
 }
 
 // What cell n owes is finished.
+#[tactic(auto, unfolding(meaning::specs::Layer::Stores::finish_words))]
 pub fn finish_cell(list: &mut [u32], s: Settings, n: u32)
     requires { Shaped list.old s × Payable list.old s n }
     ensures { (list.new ≡ finish_words s.dimensions list.old n) × Shaped list.new s }
@@ -50,19 +51,20 @@ pub fn finish_cell(list: &mut [u32], s: Settings, n: u32)
     clear_debt(list, s, n);
 }
 
-// On a list with settings s: The operations 4.
-pub fn finish(list: &mut [u32], s: Settings, powers: &[u64], key: u32) -> Answer
-    requires { Listed list.old s × PowersOf s powers.now }
+// On a list with these settings: The operations 4.
+pub fn finish(list: &mut [u32], levels: &Levels, key: u32) -> Answer
+    requires { Listed list.old levels.now.settings }
     ensures { Meets (finish_out list.old key) result list.new }
 {
-    if !s.has_key(key) {
+    if !levels.settings.has_key(key) {
         return answers::refused(Refusal::BadKey);
     }
-    let f = search::search(list, s, powers, key);
+    let f = search::search(list, levels, key);
     if !f.standing {
         return answers::refused(Refusal::KeyNotStanding(key));
     }
-    let moved = words::word(list, s, f.c, words::HIGH) - words::word(list, s, f.c, words::LOW);
-    finish_cell(list, s, f.c);
+    let moved = words::word(list, levels.settings, f.c, words::HIGH)
+        - words::word(list, levels.settings, f.c, words::LOW);
+    finish_cell(list, levels.settings, f.c);
     answers::accepted(key, 0, moved)
 }

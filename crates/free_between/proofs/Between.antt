@@ -36,8 +36,8 @@ module _ {ws : List ℕ} {s : Settings} {x : ℕ} (k : Keyed ws s x) {powers : L
   zero_last h more =
       omega (arith, upto, (shared_zeros s.base s.dimensions (key_at ws x) (suc d) k.base k.fits h).1 (omega (arith, more, is, level h)))
 
-  pub zero_all : s.dimensions ≤ d → d ≡ zeros_of ws s x
-  zero_all h = omega (arith, shared_le s.base s.dimensions 0 (key_at ws x))
+  pub zero_all : s.dimensions ≤ d → s.dimensions ≡ zeros_of ws s x
+  zero_all h = omega (arith, upto, shared_le s.base s.dimensions 0 (key_at ws x))
 
 -- Links taken from a path's cells
 
@@ -104,26 +104,21 @@ freed D ws x e =
 
 -- Chained cells
 
-module _ {ws : List ℕ} {s : Settings} (h : Shaped ws s) (x n : ℕ) (some : 0 < n) where
-  one_less : n ≡ suc (n - 1)
-  one_less = omega arith
-
+module _ {ws : List ℕ} {s : Settings} (h : Shaped ws s) (x n left : ℕ) (more : n ≡ suc left) where
   pub chain_first : ChainIn s ws x n → x < s.cells
-  chain_first c = (subst (ChainIn s ws x) one_less c).0
+  chain_first c = (subst (ChainIn s ws x) more c).0
 
   module _ {next : ℕ} {after : List ℕ} (e : next ≡ word_at ws x 1) (frees : after ≡ free_cell s.dimensions ws x) where
     next_is : next ≡ get_or ws (word_index s.dimensions x 1) 0
     next_is = e ∙ sym (word_is h x 1 refl)
 
-    pub chain_rest : ChainIn s ws x n → ChainIn s after next (n - 1)
-    chain_rest c = rw (frees, next_is) (subst (ChainIn s ws x) one_less c).1
+    pub chain_rest : ChainIn s ws x n → ChainIn s after next left
+    chain_rest c = rw (frees, next_is) (subst (ChainIn s ws x) more c).1
 
-    pub chained_more : free_chained s.dimensions ws x n ≡ free_chained s.dimensions after next (n - 1)
+    pub chained_more : free_chained s.dimensions ws x n ≡ free_chained s.dimensions after next left
     unfolding free_chained
-    chained_more = rw (frees, next_is) (ap (free_chained s.dimensions ws x) one_less)
+    chained_more = rw (frees, next_is) (ap (free_chained s.dimensions ws x) more)
 
-pub chained_none : (D : ℕ) (ws : List ℕ) (x : ℕ) {n : ℕ} → n ≤ 0 → free_chained D ws x n ≡ ws
+pub chained_none : (D : ℕ) (ws : List ℕ) (x : ℕ) {n : ℕ} → n ≡ 0 → free_chained D ws x n ≡ ws
 unfolding free_chained
-chained_none D ws x {n} h =
-    let none : n ≡ 0 = omega arith in
-    ap (free_chained D ws x) none
+chained_none D ws x none = ap (free_chained D ws x) none

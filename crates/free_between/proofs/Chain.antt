@@ -24,8 +24,8 @@ use Rattle.meaning.proofs.Cells.Stores.{Exact, word_in, index_apart, index_above
 use Rattle.meaning.proofs.Written.SweepStores.{Dropping, exact_taken, take_links-other, exact_relinked, relink_head-cell}
 use Rattle.meaning.proofs.Written.SweepStores.{exact_freed, free_cell-own, free_cell-cell}
 use Rattle.words.proofs.Listed.{listed_shaped}
-use Rattle.paths.specs.declared.Path.{Path}
-use Rattle.paths.specs.Paths.{path_of, Formed}
+use Rattle.paths.specs.declared.path.Path.{Path}
+use Rattle.paths.specs.Paths.{path_of, Onward}
 use Rattle.free_between.specs.declared.Target.{Target}
 use Rattle.free_between.specs.Between.{Droppable, zeros_of, freed_cells, chain_values, free_chained, ChainIn, CellsChained}
 use Rattle.free_between.proofs.Drops.{drops}
@@ -238,6 +238,5 @@ module _ {ws : List ℕ} {s : Settings} {t : Target} (d : Droppable ws s t) {z f
 
 -- the path of a cell that hangs from the head by link z
 pub head_redrawn :
-    {D : ℕ} {head : Path} → path_of head ≡ replicate D 0 → Formed D head → (z x : ℕ) {way : List ℕ} → way ≡ onward head.used (path_of head) z x →
-    way ≡ onward D (replicate D 0) z x
-head_redrawn is f z x e = e ∙ ap₂ (λ n p. onward n p z x) f.used is
+    {D z x : ℕ} {head way : Path} → path_of head ≡ replicate D 0 → head.used ≡ D → Onward head z x way → path_of way ≡ onward D (replicate D 0) z x
+head_redrawn {z = z} {x = x} is used o = o.way ∙ ap₂ (λ n p. onward n p z x) used is

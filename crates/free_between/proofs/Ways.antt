@@ -20,12 +20,12 @@ use Rattle.meaning.proofs.Rows.Parent.{Apart, apart_before}
 use Rattle.meaning.proofs.Kept.Slot.{sound_apart}
 use Rattle.meaning.proofs.Written.SweepWords.{swept_front}
 use Rattle.words.proofs.Listed.{listed_picture, on_listed, listed_shaped}
-use Rattle.paths.specs.declared.Path.{Path}
-use Rattle.paths.specs.declared.Reached.{Reached}
-use Rattle.paths.specs.Paths.{path_of, PathIn, Walkable, NextIs}
+use Rattle.paths.specs.declared.path.Path.{Path}
+use Rattle.paths.specs.declared.NextCell.{NextCell}
+use Rattle.paths.specs.Paths.{path_of, PathIn, Walkable, NoneNext, NextAt, NextWith}
 use Rattle.paths.proofs.Alike.{value_next, value_walkable}
 use Rattle.paths.proofs.Listed.{listed_walkable}
-use Rattle.paths.proofs.Ways.{head_starts, MovesTo, moves_to}
+use Rattle.paths.proofs.Ways.{head_starts, MovesTo, moves_to, moves_end}
 use Rattle.free_between.specs.Between.{freed_cells, kept_nodes, LastDead, FirstFreed, chain_values, CellsChained}
 
 abbrev cells_of : List Node → List ℕ
@@ -34,14 +34,21 @@ cells_of nodes = map (λ y. y.cell) nodes
 -- Up to the new position
 
 -- a move to the first of the others that are to be freed
-record MovesBefore (ws : List ℕ) (front others : List Node) (r : Reached) : Type 0 where
+record MovesBefore (ws : List ℕ) (s : Settings) (path : List ℕ) (front others : List Node) (r : NextCell) : Type 0 where
   node : Node
   rest : List Node
   next : others ≡ node ∷ rest
-  to : MovesTo (read ws) ws front node (rest ++ kept_nodes ws) r
+  to : MovesTo (read ws) ws s path front node (rest ++ kept_nodes ws) r
 
-module _ {ws : List ℕ} {s : Settings} {x : ℕ} (d : LastDead ws s x) {p : Path} {r : Reached} (n : NextIs ws s p r) {front : List Node} where
-  upto_end : (others : List Node) → PathOf (read ws) (path_of p) front (others ++ kept_nodes ws) → r.cell ≡ x → others ≡ []
+-- the way does not end before it
+upto_never :
+    {ws : List ℕ} {s : Settings} {x : ℕ} → LastDead ws s x → {path : List ℕ} → NoneNext ws s path → {front : List Node} (others : List Node) →
+    PathOf (read ws) path front (others ++ kept_nodes ws) → ⊥
+upto_never {ws} d none [] w = cc (moves_end d.listed none (kept_nodes ws) w)
+upto_never {ws} d none (y ∷ others) w = cc (moves_end d.listed none (y ∷ (others ++ kept_nodes ws)) w)
+
+module _ {ws : List ℕ} {s : Settings} {x : ℕ} (d : LastDead ws s x) {path : List ℕ} {r : NextCell} (n : NextAt ws s path r) {front : List Node} where
+  upto_end : (others : List Node) → PathOf (read ws) path front (others ++ kept_nodes ws) → r.cell ≡ x → others ≡ []
   upto_end [] w e = refl
   upto_end (y ∷ others) w e =
       let last = last_of (dead_front (read ws).row) in
@@ -50,7 +57,7 @@ module _ {ws : List ℕ} {s : Settings} {x : ℕ} (d : LastDead ws s x) {p : Pat
       let others-differ = (apart_before (head_node ∷ (front ++ y ∷ others)) last (from_live (read ws).row) apart).1 in
       absurd (all_at (λ z. z.cell ≡ last.cell → ⊥) front y others others-differ (sym (moves_to d.listed n w).cell ∙ e ∙ d.is))
 
-  upto_on : (others : List Node) → PathOf (read ws) (path_of p) front (others ++ kept_nodes ws) → (r.cell ≡ x → ⊥) → MovesBefore ws front others r
+  upto_on : (others : List Node) → PathOf (read ws) path front (others ++ kept_nodes ws) → (r.cell ≡ x → ⊥) → MovesBefore ws s path front others r
   upto_on [] w ne = absurd (ne ((moves_to d.listed n w).cell ∙ sym d.is))
   upto_on (y ∷ others) w ne = record { node = y; rest = others; next = refl; to = moves_to d.listed n w }
 
@@ -102,9 +109,12 @@ module _ {before ws : List ℕ} {s : Settings} {x first : ℕ} {start p : Path} 
   pub chaining_room : count < s.cells
   chaining_room = omega (arith, k.number, freed_room f.dead.listed)
 
-  module _ {r : Reached} (n : NextIs ws s p r) where
-    as_before : NextIs before s p r
-    as_before = record { is = sym (k.same (path_of p)) ∙ n.is; way = n.way; below = n.below; path_in = n.path_in }
+  pub chaining_never : NoneNext ws s (path_of p) → ⊥
+  chaining_never none = upto_never f.dead (sym (k.same (path_of p)) ∙ none) k.others k.on_way
+
+  module _ {r : NextCell} {q : Path} (n : NextWith ws s p r q) where
+    as_before : NextAt before s (path_of p) r
+    as_before = record { is = sym (k.same (path_of p)) ∙ n.at.is; other = n.at.other; below = n.at.below; number = n.at.number }
 
     pub chaining_end : r.cell ≡ x → CellsChained before s count ws
     unfolding chain_values
@@ -118,7 +128,7 @@ module _ {before ws : List ℕ} {s : Settings} {x first : ℕ} {start p : Path} 
 
     pub chaining_onward :
         (r.cell ≡ x → ⊥) → {after : List ℕ} → after ≡ store s.dimensions ws last 1 r.cell →
-        Chaining before after s r.path r.cell (count + 1)
+        Chaining before after s q r.cell (count + 1)
     unfolding chain_values
     chaining_onward ne written =
         let on = upto_on f.dead as_before k.others k.on_way ne in
@@ -126,9 +136,9 @@ module _ {before ws : List ℕ} {s : Settings} {x first : ℕ} {start p : Path} 
         (record {
           front = k.front ++ (on.node ∷ []);
           others = on.rest;
-          on_way = on.to.on_way;
+          on_way = on.to.way n.way;
           path_in = n.path_in;
-          below = n.below;
+          below = n.at.below;
           walkable = value_walkable k.walkable last r.cell;
           same = λ path. value_next k.walkable.shaped last r.cell path ∙ k.same path;
           words =
@@ -140,33 +150,36 @@ module _ {before ws : List ℕ} {s : Settings} {x first : ℕ} {start p : Path} 
 
 -- From the head: the first cell is the first of the chain
 
-module _ {ws : List ℕ} {s : Settings} {x : ℕ} (d : LastDead ws s x) {p : Path} (is : path_of p ≡ replicate s.dimensions 0) {r : Reached}
-    (n : NextIs ws s p r) where
+module _ {ws : List ℕ} {s : Settings} {x : ℕ} (d : LastDead ws s x) (p : Path) (is : path_of p ≡ replicate s.dimensions 0) where
   from_head : PathOf (read ws) (path_of p) [] (freed_by (read ws).row ++ kept_nodes ws)
   from_head = record { split = swept_front (read ws).row (λ e. d.other (d.is ∙ e)); is = (head_starts d.listed is).is }
 
-  pub between_none : r.cell ≡ x → CellsChained ws s 0 ws × (0 ≡ first_number (freed_cells ws))
-  unfolding chain_values
-  between_none e =
-      let none : [] ≡ freed_cells ws = ap cells_of (sym (upto_end d n (freed_by (read ws).row) from_head e)) in
-      (record { words = ap (chain_values s.dimensions ws) none; count = ap length none; shaped = listed_shaped d.listed }, ap first_number none)
+  pub between_never : NoneNext ws s (path_of p) → ⊥
+  between_never none = upto_never d none (freed_by (read ws).row) from_head
 
-  module _ (ne : r.cell ≡ x → ⊥) where
-    on : MovesBefore ws [] (freed_by (read ws).row) r
-    on = upto_on d n (freed_by (read ws).row) from_head ne
+  module _ {r : NextCell} {q : Path} (n : NextWith ws s p r q) where
+    pub between_none : r.cell ≡ x → CellsChained ws s 0 ws × (0 ≡ first_number (freed_cells ws))
+    unfolding chain_values
+    between_none e =
+        let none : [] ≡ freed_cells ws = ap cells_of (sym (upto_end d n.at (freed_by (read ws).row) from_head e)) in
+        (record { words = ap (chain_values s.dimensions ws) none; count = ap length none; shaped = listed_shaped d.listed }, ap first_number none)
 
-    pub between_first : FirstFreed ws s x r.cell r.path
-    between_first =
-        record {
-          dead = d;
-          node = on.node;
-          others = on.rest;
-          freed = on.next;
-          cell = on.to.cell;
-          below = n.below;
-          on_way = on.to.on_way;
-          path_in = n.path_in;
-        }
+    module _ (ne : r.cell ≡ x → ⊥) where
+      on : MovesBefore ws s (path_of p) [] (freed_by (read ws).row) r
+      on = upto_on d n.at (freed_by (read ws).row) from_head ne
 
-    pub between_some : r.cell ≡ first_number (freed_cells ws)
-    between_some = on.to.cell ∙ ap (λ o. first_number (cells_of o)) (sym on.next)
+      pub between_first : FirstFreed ws s x r.cell q
+      between_first =
+          record {
+            dead = d;
+            node = on.node;
+            others = on.rest;
+            freed = on.next;
+            cell = on.to.cell;
+            below = n.at.below;
+            on_way = on.to.way n.way;
+            path_in = n.path_in;
+          }
+
+      pub between_some : r.cell ≡ first_number (freed_cells ws)
+      between_some = on.to.cell ∙ ap (λ o. first_number (cells_of o)) (sym on.next)

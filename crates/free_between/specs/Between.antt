@@ -12,7 +12,7 @@ use Rattle.meaning.specs.Layer.Paths.{PathOf, dimension_in}
 use Rattle.meaning.specs.Layer.Stores.{store}
 use Rattle.meaning.specs.Layer.SweepStores.{free_cell}
 use Rattle.words.specs.Shaped.{Shaped}
-use Rattle.paths.specs.declared.Path.{Path}
+use Rattle.paths.specs.declared.path.Path.{Path}
 use Rattle.paths.specs.Paths.{path_of, PathIn}
 use Rattle.free_between.specs.declared.Target.{Target}
 

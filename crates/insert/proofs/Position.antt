@@ -24,7 +24,7 @@ use Rattle.search.specs.Found.{Sought}
 use Rattle.search.specs.declared.Found.{Found}
 use Rattle.search.proofs.Lowering.{lower_found}
 use Rattle.paths.specs.Paths.{path_of, StandsIn, StandsInSome, CellPath}
-use Rattle.paths.specs.declared.Path.{Path}
+use Rattle.paths.specs.declared.path.Path.{Path}
 use Rattle.insert.specs.Inserting.{Ending, EndsInSome, PathWritten}
 
 -- the last word of path is a cell, and that cell's key is the position's

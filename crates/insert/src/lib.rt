@@ -5,7 +5,6 @@
 ghost use Rattle.std.specs.Prelude.{◌≡◌, true, false, ◌<◌, get_or};
 ghost use Rattle.meaning.specs.State.{position_key};
 ghost use Rattle.meaning.specs.Reading.{read};
-ghost use Rattle.settings.specs.Levels.{PowersOf};
 ghost use Rattle.answers.specs.Refusals.{Meets};
 ghost use Rattle.meaning.specs.Operations.{position_after, insert_out};
 ghost use Rattle.meaning.specs.Words.{mark_at};
@@ -20,7 +19,7 @@ ghost use Rattle.insert.specs.Inserting.{EndsInSome, PathWritten, ComesLast};
 use answers::{Answer, Refusal};
 use meaning::Slot;
 use search::Found;
-use settings::Settings;
+use settings::{Levels, Settings};
 
 // The key of the position's cell.
 fn position_key(list: &[u32], s: Settings) -> u32
@@ -43,27 +42,27 @@ fn position_after(list: &[u32], s: Settings, top: u32, key: u32, f: Found) -> u3
 }
 
 // The path of the position after the call, cell x, is written; a key above the position's key before the call, which is `top`, changes none.
-fn move_position(list: &mut [u32], s: Settings, powers: &[u64], top: u32, key: u32, x: u32)
-    requires { (Shaped list.old s × EndsInSome list.old s top key x) × PowersOf s powers.now }
-    ensures { PathWritten list.old list.new s top key x }
+fn move_position(list: &mut [u32], levels: &Levels, top: u32, key: u32, x: u32)
+    requires { Shaped list.old levels.now.settings × EndsInSome list.old levels.now.settings top key x }
+    ensures { PathWritten list.old list.new levels.now.settings top key x }
 {
     if top < key {
         return;
     }
-    let path = paths::path_of(list, s, powers, x);
-    paths::write_path(list, s, path);
+    let path = paths::path_of(list, levels, x);
+    paths::write_path(list, levels.settings, path);
 }
 
 // The operations 2: a dead key is revived.
-fn revive(list: &mut [u32], s: Settings, powers: &[u64], f: Found, key: u32, value: u32)
-    requires { (Sought list.old s key f × ((f.standing ≡ true) × (mark_at list.old f.c ≡ 1 → ⊥))) × PowersOf s powers.now }
+fn revive(list: &mut [u32], levels: &Levels, f: Found, key: u32, value: u32)
+    requires { Sought list.old levels.now.settings key f × ((f.standing ≡ true) × (mark_at list.old f.c ≡ 1 → ⊥)) }
     ensures { list.new ≡ (insert_out list.old key value).left }
 {
-    let top = position_key(list, s);
-    let position = position_after(list, s, top, key, f);
-    words::store(list, s, f.c, words::VALUE, value);
-    words::store(list, s, f.c, words::MARK, words::LIVE);
-    move_position(list, s, powers, top, key, position);
+    let top = position_key(list, levels.settings);
+    let position = position_after(list, levels.settings, top, key, f);
+    words::store(list, levels.settings, f.c, words::VALUE, value);
+    words::store(list, levels.settings, f.c, words::MARK, words::LIVE);
+    move_position(list, levels, top, key, position);
 }
 
 // Finishes what the parent owes, then what c owes, and nothing else.
@@ -90,12 +89,12 @@ fn hang(list: &mut [u32], s: Settings, t: Slot, key: u32, value: u32)
 }
 
 // A new cell n, the first free one, in the slot that was found.
-fn add(list: &mut [u32], s: Settings, powers: &[u64], n: u32, f: Found, key: u32, value: u32)
-    requires { (Sought list.old s key f × ((f.standing ≡ false) × ((n ≡ get_or list.old 4 0) × (0 < n)))) × PowersOf s powers.now }
+fn add(list: &mut [u32], levels: &Levels, n: u32, f: Found, key: u32, value: u32)
+    requires { Sought list.old levels.now.settings key f × ((f.standing ≡ false) × ((n ≡ get_or list.old 4 0) × (0 < n))) }
     ensures { list.new ≡ (insert_out list.old key value).left }
 {
-    let top = position_key(list, s);
-    let position = position_after(list, s, top, key, f);
+    let top = position_key(list, levels.settings);
+    let position = position_after(list, levels.settings, top, key, f);
     let t = Slot {
         n,
         parent: f.parent,
@@ -103,9 +102,9 @@ fn add(list: &mut [u32], s: Settings, powers: &[u64], n: u32, f: Found, key: u32
         c: f.c,
         q: f.q,
     };
-    finish_neighbours(list, s, t);
-    hang(list, s, t, key, value);
-    move_position(list, s, powers, top, key, position);
+    finish_neighbours(list, levels.settings, t);
+    hang(list, levels.settings, t, key, value);
+    move_position(list, levels, top, key, position);
 }
 
 // A new cell n, the first free one, for a key of which it is known without a search that no cell has its slot, that its parent owes nothing
@@ -125,55 +124,41 @@ pub fn add_last(list: &mut [u32], s: Settings, n: u32, parent: u32, p: u32, key:
 }
 
 // A key that stands: refused if it is live.
-fn insert_standing(
-    list: &mut [u32],
-    s: Settings,
-    powers: &[u64],
-    f: Found,
-    key: u32,
-    value: u32,
-) -> Answer
-    requires { (Sought list.old s key f × (f.standing ≡ true)) × PowersOf s powers.now }
+fn insert_standing(list: &mut [u32], levels: &Levels, f: Found, key: u32, value: u32) -> Answer
+    requires { Sought list.old levels.now.settings key f × (f.standing ≡ true) }
     ensures { Meets (insert_out list.old key value) result list.new }
 {
-    if words::word(list, s, f.c, words::MARK) == words::LIVE {
+    if words::word(list, levels.settings, f.c, words::MARK) == words::LIVE {
         return answers::refused(Refusal::KeyLive(key, f.looked));
     }
-    revive(list, s, powers, f, key, value);
+    revive(list, levels, f, key, value);
     answers::accepted(key, 0, f.looked)
 }
 
 // A key that does not stand: refused if there is no free cell.
-fn insert_new(
-    list: &mut [u32],
-    s: Settings,
-    powers: &[u64],
-    f: Found,
-    key: u32,
-    value: u32,
-) -> Answer
-    requires { (Sought list.old s key f × (f.standing ≡ false)) × PowersOf s powers.now }
+fn insert_new(list: &mut [u32], levels: &Levels, f: Found, key: u32, value: u32) -> Answer
+    requires { Sought list.old levels.now.settings key f × (f.standing ≡ false) }
     ensures { Meets (insert_out list.old key value) result list.new }
 {
     let n = list[words::FIRST_FREE];
     if n == 0 {
         return answers::refused(Refusal::NoFreeCell(key, f.looked));
     }
-    add(list, s, powers, n, f, key, value);
+    add(list, levels, n, f, key, value);
     answers::accepted(key, 0, f.looked)
 }
 
-// On a list with settings s: The operations 2.
-pub fn insert(list: &mut [u32], s: Settings, powers: &[u64], key: u32, value: u32) -> Answer
-    requires { Listed list.old s × PowersOf s powers.now }
+// On a list with these settings: The operations 2.
+pub fn insert(list: &mut [u32], levels: &Levels, key: u32, value: u32) -> Answer
+    requires { Listed list.old levels.now.settings }
     ensures { Meets (insert_out list.old key value) result list.new }
 {
-    if !s.has_key(key) {
+    if !levels.settings.has_key(key) {
         return answers::refused(Refusal::BadKey);
     }
-    let f = search::search(list, s, powers, key);
+    let f = search::search(list, levels, key);
     if f.standing {
-        return insert_standing(list, s, powers, f, key, value);
+        return insert_standing(list, levels, f, key, value);
     }
-    insert_new(list, s, powers, f, key, value)
+    insert_new(list, levels, f, key, value)
 }

@@ -346,7 +346,7 @@ pub record Reading (ws : List ℕ) (s : Settings) (start : Seen) (cells numbers 
   pub within : SeenWithin s seen
   pub same : verdict (left_over ws 0 0 0 0 [] start) ≡ verdict (left_over ws before seen.last e from (pending_of cells numbers count) seen)
 
-pub reading_starts : {ws : List ℕ} {s : Settings} {powers : List ℕ} {start : Seen} → Started ws s powers start → (cells numbers : List ℕ) → length cells ≡ 16 → length numbers ≡ 16 →
+pub reading_starts : {ws : List ℕ} {s : Settings} {start : Seen} → Started ws s start → (cells numbers : List ℕ) → length cells ≡ 16 → length numbers ≡ 16 →
     Reading ws s start cells numbers 0 0 0 start
 reading_starts {ws} {s} {start = start} k cells numbers hc hn =
     record {

@@ -1,6 +1,5 @@
 -- Parts of the account on the words that have a function of their own, and what the one loop over the standing cells keeps and promises.
 use Rattle.std.specs.Prelude.{◌≡◌, true, cond, ◌&&◌, List, [], ◌∷◌, ℕ, zero, suc, ◌-◌, ◌≤◌, ◌<◌, eqb, length, get_or, None, Option, Some}
-use Rattle.settings.specs.Levels.{PowersOf}
 use Rattle.settings.specs.declared.Settings.{Settings}
 use Rattle.meaning.specs.Reading.{settings_at}
 use Rattle.meaning.specs.Words.{owed_at, high_at, link_at}
@@ -64,9 +63,8 @@ pub record NextIs (ws : List ℕ) (s : Settings) (y e from : ℕ) (pending : Lis
   pub goes : (w : Way) → r ≡ Goes w → GoesOn ws s y e from pending w cells numbers
 
 -- where the loop starts: at a head that owes nothing
-pub record Started (ws : List ℕ) (s : Settings) (powers : List ℕ) (start : Seen) : Type 0 where
+pub record Started (ws : List ℕ) (s : Settings) (start : Seen) : Type 0 where
   pub shaped : Shaped ws s
-  pub levels : PowersOf s powers
   pub within : SeenWithin s start
   pub right : start.right ≡ true
   pub head : start.last ≡ 0

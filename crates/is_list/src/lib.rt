@@ -3,7 +3,6 @@
 #![tactic(auto)]
 
 ghost use Rattle.std.specs.Prelude.{◌≡◌, Some};
-ghost use Rattle.settings.specs.Levels.{PowersOf};
 ghost use Rattle.meaning.specs.Reading.{is_list};
 ghost use Rattle.is_list.specs.Standing.{header_of};
 ghost use Rattle.is_list.specs.Verdict.{Decided};
@@ -40,26 +39,26 @@ fn header(list: &[u32]) -> Option<Settings>
     Some(s)
 }
 
-// Whether words with the header of a list with settings s are a list, by the tests of their cells.
-fn cells_right(list: &[u32], s: Settings, powers: &[u64]) -> bool
-    requires { (header_of list.now ≡ Some s) × PowersOf s powers.now }
+// Whether words with the header of a list with these settings are a list, by the tests of their cells.
+fn cells_right(list: &[u32], levels: &Levels) -> bool
+    requires { header_of list.now ≡ Some levels.now.settings }
     ensures { result ≡ is_list list.now }
 {
-    if !cell_tests::head::head_right(list, s) {
+    if !cell_tests::head::head_right(list, levels.settings) {
         return false;
     }
-    let start = standing::at_head(list, s);
+    let start = standing::at_head(list, levels.settings);
     if !start.right {
         return false;
     }
-    let seen = standing::read(list, s, powers, start);
+    let seen = standing::read(list, levels, start);
     if !seen.right {
         return false;
     }
     if !seen.reached {
         return false;
     }
-    free::chain_right(list, s, seen.left, list[words::FIRST_FREE])
+    free::chain_right(list, levels.settings, seen.left, list[words::FIRST_FREE])
 }
 
 // The levels of the list that the lent words are; none where they are no list. The check needs them, and the call is lent them.
@@ -67,7 +66,7 @@ pub fn is_list(list: &[u32]) -> Option<Levels>
     ensures { Decided list.now result }
 {
     let levels = Levels::of(header(list)?);
-    if cells_right(list, levels.settings, &levels.powers) {
+    if cells_right(list, &levels) {
         Some(levels)
     } else {
         None

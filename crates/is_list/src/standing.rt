@@ -1,7 +1,6 @@
 // The standing cells, read in ascending order of keys from the head on, in one loop, with the path's words beside the way down. The links that are
 // still to be followed are kept pending, at most one of each number: the next cell is where the one of the highest number leads.
 ghost use Rattle.std.specs.Prelude.{◌≡◌, [], ◌-◌, ◌≤◌, ◌<◌};
-ghost use Rattle.settings.specs.Levels.{PowersOf};
 ghost use Rattle.meaning.specs.Words.{link_at};
 ghost use Rattle.words.specs.Shaped.{Shaped};
 ghost use Rattle.account.specs.Tree.{at_head};
@@ -13,7 +12,7 @@ ghost use Rattle.is_list.specs.Standing.{SeenWithin, Entered, pending_of, Pendin
 use super::path;
 use account::Seen;
 use cell_tests::standing;
-use settings::Settings;
+use settings::{Levels, Settings};
 
 // Where to go on: the cell that a pending link leads to and the link's number, the least number by which that cell may have a link, and how
 // many links are pending then.
@@ -68,11 +67,11 @@ fn wrong(seen: Seen) -> Seen
 
 // What has been seen once cell y is met by link e. Past the position the path is no longer compared.
 #[tactic(auto, using(crate::proofs::InOrder::enter_cases, words::proofs::Shaped::shaped_dimensions, cell_tests::proofs::OneCell::alone))]
-fn enter(list: &[u32], s: Settings, powers: &[u64], y: u32, e: u32, seen: Seen) -> Seen
-    requires { Shaped list.now s × (PowersOf s powers.now × ((e < s.dimensions) × SeenWithin s seen)) }
-    ensures { Entered list.now s y e seen result }
+fn enter(list: &[u32], levels: &Levels, y: u32, e: u32, seen: Seen) -> Seen
+    requires { Shaped list.now levels.now.settings × ((e < levels.now.settings.dimensions) × SeenWithin levels.now.settings seen) }
+    ensures { Entered list.now levels.now.settings y e seen result }
 {
-    if !standing::alone_right(list, s, powers, y, e, seen) {
+    if !standing::alone_right(list, levels, y, e, seen) {
         return wrong(seen);
     }
     let met = Seen {
@@ -84,9 +83,9 @@ fn enter(list: &[u32], s: Settings, powers: &[u64], y: u32, e: u32, seen: Seen) 
     if seen.reached {
         return met;
     }
-    let agreed = path::agreed_at(list, s, y, e, seen.agreed);
-    if y == words::position(list, s) {
-        if agreed != s.dimensions {
+    let agreed = path::agreed_at(list, levels.settings, y, e, seen.agreed);
+    if y == words::position(list, levels.settings) {
+        if agreed != levels.settings.dimensions {
             return wrong(seen);
         }
         return Seen {
@@ -182,8 +181,8 @@ fn go_on(
 }
 
 // What has been seen when all standing cells have been read, from what has been seen at the head on.
-pub fn read(list: &[u32], s: Settings, powers: &[u64], start: Seen) -> Seen
-    requires { Started list.now s powers.now start }
+pub fn read(list: &[u32], levels: &Levels, start: Seen) -> Seen
+    requires { Started list.now levels.now.settings start }
     ensures { verdict result ≡ verdict (left_over list.now 0 0 0 0 [] start) }
 {
     let mut cells = [0u32; 16];
@@ -193,12 +192,21 @@ pub fn read(list: &[u32], s: Settings, powers: &[u64], start: Seen) -> Seen
     let mut from: u32 = 0;
     let mut seen = start;
     loop {
-        let goes = go_on(list, s, seen.last, e, from, &mut cells, &mut numbers, count);
+        let goes = go_on(
+            list,
+            levels.settings,
+            seen.last,
+            e,
+            from,
+            &mut cells,
+            &mut numbers,
+            count,
+        );
         match goes {
             Next::Wrong => return wrong(seen),
             Next::End => return seen,
             Next::Goes(w) => {
-                seen = enter(list, s, powers, w.cell, w.number, seen);
+                seen = enter(list, levels, w.cell, w.number, seen);
                 e = w.number;
                 from = w.from;
                 count = w.count;

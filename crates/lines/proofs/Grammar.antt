@@ -18,16 +18,10 @@ use Rattle.entries.specs.Entries.{least_class, most_class, least_unit, most_unit
 use Rattle.entries.specs.declared.Entry.{Entry}
 use Rattle.entries.proofs.Ranges.{entry_in_range}
 use Rattle.lines.specs.Grammar.{is_value, least_value, most_value, readable, insert_fields, entry_fields, no_fields, kind_of, parsed_of, KindInRange}
-use Rattle.lines.specs.Answers.{fields_after, first_number, first_entry, NumberAfter, EntryAfter}
+use Rattle.lines.specs.Answers.{fields_after, first_number, first_entry, ReadAfter}
 use Rattle.lines.specs.declared.Kind.{Kind}
-use Rattle.lines.specs.declared.Kind.TheVariants.{Insert, Find, Finish, Take, Sweep}
 use Rattle.lines.specs.declared.Line.{Line}
-use Rattle.lines.specs.declared.Parsed.{Parsed}
-use Rattle.lines.specs.declared.Parsed.TheVariants.{Readable, Unreadable}
-use Rattle.lines.specs.declared.NumberRead.{NumberRead}
-use Rattle.lines.specs.declared.NumberRead.TheVariants.{Number, NoNumber}
-use Rattle.lines.specs.declared.EntryRead.{EntryRead}
-use Rattle.lines.specs.declared.EntryRead.TheVariants.{Fields, NoEntry}
+use Rattle.lines.specs.declared.Kind.TheVariants.{Insert, Find, Finish, Take, Sweep}
 
 -- The fields that are left
 
@@ -56,7 +50,8 @@ field_from {line} {start} {end} ends = at_test (ltb end (length line)) refl
 -- Numbers
 
 -- nothing is a number where no field is left
-pub number_missing : {line : List ℕ} {at : ℕ} (least most : ℕ) → length line ≤ at → NumberAfter line at least most NoNumber
+pub number_missing :
+    {line : List ℕ} {at : ℕ} (least most : ℕ) → length line ≤ at → ReadAfter line (first_number least most (fields_after line at)) None
 unfolding first_number
 number_missing {line} {at} least most h = record { is = rw (none_after line at h) refl; within = omega arith }
 
@@ -66,13 +61,16 @@ module _ {line : List ℕ} {at end : ℕ} (least most : ℕ) (more : at < length
   unfolding fields_after
   first_field = rw (lt-ltb at (length line) more) (field_from ends)
 
-  pub number_read : {n : ℕ} → number_of least most (part line (at + 1) end) ≡ Some n → NumberAfter line at least most (Number n end)
+  pub number_read :
+      {n : ℕ} → number_of least most (part line (at + 1) end) ≡ Some n →
+      ReadAfter line (first_number least most (fields_after line at)) (Some (n, end))
   unfolding first_number
   number_read e =
       let v = number_value least most (part line (at + 1) end) e in
       record { is = rw (first_field, v.0, v.1) refl; within = ends.within }
 
-  pub number_none : number_of least most (part line (at + 1) end) ≡ None → NumberAfter line at least most NoNumber
+  pub number_none :
+      number_of least most (part line (at + 1) end) ≡ None → ReadAfter line (first_number least most (fields_after line at)) None
   unfolding first_number number_of
   number_none e = record { is = rw first_field (at_test (is_number least most field) e); within = omega arith }
     where
@@ -100,7 +98,7 @@ abbrev with_class : Option (ℕ × List (List ℕ)) → Option (Entry × List (L
 with_class (Some (class, fields)) = with_unit class (first_number least_unit most_unit fields)
 with_class None = None
 
-entry_steps : (fields : List (List ℕ)) → first_entry fields ≡ with_class (first_number least_class most_class fields)
+pub entry_steps : (fields : List (List ℕ)) → first_entry fields ≡ with_class (first_number least_class most_class fields)
 unfolding first_entry first_number
 entry_steps [] = refl
 entry_steps (class ∷ []) = at-class (is_class class)
@@ -139,35 +137,14 @@ entry_steps (class ∷ unit ∷ serial ∷ fields) = at-class (is_class class)
     at-class true = at_unit (is_unit unit)
     at-class false = refl
 
-module _ {line : List ℕ} {at : ℕ} {r : NumberRead} (first : NumberAfter line at least_class most_class r) where
-  pub class_none : r ≡ NoNumber → EntryAfter line at NoEntry
-  class_none e = record { is = rw (entry_steps (fields_after line at), ← first.is, e) refl; within = omega arith }
-
-  module _ {class next : ℕ} {s : NumberRead} (e : r ≡ Number class next) (second : NumberAfter line next least_unit most_unit s) where
-    pub unit_none : s ≡ NoNumber → EntryAfter line at NoEntry
-    unit_none f = record { is = rw (entry_steps (fields_after line at), ← first.is, e, ← second.is, f) refl; within = omega arith }
-
-    module _ {unit last : ℕ} {u : NumberRead} (f : s ≡ Number unit last) (third : NumberAfter line last least_serial most_serial u) where
-      pub serial_none : u ≡ NoNumber → EntryAfter line at NoEntry
-      serial_none g =
-          record { is = rw (entry_steps (fields_after line at), ← first.is, e, ← second.is, f, ← third.is, g) refl; within = omega arith }
-
-      pub entry_read :
-          {serial end : ℕ} → u ≡ Number serial end → EntryAfter line at (Fields (record { class = class; unit = unit; serial = serial }) end)
-      entry_read g =
-          record {
-            is = rw (entry_steps (fields_after line at), ← first.is, e, ← second.is, f, ← third.is, g) refl;
-            within = rw g at third.within;
-          }
-
 -- Lines
 
 -- an entry, and then the end
-abbrev of_entry : (Entry → Kind) → Option (Entry × List (List ℕ)) → Parsed
+abbrev of_entry : (Entry → Kind) → Option (Entry × List (List ℕ)) → Option Line
 of_entry kind (Some (e, fields)) = no_fields (kind e) fields
-of_entry kind None = Unreadable
+of_entry kind None = None
 
-entry_line_steps : (kind : Entry → Kind) (fields : List (List ℕ)) → entry_fields kind fields ≡ of_entry kind (first_entry fields)
+pub entry_line_steps : (kind : Entry → Kind) (fields : List (List ℕ)) → entry_fields kind fields ≡ of_entry kind (first_entry fields)
 unfolding entry_fields first_entry no_fields
 entry_line_steps kind [] = refl
 entry_line_steps kind (class ∷ []) = refl
@@ -179,27 +156,27 @@ entry_line_steps kind (class ∷ unit ∷ serial ∷ []) = at_test (is_class cla
     at_test false = refl
 entry_line_steps kind (class ∷ unit ∷ serial ∷ further ∷ fields) = at_test (is_class class && (is_unit unit && is_serial serial))
   where
-    at_test : (t : Bool) → Unreadable ≡ of_entry kind (cond t (Some (entry class unit serial, further ∷ fields)) None)
+    at_test : (t : Bool) → None ≡ of_entry kind (cond t (Some (entry class unit serial, further ∷ fields)) None)
     at_test true = refl
     at_test false = refl
 
 -- an entry, a value, and then the end
-abbrev of_value : Entry → Option (ℕ × List (List ℕ)) → Parsed
+abbrev of_value : Entry → Option (ℕ × List (List ℕ)) → Option Line
 of_value e (Some (value, fields)) = no_fields (Insert e value) fields
-of_value e None = Unreadable
+of_value e None = None
 
-abbrev of_insert : Option (Entry × List (List ℕ)) → Parsed
+abbrev of_insert : Option (Entry × List (List ℕ)) → Option Line
 of_insert (Some (e, fields)) = of_value e (first_number least_value most_value fields)
-of_insert None = Unreadable
+of_insert None = None
 
-insert_line_steps : (fields : List (List ℕ)) → insert_fields fields ≡ of_insert (first_entry fields)
+pub insert_line_steps : (fields : List (List ℕ)) → insert_fields fields ≡ of_insert (first_entry fields)
 unfolding insert_fields first_entry first_number no_fields
 insert_line_steps [] = refl
 insert_line_steps (class ∷ []) = refl
 insert_line_steps (class ∷ unit ∷ []) = refl
 insert_line_steps (class ∷ unit ∷ serial ∷ []) = at_test (is_class class && (is_unit unit && is_serial serial))
   where
-    at_test : (t : Bool) → Unreadable ≡ of_insert (cond t (Some (entry class unit serial, [])) None)
+    at_test : (t : Bool) → None ≡ of_insert (cond t (Some (entry class unit serial, [])) None)
     at_test true = refl
     at_test false = refl
 insert_line_steps (class ∷ unit ∷ serial ∷ value ∷ []) = at_entry (is_class class) (is_unit unit) (is_serial serial)
@@ -221,49 +198,28 @@ insert_line_steps (class ∷ unit ∷ serial ∷ value ∷ []) = at_entry (is_cl
 insert_line_steps (class ∷ unit ∷ serial ∷ value ∷ further ∷ fields) = at_entry (is_class class && (is_unit unit && is_serial serial))
   where
     at_value :
-        (t : Bool) → Unreadable ≡ of_value (entry class unit serial) (cond t (Some (decimal_from 0 value, further ∷ fields)) None)
+        (t : Bool) → None ≡ of_value (entry class unit serial) (cond t (Some (decimal_from 0 value, further ∷ fields)) None)
     at_value true = refl
     at_value false = refl
 
-    at_entry : (t : Bool) → Unreadable ≡ of_insert (cond t (Some (entry class unit serial, value ∷ further ∷ fields)) None)
+    at_entry : (t : Bool) → None ≡ of_insert (cond t (Some (entry class unit serial, value ∷ further ∷ fields)) None)
     at_entry true = at_value (is_value value)
     at_entry false = refl
-
-module _ {line : List ℕ} {r : EntryRead} (first : EntryAfter line 1 r) where
-  pub entry_line_none : (kind : Entry → Kind) → r ≡ NoEntry → Unreadable ≡ entry_fields kind (fields_after line 1)
-  entry_line_none kind e = rw (entry_line_steps kind (fields_after line 1), ← first.is, e) refl
-
-  pub entry_line :
-      (kind : Entry → Kind) {e : Entry} {end : ℕ} → r ≡ Fields e end →
-      no_fields (kind e) (fields_after line end) ≡ entry_fields kind (fields_after line 1)
-  entry_line kind e = rw (entry_line_steps kind (fields_after line 1), ← first.is, e) refl
-
-  pub insert_line_none : r ≡ NoEntry → Unreadable ≡ insert_fields (fields_after line 1)
-  insert_line_none e = rw (insert_line_steps (fields_after line 1), ← first.is, e) refl
-
-  module _ {e : Entry} {next : ℕ} {s : NumberRead} (f : r ≡ Fields e next) (third : NumberAfter line next least_value most_value s) where
-    pub value_none : s ≡ NoNumber → Unreadable ≡ insert_fields (fields_after line 1)
-    value_none g = rw (insert_line_steps (fields_after line 1), ← first.is, f, ← third.is, g) refl
-
-    pub insert_line :
-        {value end : ℕ} → s ≡ Number value end →
-        no_fields (Insert e value) (fields_after line end) ≡ insert_fields (fields_after line 1)
-    insert_line g = rw (insert_line_steps (fields_after line 1), ← first.is, f, ← third.is, g) refl
 
 -- The end of a line, and its start
 
 module _ (line : List ℕ) (at : ℕ) (kind : Kind) where
-  pub line_ends : length line ≤ at → Readable (record { kind = kind }) ≡ no_fields kind (fields_after line at)
+  pub line_ends : length line ≤ at → Some (record { kind = kind }) ≡ no_fields kind (fields_after line at)
   unfolding no_fields
   line_ends h = rw (none_after line at h) refl
 
   -- there is always a field behind a space, be it empty
-  pub line_goes_on : at < length line → Unreadable ≡ no_fields kind (fields_after line at)
+  pub line_goes_on : at < length line → None ≡ no_fields kind (fields_after line at)
   unfolding no_fields fields_after
   line_goes_on h = rw (lt-ltb at (length line) h, (some_field (drop (at + 1) line)).2) refl
 
 -- a first field that is not one byte is no letter
-not_letter : (letter : List ℕ) (fields : List (List ℕ)) → (length letter ≡ 1 → ⊥) → kind_of (letter ∷ fields) ≡ Unreadable
+not_letter : (letter : List ℕ) (fields : List (List ℕ)) → (length letter ≡ 1 → ⊥) → kind_of (letter ∷ fields) ≡ None
 unfolding kind_of same
 not_letter [] fields h = refl
 not_letter (byte ∷ []) fields h = absurd (h refl)
@@ -275,11 +231,11 @@ first_byte [] h = absurd (omega arith)
 first_byte (byte ∷ line) h = refl
 
 module _ (line : List ℕ) where
-  pub parsed_empty : length line < 1 → Unreadable ≡ parsed_of line
+  pub parsed_empty : length line < 1 → None ≡ parsed_of line
   unfolding parsed_of
   parsed_empty h = rw (lt-leb 1 (length line) h) refl
 
-  pub parsed_long : most_bytes < length line → Unreadable ≡ parsed_of line
+  pub parsed_long : most_bytes < length line → None ≡ parsed_of line
   unfolding parsed_of
   parsed_long h = rw (lt-leb (length line) most_bytes h, and-false (leb 1 (length line))) refl
 
@@ -288,7 +244,7 @@ module _ (line : List ℕ) where
     unfolding parsed_of
     parsed_first = rw (le-leb 1 (length line) some, le-leb (length line) most_bytes short, field_from ends) refl
 
-    pub parsed_no_letter : (end ≡ 1 → ⊥) → Unreadable ≡ parsed_of line
+    pub parsed_no_letter : (end ≡ 1 → ⊥) → None ≡ parsed_of line
     parsed_no_letter h =
         let within = ends.within in
         let long : length (part line 0 end) ≡ end = simp length-take (omega arith) in
@@ -299,9 +255,9 @@ module _ (line : List ℕ) where
 
 -- Entries in range
 
-abbrev ParsedInRange : Parsed → Type 0
-ParsedInRange (Readable l) = KindInRange l.kind
-ParsedInRange Unreadable = Unit {0}
+abbrev ParsedInRange : Option Line → Type 0
+ParsedInRange (Some l) = KindInRange l.kind
+ParsedInRange None = Unit {0}
 
 readable_in_range : (t : Bool) (kind : Kind) → (t ≡ true → KindInRange kind) → ParsedInRange (readable t kind)
 readable_in_range true kind h = h refl
@@ -342,7 +298,7 @@ unfolding no_fields
 no_fields_in_range kind h [] = h
 no_fields_in_range kind h (further ∷ fields) = tt
 
-either : (t : Bool) (a b : Parsed) → ParsedInRange a → ParsedInRange b → ParsedInRange (cond t a b)
+either : (t : Bool) (a b : Option Line) → ParsedInRange a → ParsedInRange b → ParsedInRange (cond t a b)
 either true a b p q = p
 either false a b p q = q
 
@@ -361,5 +317,5 @@ unfolding parsed_of
 parsed_in_range line = either (leb 1 (length line) && leb (length line) most_bytes) _ _ (kind_in_range (fields_of line)) tt
 
 -- A line that `parse` reads has its entry in range, so that it has a key.
-pub read_in_range : (line : List ℕ) {l : Line} → parsed_of line ≡ Readable l → KindInRange l.kind
+pub read_in_range : (line : List ℕ) {l : Line} → parsed_of line ≡ Some l → KindInRange l.kind
 read_in_range line reads = rw reads at (parsed_in_range line)

@@ -3,10 +3,6 @@ use Rattle.std.specs.Prelude.{cond, ◌&&◌, List, [], ◌∷◌, ◌≡◌, �
 use Rattle.text.specs.Fields.{fields_of, decimal_from, is_number}
 use Rattle.entries.specs.Entries.{is_class, is_unit, is_serial, entry}
 use Rattle.entries.specs.declared.Entry.{Entry}
-use Rattle.lines.specs.declared.NumberRead.{NumberRead}
-use Rattle.lines.specs.declared.NumberRead.TheVariants.{Number, NoNumber}
-use Rattle.lines.specs.declared.EntryRead.{EntryRead}
-use Rattle.lines.specs.declared.EntryRead.TheVariants.{Fields, NoEntry}
 
 -- the fields after the field that ends at `at`
 unfoldable pub fields_after : List ℕ → ℕ → List (List ℕ)
@@ -27,32 +23,17 @@ first_entry (class ∷ unit ∷ serial ∷ fields) =
 
 -- What the code's values mean.
 
--- a number read, with the fields of the line after it
-abbrev pub number_in : List ℕ → NumberRead → Option (ℕ × List (List ℕ))
-number_in line (Number n end) = Some (n, fields_after line end)
-number_in line NoNumber = None
+-- what is read first of the fields of a line, with those after it
+abbrev pub read_in : {A : Type 0} → List ℕ → Option (A × ℕ) → Option (A × List (List ℕ))
+read_in line (Some (x, end)) = Some (x, fields_after line end)
+read_in line None = None
 
--- where its field ends
-abbrev pub number_end : NumberRead → ℕ
-number_end (Number n end) = end
-number_end NoNumber = 0
+-- where the last of its fields ends
+abbrev pub read_end : {A : Type 0} → Option (A × ℕ) → ℕ
+read_end (Some (x, end)) = end
+read_end None = 0
 
--- an entry read, with the fields of the line after it
-abbrev pub entry_in : List ℕ → EntryRead → Option (Entry × List (List ℕ))
-entry_in line (Fields e end) = Some (e, fields_after line end)
-entry_in line NoEntry = None
-
--- where its third field ends
-abbrev pub entry_end : EntryRead → ℕ
-entry_end (Fields e end) = end
-entry_end NoEntry = 0
-
--- The number after the field that ends at `at`.
-pub record NumberAfter (line : List ℕ) (at least most : ℕ) (r : NumberRead) : Type 0 where
-  pub is : number_in line r ≡ first_number least most (fields_after line at)
-  pub within : number_end r ≤ length line
-
--- The entry after the field that ends at `at`.
-pub record EntryAfter (line : List ℕ) (at : ℕ) (r : EntryRead) : Type 0 where
-  pub is : entry_in line r ≡ first_entry (fields_after line at)
-  pub within : entry_end r ≤ length line
+-- The first of some fields of a line, and where the last of its fields ends.
+pub record ReadAfter {A : Type 0} (line : List ℕ) (first : Option (A × List (List ℕ))) (r : Option (A × ℕ)) : Type 0 where
+  pub is : read_in line r ≡ first
+  pub within : read_end r ≤ length line

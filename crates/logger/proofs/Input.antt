@@ -1,5 +1,5 @@
 -- What the functions of the program logger rest on: what a feed tells of is in range, the list stays one, and what a take leaves.
-use Rattle.std.specs.Prelude.{None, Option, Some}
+use Rattle.std.specs.Prelude.{None, Option, Some, Result, Ok, Err, eqb}
 use mathlib.Core.Path.{◌≡◌, sym, ◌∙◌, ap, subst}
 use mathlib.Core.Bool.{Bool, true, false, cond, true≢false}
 use mathlib.Core.List.{List, [], ◌∷◌, ◌++◌}
@@ -26,8 +26,7 @@ use Rattle.calls.proofs.Listed.{operation_listed, note_listed}
 use Rattle.calls.proofs.Promises.{refused_alters_nothing}
 use Rattle.report.specs.Answered.{leaving}
 use Rattle.logger.specs.Input.{kept, NothingToTake, Took}
-use Rattle.logger.specs.declared.Turn.{Turn}
-use Rattle.logger.specs.declared.Turn.TheVariants.{More, NoMore, NotWritten}
+use Rattle.logger.specs.declared.Failure.{Failure}
 
 -- What is told of is in range, since some bytes note it.
 
@@ -70,7 +69,7 @@ module _ {P : List ℕ → Type 0} {words after : List ℕ} {last now-last : ℕ
   pub end_listed : EndFed record_handing (leaving note_out) P (kept words last) (kept after now-last) → Listed after s
   end_listed fed = kept_by_end record_handing (leaving note_out) {I = λ lent. Listed lent.words s} each_listed had fed
 
-pub take_listed : {before after : List ℕ} {r : Turn} {s : Settings} → Listed before s → Took before after r → Listed after s
+pub take_listed : {before after : List ℕ} {r : Result Bool Failure} {s : Settings} → Listed before s → Took before after r → Listed after s
 unfolding outcome
 take_listed {s = s} listed took = subst (λ (us : List ℕ). Listed us s) (sym took.left) (operation_listed Take listed)
 
@@ -81,17 +80,15 @@ refused_stays ws none =
     ap (λ (lent : Lent). lent.words)
     (refused_alters_nothing (Operate Take) (lending (operated Take) ws) (λ z. let e = eq-eqb (take_out ws).answered.refusal 0 z in true≢false (sym e ∙ none)))
 
-pub nothing_after : {before after : List ℕ} {r : Turn} → Took before after r → r ≡ NoMore → NothingToTake after
+pub nothing_after : {before after : List ℕ} {r : Result Bool Failure} → Took before after r → r ≡ Ok false → NothingToTake after
 nothing_after {before} took e =
     let none = took.nothing e in subst NothingToTake (sym (took.left ∙ refused_stays before none)) none
 
--- The three ways out of a take.
+-- The two ways out of a take.
 
-pub more_took : {before after : List ℕ} → after ≡ (take_out before).left → Took before after More
-more_took left = record { left = left; nothing = λ e. cc }
+module _ {before after : List ℕ} (left : after ≡ (take_out before).left) where
+  pub made_took : {more : Bool} → more ≡ eqb (take_out before).answered.refusal 0 → Took before after (Ok more)
+  made_took {more = more} is = record { left = left; nothing = λ e. let none : more ≡ false = cc in sym is ∙ none }
 
-pub none_took : {before after : List ℕ} → after ≡ (take_out before).left → NothingToTake before → Took before after NoMore
-none_took left none = record { left = left; nothing = λ e. none }
-
-pub unwritten_took : {before after : List ℕ} → after ≡ (take_out before).left → Took before after NotWritten
-unwritten_took left = record { left = left; nothing = λ e. cc }
+  pub unwritten_took : {r : Result Bool Failure} {failure : Failure} → r ≡ Err failure → Took before after r
+  unwritten_took failed = record { left = left; nothing = λ e. cc }

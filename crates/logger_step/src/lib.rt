@@ -15,7 +15,7 @@ use answers::Answer;
 use notes::Logged;
 use settings::{Levels, Settings};
 
-// What a take puts: how many bytes, and whether there may be more to take.
+// What a take puts: how many bytes, and whether there may be more to take. Both are told of at every take: a refused one puts bytes too.
 #[derive(Clone, Copy)]
 pub struct TakeText {
     pub bytes: usize,
@@ -28,7 +28,7 @@ fn note(list: &mut [u32], s: Settings, last: &mut u64, logged: Logged) -> Answer
     ensures { Noted logged list.old last.old result list.new last.new }
 {
     let levels = Levels::of(s);
-    insert_record::insert_record(list, s, &levels.powers, logged, last)
+    insert_record::insert_record(list, &levels, logged, last)
 }
 
 // Enters the record that is told of, if one is: puts the bytes that are printed for it into `out`, from the first on; how many they are.
@@ -43,8 +43,8 @@ pub fn note_text(
     ensures { Answered note_out (told_in told) (lent_of list.old [] last.old) (lent_of list.new [] last.new) out.new result }
 {
     match told {
-        None => return 0,
-        Some(logged) => return report::put_answer(out, 0, note(list, s, last, logged), b'\n'),
+        None => 0,
+        Some(logged) => report::put_answer(out, 0, note(list, s, last, logged), b'\n'),
     }
 }
 

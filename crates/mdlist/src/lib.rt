@@ -25,7 +25,7 @@ pub fn mdlist_insert(list: &mut [u32], key: u32, value: u32) -> Answer
     let Some(levels) = is_list::is_list(list) else {
         return answers::refused(Refusal::NotAList);
     };
-    insert::insert(list, levels.settings, &levels.powers, key, value)
+    insert::insert(list, &levels, key, value)
 }
 
 // Finds a live key's value; writes nothing.
@@ -35,7 +35,7 @@ pub fn mdlist_find(list: &[u32], key: u32) -> Answer
     let Some(levels) = is_list::is_list(list) else {
         return answers::refused(Refusal::NotAList);
     };
-    find::find(list, levels.settings, &levels.powers, key)
+    find::find(list, &levels, key)
 }
 
 // Moves the links that a key's cell still owes.
@@ -45,7 +45,7 @@ pub fn mdlist_finish(list: &mut [u32], key: u32) -> Answer
     let Some(levels) = is_list::is_list(list) else {
         return answers::refused(Refusal::NotAList);
     };
-    finish::finish(list, levels.settings, &levels.powers, key)
+    finish::finish(list, &levels, key)
 }
 
 // Takes the least live key.
@@ -65,7 +65,7 @@ pub fn mdlist_sweep(list: &mut [u32]) -> Answer
     let Some(levels) = is_list::is_list(list) else {
         return answers::refused(Refusal::NotAList);
     };
-    sweep::sweep(list, levels.settings, &levels.powers)
+    sweep::sweep(list, &levels)
 }
 
 // Puts what a record of the logger's export notes into the list, with its full number as the value; `last` is the last full number.
@@ -75,13 +75,7 @@ pub fn mdlist_record(list: &mut [u32], record: &[u8], last: &mut u64) -> Answer
     let Some(levels) = is_list::is_list(list) else {
         return answers::refused(Refusal::NotAList);
     };
-    insert_record::insert_record(
-        list,
-        levels.settings,
-        &levels.powers,
-        notes::note_by(record),
-        last,
-    )
+    insert_record::insert_record(list, &levels, notes::note_by(record), last)
 }
 
 // Writes what waits in the list into the bytes of a file; the list stays as it is.
@@ -109,7 +103,7 @@ pub fn mdlist_batch(list: &mut [u32], calls: &[u32], answers: &mut [u32]) -> Ans
         return answers::refused(Refusal::NotAList);
     };
     if batch::fit(calls, answers) {
-        return batch::batch(list, levels.settings, &levels.powers, calls, answers);
+        return batch::batch(list, &levels, calls, answers);
     }
     answers::refused(Refusal::BadBatch)
 }

@@ -58,6 +58,7 @@ fn put_links(list: &mut [u32], s: Settings, n: u32, q: u32, c: u32)
 }
 
 // Cell n gets the words of a new cell in its slot.
+#[tactic(auto, using(crate::proofs::NewWords::cell_written))]
 pub fn write_cell(list: &mut [u32], s: Settings, t: Slot, key: u32, value: u32)
     requires { Shaped list.old s × Fits s t }
     ensures { (list.new ≡ sets list.old (word_index s.dimensions t.n 0) (new_words s.dimensions key value t)) × Shaped list.new s }

@@ -25,6 +25,7 @@ pub struct Fed {
 }
 
 // At the start of the export, and after each record.
+#[tactic(auto, unfolding(crate::specs::Feeding::feed_of, crate::specs::Export::even_quotes, crate::specs::Export::ends_in_return, text::specs::Parts::after_all))]
 pub fn start() -> Feed
     ensures { result ≡ feed_of [] }
 {
@@ -40,31 +41,21 @@ pub fn start() -> Feed
 fn even_after(even: bool, byte: u8) -> bool
     ensures { result ≡ cond (eqb byte quote) (not even) even }
 {
-    if byte == records::QUOTE {
-        return !even;
-    }
-    even
+    if byte == records::QUOTE { !even } else { even }
 }
 
 // Whether a byte closes the record begun: the line feed of a CRLF with an even number of quotes before it.
 fn closes(feed: Feed, byte: u8) -> bool
     ensures { result ≡ eqb byte line_feed && (feed.returned && feed.even) }
 {
-    if byte != records::LINE_FEED {
-        return false;
-    }
-    if feed.returned {
-        return feed.even;
-    }
-    false
+    byte == records::LINE_FEED && feed.returned && feed.even
 }
 
 // The next byte of the export.
 pub fn feed_byte(feed: Feed, byte: u8) -> Fed
     ensures { Stepped feed byte result }
 {
-    let before = feed.reader;
-    let reader = super::reader_on(before, byte);
+    let reader = super::reader_on(feed.reader, byte);
     if closes(feed, byte) {
         return Fed {
             feed: start(),
@@ -86,9 +77,9 @@ pub fn feed_byte(feed: Feed, byte: u8) -> Fed
 pub fn finish(feed: Feed) -> Option<Logged>
     ensures { FeedEnded feed result }
 {
-    let reader = feed.reader;
     if feed.begun {
-        return Some(super::note_at(reader));
+        Some(super::note_at(feed.reader))
+    } else {
+        None
     }
-    None
 }

@@ -11,7 +11,7 @@ ghost use Rattle.notes.specs.Reader.{place_on, place_after, place_by, reader_fro
 
 use entries::Entry;
 use records::{Adds, Stand};
-use text::fields::Begun;
+use text::fields::{self, Begun};
 
 // What a record notes: an entry and the logger's number; or nothing, since it breaks the grammar or a field's range.
 pub type Logged = Option<(Entry, u32)>;
@@ -51,73 +51,49 @@ pub fn start() -> Reader
 }
 
 // A byte of the field at hand. The text is skipped.
+#[tactic(auto, unfolding(crate::specs::Reader::place_on))]
 fn place_on(place: Place, byte: u8) -> Place
     ensures { result ≡ place_on place byte }
 {
     match place {
-        Place::AtClass(begun) => return Place::AtClass(text::fields::digit(
-            begun,
-            byte,
-            entries::MOST_CLASS,
-        )),
-        Place::AtUnit(class, begun) => return Place::AtUnit(
+        Place::AtClass(begun) => Place::AtClass(fields::digit(begun, byte, entries::MOST_CLASS)),
+        Place::AtUnit(class, begun) => Place::AtUnit(
             class,
-            text::fields::digit(begun, byte, entries::MOST_UNIT),
+            fields::digit(begun, byte, entries::MOST_UNIT),
         ),
-        Place::AtSerial(class, unit, begun) => {
-            return Place::AtSerial(
-                class,
-                unit,
-                text::fields::digit(begun, byte, entries::MOST_SERIAL),
-            );
-        }
-        Place::AtText(e) => return Place::AtText(e),
-        Place::AtNumber(e, begun) => return Place::AtNumber(
-            e,
-            text::fields::digit(begun, byte, MOST_NUMBER),
+        Place::AtSerial(class, unit, begun) => Place::AtSerial(
+            class,
+            unit,
+            fields::digit(begun, byte, entries::MOST_SERIAL),
         ),
-        Place::NoPlace => return Place::NoPlace,
+        Place::AtNumber(e, begun) => Place::AtNumber(e, fields::digit(begun, byte, MOST_NUMBER)),
+        Place::AtText(_) | Place::NoPlace => place,
     }
 }
 
-fn after_class(begun: Begun) -> Place
-    ensures { result ≡ place_after (AtClass begun) }
-{
-    let Some(class) = text::fields::ended_at(begun, entries::LEAST_CLASS) else {
-        return Place::NoPlace;
-    };
-    Place::AtUnit(class, Begun::NoDigit)
-}
-
-fn after_unit(class: u32, begun: Begun) -> Place
-    ensures { result ≡ place_after (AtUnit class begun) }
-{
-    let Some(unit) = text::fields::ended_at(begun, entries::LEAST_UNIT) else {
-        return Place::NoPlace;
-    };
-    Place::AtSerial(class, unit, Begun::NoDigit)
-}
-
-fn after_serial(class: u32, unit: u32, begun: Begun) -> Place
-    ensures { result ≡ place_after (AtSerial class unit begun) }
-{
-    let Some(serial) = text::fields::ended_at(begun, entries::LEAST_SERIAL) else {
-        return Place::NoPlace;
-    };
-    Place::AtText(entries::entry_of(class, unit, serial))
-}
-
 // The field at hand has ended, and another begins.
+#[tactic(auto, unfolding(crate::specs::Reader::place_after))]
 fn place_after(place: Place) -> Place
     ensures { result ≡ place_after place }
 {
     match place {
-        Place::AtClass(begun) => return after_class(begun),
-        Place::AtUnit(class, begun) => return after_unit(class, begun),
-        Place::AtSerial(class, unit, begun) => return after_serial(class, unit, begun),
-        Place::AtText(e) => return Place::AtNumber(e, Begun::NoDigit),
-        Place::AtNumber(_, _) => return Place::NoPlace,
-        Place::NoPlace => return Place::NoPlace,
+        Place::AtClass(begun) => fields::ended_at(begun, entries::LEAST_CLASS).map_or(
+            Place::NoPlace,
+            |class| Place::AtUnit(class, Begun::NoDigit),
+        ),
+        Place::AtUnit(class, begun) => fields::ended_at(begun, entries::LEAST_UNIT).map_or(
+            Place::NoPlace,
+            |unit| Place::AtSerial(class, unit, Begun::NoDigit),
+        ),
+        Place::AtSerial(class, unit, begun) => fields::ended_at(
+            begun,
+            entries::LEAST_SERIAL,
+        ).map_or(
+            Place::NoPlace,
+            |serial| Place::AtText(Entry::new(class, unit, serial)),
+        ),
+        Place::AtText(e) => Place::AtNumber(e, Begun::NoDigit),
+        Place::AtNumber(..) | Place::NoPlace => Place::NoPlace,
     }
 }
 
@@ -125,58 +101,47 @@ fn place_by(adds: Adds, place: Place, byte: u8) -> Place
     ensures { result ≡ place_by adds place byte }
 {
     match adds {
-        Adds::ItsByte => return place_on(place, byte),
-        Adds::AField => return place_after(place),
-        Adds::NoPart => return place,
+        Adds::ItsByte => place_on(place, byte),
+        Adds::AField => place_after(place),
+        Adds::NoPart => place,
     }
 }
 
 // One byte of a record.
+#[tactic(auto, unfolding(crate::specs::Reader::reader_on))]
 pub fn reader_on(reader: Reader, byte: u8) -> Reader
     ensures { result ≡ reader_on reader byte }
 {
-    let stand = reader.stand;
-    let place = reader.place;
-    let step = records::read_byte(stand, byte);
-    let next = step.stand;
-    let adds = step.adds;
+    let step = records::read_byte(reader.stand, byte);
     Reader {
-        stand: next,
-        place: place_by(adds, place, byte),
+        stand: step.stand,
+        place: place_by(step.adds, reader.place, byte),
     }
 }
 
-fn numbered(e: Entry, begun: Begun) -> Logged
-    ensures { result ≡ note_in (AtNumber e begun) }
-{
-    let number = text::fields::ended_at(begun, LEAST_NUMBER)?;
-    Some((e, number))
-}
-
 // What a record notes whose last field ends here.
+#[tactic(auto, unfolding(crate::specs::Reader::note_in))]
 fn note_in(place: Place) -> Logged
     ensures { result ≡ note_in place }
 {
     match place {
-        Place::AtClass(_) => return None,
-        Place::AtUnit(_, _) => return None,
-        Place::AtSerial(_, _, _) => return None,
-        Place::AtText(_) => return None,
-        Place::AtNumber(e, begun) => return numbered(e, begun),
-        Place::NoPlace => return None,
+        Place::AtNumber(e, begun) => fields::ended_at(begun, LEAST_NUMBER).map(|number| (
+            e, number,
+        )),
+        _ => None,
     }
 }
 
 // What a record notes that ends here.
+#[tactic(auto, unfolding(crate::specs::Reader::note_at))]
 pub fn note_at(reader: Reader) -> Logged
     ensures { result ≡ note_at reader }
 {
-    let stand = reader.stand;
-    let place = reader.place;
-    if records::may_end(stand) {
-        return note_in(place);
+    if records::may_end(reader.stand) {
+        note_in(reader.place)
+    } else {
+        None
     }
-    None
 }
 
 // What the bytes of a record note.
@@ -184,10 +149,8 @@ pub fn note_by(bytes: &[u8]) -> Logged
     ensures { result ≡ note_by bytes.now }
 {
     let mut reader = start();
-    let mut i = 0;
-    while i < bytes.len() {
-        reader = reader_on(reader, bytes[i]);
-        i += 1;
+    for &byte in bytes {
+        reader = reader_on(reader, byte);
     }
     note_at(reader)
 }

@@ -2,23 +2,22 @@
 // check: batches and programs make their calls through it.
 #![tactic(auto)]
 
-ghost use Rattle.settings.specs.Levels.{PowersOf};
 ghost use Rattle.meaning.specs.Layer.Listed.{Listed};
 ghost use Rattle.operate.specs.Operated.{Operated};
 
 use answers::{Answer, Operation};
-use settings::Settings;
+use settings::Levels;
 
-// On a list with settings s; `powers` are those of its base.
-pub fn operate(list: &mut [u32], s: Settings, powers: &[u64], operation: Operation) -> Answer
-    requires { Listed list.old s × PowersOf s powers.now }
-    ensures { Operated operation s list.old result list.new }
+// On a list with these settings.
+pub fn operate(list: &mut [u32], levels: &Levels, operation: Operation) -> Answer
+    requires { Listed list.old levels.now.settings }
+    ensures { Operated operation levels.now.settings list.old result list.new }
 {
     match operation {
-        Operation::Insert(key, value) => return insert::insert(list, s, powers, key, value),
-        Operation::Find(key) => return find::find(list, s, powers, key),
-        Operation::Finish(key) => return finish::finish(list, s, powers, key),
-        Operation::Take => return take::take(list, s),
-        Operation::Sweep => return sweep::sweep(list, s, powers),
+        Operation::Insert(key, value) => return insert::insert(list, levels, key, value),
+        Operation::Find(key) => return find::find(list, levels, key),
+        Operation::Finish(key) => return finish::finish(list, levels, key),
+        Operation::Take => return take::take(list, levels.settings),
+        Operation::Sweep => return sweep::sweep(list, levels),
     }
 }

@@ -14,7 +14,7 @@
 // The file stdout has the answers of the separate ordered set: compare/ordered_set/target/release/ordered_set order < stdin > stdout
 #![tactic(auto)]
 
-ghost use Rattle.std.specs.Prelude.{◌≡◌, [], ◌∷◌, length};
+ghost use Rattle.std.specs.Prelude.{◌≡◌, [], ◌∷◌, length, is_ok};
 ghost use Rattle.text.specs.Parts.{after_all, Known, BytesFed, PartFed, EndFed};
 ghost use Rattle.text.specs.Lines.{most_bytes};
 ghost use Rattle.text.specs.Feeding.{line_handing, told_in, Holds, LineIn};
@@ -28,31 +28,31 @@ use std::io::Read;
 use std::rt::Stdin;
 use text::feed::{Feed, Told};
 
-// What is kept from one byte to the next, beside the words and the bytes of the line begun: whether every answer has been written.
+// Why the program ends with a line that is not answered.
 #[derive(Clone, Copy)]
-pub struct State {
-    pub feed: Feed,
-    pub written: bool,
-}
-
-// How the program ends.
-#[derive(Clone, Copy)]
-pub enum End {
-    AllAnswered,
+pub enum Failure {
     NotRead,
     NotWritten,
 }
 
-// Writes what is printed for the line that ended, by one write, and nothing if none did; whether it was written whole. It takes the line and
-// the words that it left so that its contract can say whose text it is.
-fn write(text: &[u8], line: &[u8], ended: Told, words: &[u32]) -> bool
+// Writes what is printed for the line that ended, by one write, and nothing if none did. It takes the line and the words that it left so that
+// its contract can say whose text it is.
+fn write(text: &[u8], line: &[u8], ended: Told, words: &[u32]) -> Result<(), Failure>
     requires { TextOf line_outcome text.now (told_in line.now ended) words.now }
 {
-    io::write_all(1, text)
+    if !io::write_all(1, text) {
+        return Err(Failure::NotWritten);
+    }
+    Ok(())
 }
 
-// Answers the line that ended, if one did; whether the answer was written.
-fn answer_line(words: &mut [u32], settings: Settings, line: &[u8], ended: Told) -> bool
+// Answers the line that ended, if one did.
+fn answer_line(
+    words: &mut [u32],
+    settings: Settings,
+    line: &[u8],
+    ended: Told,
+) -> Result<(), Failure>
     requires { Listed words.old settings × LineIn line.now ended }
     ensures { words.new ≡ after_all (leaving line_outcome) words.old (told_in line.now ended) }
 {
@@ -62,18 +62,19 @@ fn answer_line(words: &mut [u32], settings: Settings, line: &[u8], ended: Told) 
 }
 
 // One byte of the input: the feed keeps it, or the line that it ends is answered.
-fn feed_byte(words: &mut [u32], settings: Settings, line: &mut [u8], feed: Feed, byte: u8) -> State
-    requires { Listed words.old settings × Known (Holds line.old feed) }
-    ensures { BytesFed line_handing (leaving line_outcome) (byte ∷ []) (Holds line.old feed) words.old (Holds line.new result.feed) words.new }
+fn feed_byte(
+    words: &mut [u32],
+    settings: Settings,
+    line: &mut [u8],
+    feed: &mut Feed,
+    byte: u8,
+) -> Result<(), Failure>
+    requires { Listed words.old settings × Known (Holds line.old feed.old) }
+    ensures { BytesFed line_handing (leaving line_outcome) (byte ∷ []) (Holds line.old feed.old) words.old (Holds line.new feed.new) words.new }
 {
-    let fed = text::feed::feed_byte(line, feed, byte);
-    let next = fed.feed;
-    let ended = fed.told;
-    let written = answer_line(words, settings, line, ended);
-    State {
-        feed: next,
-        written,
-    }
+    let fed = text::feed::feed_byte(line, *feed, byte);
+    *feed = fed.feed;
+    answer_line(words, settings, line, fed.told)
 }
 
 // A part of the input, to its end or to an answer that is not written.
@@ -81,62 +82,48 @@ fn feed_part(
     words: &mut [u32],
     settings: Settings,
     line: &mut [u8],
-    feed: Feed,
+    feed: &mut Feed,
     part: &[u8],
-) -> State
-    requires { Listed words.old settings × Known (Holds line.old feed) }
-    ensures { PartFed line_handing (leaving line_outcome) part.now (Holds line.old feed) words.old result.written (Holds line.new result.feed) words.new }
+) -> Result<(), Failure>
+    requires { Listed words.old settings × Known (Holds line.old feed.old) }
+    ensures { PartFed line_handing (leaving line_outcome) part.now (Holds line.old feed.old) words.old (is_ok result) (Holds line.new feed.new) words.new }
 {
-    let mut s = State {
-        feed,
-        written: true,
-    };
-    let mut i = 0;
-    while i < part.len() {
-        s = feed_byte(words, settings, line, s.feed, part[i]);
-        if !s.written {
-            return s;
-        }
-        i += 1;
+    for byte in part {
+        feed_byte(words, settings, line, feed, *byte)?;
     }
-    s
+    Ok(())
 }
 
 // The end of the input: a line begun counts.
-fn feed_end(words: &mut [u32], settings: Settings, line: &[u8], feed: Feed) -> End
+fn feed_end(words: &mut [u32], settings: Settings, line: &[u8], feed: Feed) -> Result<(), Failure>
     requires { Listed words.old settings × Known (Holds line.now feed) }
     ensures { EndFed line_handing (leaving line_outcome) (Holds line.now feed) words.old words.new }
 {
-    let last = text::feed::finish(feed);
-    if answer_line(words, settings, line, last) {
-        return End::AllAnswered;
-    }
-    End::NotWritten
+    answer_line(words, settings, line, text::feed::finish(feed))
 }
 
-// The input, in parts, to its end, on a fresh list. Nothing says that an input ends, so the turns are counted down from a number that no
-// run uses up.
-fn read_all(input: &mut Stdin, words: &mut [u32], settings: Settings, line: &mut [u8]) -> End
+// The input, in parts, to its end, on a fresh list. Nothing says that an input ends, so the turns are counted up to a number that no run
+// uses up.
+fn read_all(
+    input: &mut Stdin,
+    words: &mut [u32],
+    settings: Settings,
+    line: &mut [u8],
+) -> Result<(), Failure>
     requires { (length line.old ≡ most_bytes) × ((words.old ≡ fresh_words) × Listed words.old settings) }
 {
     let mut feed = text::feed::start();
     let mut part = io::large_buffer();
-    let mut turns = u64::MAX;
-    while 0 < turns {
+    for _ in 0..u64::MAX {
         let Ok(n) = input.read(&mut part) else {
-            return End::NotRead;
+            return Err(Failure::NotRead);
         };
         if n == 0 {
             return feed_end(words, settings, line, feed);
         }
-        let s = feed_part(words, settings, line, feed, &part[..n]);
-        if !s.written {
-            return End::NotWritten;
-        }
-        feed = s.feed;
-        turns -= 1;
+        feed_part(words, settings, line, &mut feed, &part[..n])?;
     }
-    End::NotRead
+    Err(Failure::NotRead)
 }
 
 fn main(rt: HostRuntime) {
@@ -144,13 +131,12 @@ fn main(rt: HostRuntime) {
     let mut line = [0u8; text::feed::MOST_BYTES];
     let settings = entry_list::set_up(&mut words);
     let mut input = rt.stdin();
-    let end = read_all(&mut input, &mut words, settings, &mut line);
-    match end {
-        End::AllAnswered => return,
-        End::NotRead => {
+    match read_all(&mut input, &mut words, settings, &mut line) {
+        Ok(()) => {}
+        Err(Failure::NotRead) => {
             io::write_all(2, b"order: standard input cannot be read\n");
         }
-        End::NotWritten => {
+        Err(Failure::NotWritten) => {
             io::write_all(2, b"order: standard output cannot be written\n");
         }
     }

@@ -8,7 +8,7 @@ use Rattle.answers.specs.Refusals.{Meets, answer}
 use Rattle.answers.specs.declared.Answer.{Answer}
 use Rattle.lines.specs.Grammar.{parsed_of}
 use Rattle.lines.specs.declared.Line.{Line}
-use Rattle.lines.specs.declared.Parsed.TheVariants.{Readable, Unreadable}
+use Rattle.std.specs.Prelude.{None, Some}
 use Rattle.order_step.specs.Step.{unreadable, kind_outcome, line_outcome}
 
 unreadable_meets : {ws : List ℕ} {r : Answer} → r ≡ answer 10 0 0 0 → Meets (unreadable ws) r ws
@@ -20,13 +20,13 @@ unfolding line_outcome
 too_long_meets q = unreadable_meets q
 
 pub not_read_meets :
-    (bytes ws : List ℕ) {r : Answer} → parsed_of bytes ≡ Unreadable → r ≡ answer 10 0 0 0 → Meets (line_outcome (line bytes) ws) r ws
+    (bytes ws : List ℕ) {r : Answer} → parsed_of bytes ≡ None → r ≡ answer 10 0 0 0 → Meets (line_outcome (line bytes) ws) r ws
 unfolding line_outcome
 not_read_meets bytes ws none q = rw none (unreadable_meets q)
 
 -- a line that is read
 pub read_meets :
-    (bytes ws : List ℕ) {after : List ℕ} {r : Answer} {l : Line} → parsed_of bytes ≡ Readable l → Meets (kind_outcome l.kind ws) r after →
+    (bytes ws : List ℕ) {after : List ℕ} {r : Answer} {l : Line} → parsed_of bytes ≡ Some l → Meets (kind_outcome l.kind ws) r after →
     Meets (line_outcome (line bytes) ws) r after
 unfolding line_outcome
 read_meets bytes ws reads met = rw reads met

@@ -1,8 +1,7 @@
 -- What is told of is answered: no line, a line in the buffer, or one that is too long; the answer put is the bytes that are printed.
 use mathlib.Core.Path.{◌≡◌}
 use mathlib.Core.List.{List}
-use Prim.Native.Nat.{ℕ, ◌-◌, ◌≤◌}
-use native.Mathlib.Nat.{sub-zero}
+use Prim.Native.Nat.{ℕ, ◌≤◌}
 use lib.ListN.{length, take}
 use Rattle.text.specs.Lines.{line_feed, line, too_long}
 use Rattle.text.specs.Feeding.{told_in}
@@ -17,12 +16,11 @@ use Rattle.order_step.specs.Step.{line_outcome}
 
 module _
     (ws : List ℕ) {after room out : List ℕ} {r : ℕ} {a : Answer} (put : Put room 0 (answer_text a line_feed) out r) (fits : r ≤ length room) where
-  -- the bytes from 0 to n, as the code lends them
   pub line_answered :
-      (buffer : List ℕ) {told : Told} {n : ℕ} → told ≡ Line n → Meets (line_outcome (line (take (n - 0) buffer)) ws) a after →
+      (buffer : List ℕ) {told : Told} {n : ℕ} → told ≡ Line n → Meets (line_outcome (line (take n buffer)) ws) a after →
       Answered line_outcome (told_in buffer told) ws after out r
   unfolding told_in
-  line_answered buffer {n = n} e met = rw (e, ← sub-zero n) (one_answered line_outcome (line (take (n - 0) buffer)) ws put fits met)
+  line_answered buffer {n = n} e met = rw e (one_answered line_outcome (line (take n buffer)) ws put fits met)
 
   pub long_line_answered :
       (buffer : List ℕ) {told : Told} → told ≡ LongLine → Meets (line_outcome too_long ws) a after →

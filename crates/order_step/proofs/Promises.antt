@@ -27,9 +27,8 @@ use Rattle.entries.specs.Entries.{entry_key}
 use Rattle.entries.proofs.Promises.{key_within}
 use Rattle.lines.specs.Grammar.{parsed_of, KindInRange}
 use Rattle.lines.specs.declared.Kind.{Kind}
+use Rattle.lines.specs.declared.Line.{Line}
 use Rattle.lines.specs.declared.Kind.TheVariants.{Insert, Find, Finish, Take, Sweep}
-use Rattle.lines.specs.declared.Parsed.{Parsed}
-use Rattle.lines.specs.declared.Parsed.TheVariants.{Readable, Unreadable}
 use Rattle.lines.proofs.Grammar.{read_in_range}
 use Rattle.order_step.specs.Step.{kind_operation, kind_outcome, parsed_outcome, line_outcome}
 use Rattle.order_step.specs.Promises.{NeverFour}
@@ -89,12 +88,12 @@ unfolding line_outcome
 line_not_four too_long ws list top = λ q. omega arith
 line_not_four (line bytes) ws list top = at (parsed_of bytes) refl
   where
-    at : (p : Parsed) → parsed_of bytes ≡ p → (parsed_outcome p ws).answered.refusal ≡ 4 → ⊥
-    at (Readable l) reads q =
+    at : (p : Option Line) → parsed_of bytes ≡ p → (parsed_outcome p ws).answered.refusal ≡ 4 → ⊥
+    at (Some l) reads q =
         let operation = kind_operation l.kind in
         kind_reply_lem l.kind (read_in_range bytes reads) (book_of ws) top
         (ap (λ (a : Answer). a.refusal) (sym (operation_booked operation ws list).1) ∙ (same_refusal operation (kind_outcome l.kind ws).answered ∙ q))
-    at Unreadable reads q = omega arith
+    at None reads q = omega arith
 
 -- A line takes a list to a list with its settings.
 
@@ -103,9 +102,9 @@ unfolding line_outcome
 line_listed too_long listed = listed
 line_listed {ws} {s} (line bytes) listed = at (parsed_of bytes)
   where
-    at : (p : Parsed) → Listed (parsed_outcome p ws).left s
-    at (Readable l) = operation_listed (kind_operation l.kind) listed
-    at Unreadable = listed
+    at : (p : Option Line) → Listed (parsed_outcome p ws).left s
+    at (Some l) = operation_listed (kind_operation l.kind) listed
+    at None = listed
 
 pub never_four : NeverFour
 unfolding after_all

@@ -1,5 +1,5 @@
 -- What one line of the order program answers and leaves: The order program 1 and 4.
-use Rattle.std.specs.Prelude.{List, ℕ}
+use Rattle.std.specs.Prelude.{List, ℕ, Option, None, Some}
 use Rattle.text.specs.Lines.{Handed, line, too_long}
 use Rattle.answers.specs.Refusals.{Outcome, refused}
 use Rattle.answers.specs.declared.Refusal.TheVariants.{LineNotReadable}
@@ -9,9 +9,8 @@ use Rattle.meaning.specs.Operations.{operation_out}
 use Rattle.entries.specs.Entries.{entry_key}
 use Rattle.lines.specs.Grammar.{parsed_of}
 use Rattle.lines.specs.declared.Kind.{Kind}
+use Rattle.lines.specs.declared.Line.{Line}
 use Rattle.lines.specs.declared.Kind.TheVariants.{Insert, Find, Finish, Take, Sweep}
-use Rattle.lines.specs.declared.Parsed.{Parsed}
-use Rattle.lines.specs.declared.Parsed.TheVariants.{Readable, Unreadable}
 
 -- the operation that a kind of line asks for, on its entry's key
 abbrev pub kind_operation : Kind → Operation
@@ -28,9 +27,9 @@ kind_outcome kind ws = operation_out (kind_operation kind) ws
 abbrev pub unreadable : List ℕ → Outcome (List ℕ)
 unreadable ws = refused LineNotReadable ws
 
-abbrev pub parsed_outcome : Parsed → List ℕ → Outcome (List ℕ)
-parsed_outcome (Readable l) ws = kind_outcome l.kind ws
-parsed_outcome Unreadable ws = unreadable ws
+abbrev pub parsed_outcome : Option Line → List ℕ → Outcome (List ℕ)
+parsed_outcome (Some l) ws = kind_outcome l.kind ws
+parsed_outcome None ws = unreadable ws
 
 -- the outcome of a line as it is handed on
 unfoldable pub line_outcome : Handed → List ℕ → Outcome (List ℕ)

@@ -14,7 +14,7 @@ ghost use Rattle.report.specs.Answered.{Answered};
 ghost use Rattle.order_step.specs.Step.{kind_operation, line_outcome};
 
 use answers::{Answer, Operation, Refusal};
-use lines::{Kind, Parsed};
+use lines::Kind;
 use settings::{Levels, Settings};
 use text::feed::Told;
 
@@ -24,15 +24,16 @@ fn operation_of(kind: Kind) -> Operation
     ensures { result ≡ kind_operation kind }
 {
     match kind {
-        Kind::Insert(e, value) => return Operation::Insert(entries::entry_key(e), value),
-        Kind::Find(e) => return Operation::Find(entries::entry_key(e)),
-        Kind::Finish(e) => return Operation::Finish(entries::entry_key(e)),
-        Kind::Take => return Operation::Take,
-        Kind::Sweep => return Operation::Sweep,
+        Kind::Insert(e, value) => Operation::Insert(e.key(), value),
+        Kind::Find(e) => Operation::Find(e.key()),
+        Kind::Finish(e) => Operation::Finish(e.key()),
+        Kind::Take => Operation::Take,
+        Kind::Sweep => Operation::Sweep,
     }
 }
 
 // A line with more than 64 bytes.
+#[tactic(auto, using(crate::proofs::LineOutcome::too_long_meets))]
 fn long_line(list: &[u32]) -> Answer
     ensures { Meets (line_outcome too_long list.now) result list.now }
 {
@@ -40,16 +41,16 @@ fn long_line(list: &[u32]) -> Answer
 }
 
 // A line of at most 64 bytes, or any other that is handed over whole.
+#[tactic(auto, using(lines::proofs::Grammar::read_in_range, crate::proofs::LineOutcome::not_read_meets))]
 fn step(list: &mut [u32], s: Settings, bytes: &[u8]) -> Answer
     requires { Listed list.old s }
     ensures { Meets (line_outcome (line bytes.now) list.old) result list.new }
 {
-    let Parsed::Readable(l) = lines::parse(bytes) else {
+    let Some(line) = lines::parse(bytes) else {
         return answers::refused(Refusal::LineNotReadable);
     };
-    let kind = l.kind;
     let levels = Levels::of(s);
-    operate::operate(list, s, &levels.powers, operation_of(kind))
+    operate::operate(list, &levels, operation_of(line.kind))
 }
 
 // Answers the line that is told of, if one is: puts the bytes that are printed for it into `out`, from the first on; how many they are.
@@ -58,8 +59,8 @@ pub fn line_text(list: &mut [u32], s: Settings, line: &[u8], told: Told, out: &m
     ensures { Answered line_outcome (told_in line.now told) list.old list.new out.new result }
 {
     match told {
-        Told::NoLine => return 0,
-        Told::Line(n) => return report::put_answer(out, 0, step(list, s, &line[0..n]), b'\n'),
-        Told::LongLine => return report::put_answer(out, 0, long_line(list), b'\n'),
+        Told::NoLine => 0,
+        Told::Line(n) => report::put_answer(out, 0, step(list, s, &line[..n]), b'\n'),
+        Told::LongLine => report::put_answer(out, 0, long_line(list), b'\n'),
     }
 }

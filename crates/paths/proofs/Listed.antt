@@ -25,8 +25,8 @@ use Rattle.meaning.proofs.Cells.CellsWithin.{owed_within, link_read-within}
 use Rattle.meaning.proofs.Paths.Path.{path_head}
 use Rattle.meaning.proofs.Paths.PathWalk.{path_of_cell}
 use Rattle.words.proofs.Listed.{picture_shaped, power_fits, on_listed}
-use Rattle.paths.specs.declared.Path.{Path}
-use Rattle.paths.specs.Paths.{path_of, Formed, Walkable, WalkEnds, StandsIn, CellPath}
+use Rattle.paths.specs.declared.path.Path.{Path}
+use Rattle.paths.specs.Paths.{path_of, Walkable, WalkEnds, StandsIn, CellPath}
 use Rattle.paths.proofs.Alike.{Alike, path_alike, alike_walkable, alike_trail}
 
 pub picture_walkable : (t : State) → Sound t → Walkable (picture t) t.settings
@@ -108,10 +108,10 @@ module _ {ws : List ℕ} {s : Settings} {x : ℕ} {t : State} (h : StandsIn ws s
 -- what `path_of` answers for the head, and for another cell
 
 pub cell_path_head :
-    (ws : List ℕ) {s : Settings} {x : ℕ} {r : Path} → x ≡ 0 → Formed s.dimensions r → path_of r ≡ replicate s.dimensions 0 → CellPath ws s x r
-cell_path_head ws e f is = record { is = λ t h. is ∙ stands_head h e; formed = f }
+    (ws : List ℕ) {s : Settings} {x : ℕ} {r : Path} → x ≡ 0 → r.used ≡ s.dimensions → path_of r ≡ replicate s.dimensions 0 → CellPath ws s x r
+cell_path_head ws e used is = record { is = λ t h. is ∙ stands_head h e; used = used }
 
 pub cell_path_other :
-    (ws : List ℕ) {s : Settings} {x : ℕ} {r : Path} {k : ℕ} → (x ≡ 0 → ⊥) → k ≡ key_at ws x → Formed s.dimensions r →
+    (ws : List ℕ) {s : Settings} {x : ℕ} {r : Path} {k : ℕ} → (x ≡ 0 → ⊥) → k ≡ key_at ws x → r.used ≡ s.dimensions →
     path_of r ≡ path_over s.dimensions (replicate s.dimensions 0) 0 (trail ws k) → CellPath ws s x r
-cell_path_other ws other key f is = record { is = λ t h. is ∙ stands_path h other key; formed = f }
+cell_path_other ws other key used is = record { is = λ t h. is ∙ stands_path h other key; used = used }

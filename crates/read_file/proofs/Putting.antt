@@ -7,7 +7,7 @@ use mathlib.Core.List.{List, [], ◌∷◌, ◌++◌}
 use Prim.Native.Nat.{ℕ, suc, ◌-◌, ◌^◌, ◌<◌}
 use native.Mathlib.Omega.{arith}
 use lib.Dec.{eqb, leb}
-use lib.ListN.{length, get_or, drop}
+use lib.ListN.{length, get_or}
 use lib.Seq.{get_or-take}
 use Rattle.settings.specs.Numbers.{base_of}
 use Rattle.settings.specs.declared.Settings.{Settings}
@@ -34,8 +34,8 @@ use Rattle.calls.proofs.Restarted.ReadInPath.{last_key_snoc, next_above, AboveAl
 use Rattle.search.specs.Found.{slot_number, slot_parent, slot_shared, slot_cell, found_at, found_of}
 use Rattle.search.specs.declared.Found.{Found}
 use Rattle.search.proofs.Slots.{found_missing}
-use Rattle.paths.specs.Paths.{path_of, held}
-use Rattle.paths.proofs.Paths.{onward_path}
+use Rattle.paths.specs.declared.path.Path.{Path}
+use Rattle.paths.specs.Paths.{path_of, Onward}
 use Rattle.insert.specs.Inserting.{ComesLast}
 use Rattle.read_file.specs.Putting.{Putting}
 
@@ -93,7 +93,7 @@ state_listed {s = s} pairs kept base e =
     header : settings_at (picture (read_state s pairs)) ≡ s
     header = unfold picture read_state in refl
 
-module _ {ws : List ℕ} {s : Settings} {pairs : List Pair} {last : ℕ} {path : List ℕ} (h : Putting ws s pairs last path) where
+module _ {ws : List ℕ} {s : Settings} {pairs : List Pair} {last : ℕ} {path : Path} (h : Putting ws s pairs last path) where
   state_sound : Sound (read_state s pairs)
   state_sound = read_state_sound s pairs h.kept h.base
 
@@ -101,9 +101,9 @@ module _ {ws : List ℕ} {s : Settings} {pairs : List Pair} {last : ℕ} {path :
   put_listed = state_listed pairs h.kept h.base h.words
 
   -- word d of the path of the last key
-  word_is : {d : ℕ} → d < s.dimensions → get_or path d 0 ≡ first_with s.base s.dimensions last (suc d) (head_node ∷ nodes_from 1 pairs)
+  word_is : {d : ℕ} → d < s.dimensions → get_or path.cells d 0 ≡ first_with s.base s.dimensions last (suc d) (head_node ∷ nodes_from 1 pairs)
   word_is {d} l =
-      sym (get_or-take s.dimensions path d 0 l)
+      sym (get_or-take path.used path.cells d 0 (omega (arith, h.used)))
       ∙ ap (λ words. get_or words d 0) h.path_is
       ∙ path_for-at s.base s.dimensions (nodes_from 1 pairs) last d l
 
@@ -139,12 +139,12 @@ module _ {ws : List ℕ} {s : Settings} {pairs : List Pair} {last : ℕ} {path :
           sym (found_at_end t above) ∙ ap (λ u. found_of u p.key) (sym (ap read h.words ∙ read_of_picture t state_sound))
 
       -- its parent is word i of the path
-      parent_is : found.parent ≡ get_or path i 0
+      parent_is : found.parent ≡ get_or path.cells i 0
       unfolding read_state
       parent_is = sym (word_is l ∙ ap (λ d. first_with s.base s.dimensions last (suc d) (head_node ∷ nodes_from 1 pairs)) e)
 
       -- .. which owes nothing
-      unowing : owed_at ws (get_or path i 0) ≡ 0
+      unowing : owed_at ws (get_or path.cells i 0) ≡ 0
       unowing =
           let same : found ≡ found_of t p.key = found_is ∙ ap (λ u. found_of u p.key) (ap read h.words ∙ read_of_picture t state_sound) in
           let stands = (found_missing state_sound (next_pair s pairs p more).positive same refl).parent_stands in
@@ -157,7 +157,7 @@ module _ {ws : List ℕ} {s : Settings} {pairs : List Pair} {last : ℕ} {path :
           let head = ap position_key (ap read h.words ∙ read_of_picture t state_sound) ∙ position_head t refl in
           omega (arith, head, (next_pair s pairs p more).positive)
 
-      pub next_last : ComesLast ws s p.key (get_or path i 0) i
+      pub next_last : ComesLast ws s p.key (get_or path.cells i 0) i
       unfolding read_state
       next_last =
           let n = next_pair s pairs p more in
@@ -174,27 +174,26 @@ module _ {ws : List ℕ} {s : Settings} {pairs : List Pair} {last : ℕ} {path :
 
       -- with the pair put
       pub next_put :
-          {us r : List ℕ} {n : ℕ} → us ≡ (insert_out ws p.key p.value).left → n ≡ get_or ws 4 0 →
-          r ≡ onward s.dimensions path i n ++ drop s.dimensions path → Putting us s (pairs ++ (p ∷ [])) p.key r
-      next_put {us} {r} {n} out cell onwards =
-          let path-on = onward_path i n {q = held s r} h.formed (omega arith) refl onwards in
+          {us : List ℕ} {r : Path} {n : ℕ} → us ≡ (insert_out ws p.key p.value).left → n ≡ get_or ws 4 0 → Onward path i n r →
+          Putting us s (pairs ++ (p ∷ [])) p.key r
+      next_put {us} {r} {n} out cell o =
           record {
             words = out ∙ ap (λ words. (insert_out words p.key p.value).left) h.words ∙ ap (λ o. o.left) (insert_last s pairs p more h.base);
             kept = more;
             base = h.base;
             last_is = sym (last_key_snoc 0 pairs p);
-            path_is = path-on.0 ∙ along ∙ sym (path_next s pairs p more h.base);
-            formed = path-on.1;
+            path_is = o.way ∙ along ∙ sym (path_next s pairs p more h.base);
+            used = o.used ∙ h.used;
           }
         where
-          along : onward s.dimensions (path_of (held s path)) i n
+          along : onward path.used (path_of path) i n
               ≡ onward s.dimensions (path_for s.base s.dimensions (nodes_from 1 pairs) (last_key 0 pairs))
               (shared s.base s.dimensions (last_key 0 pairs) p.key) (suc (length pairs))
           along =
               let b = s.base in
               let D = s.dimensions in
               let row = nodes_from 1 pairs in
-              ap (λ words. onward D words i n) h.path_is
+              ap₂ (λ m words. onward m words i n) h.used h.path_is
               ∙ ap (λ d. onward D (path_for b D row last) d n) e
               ∙ ap (onward D (path_for b D row last) (shared b D last p.key)) (cell ∙ next_cell)
               ∙ ap (λ key. onward D (path_for b D row key) (shared b D key p.key) (suc (length pairs))) h.last_is

@@ -29,7 +29,8 @@ use Rattle.answers.specs.declared.Answer.{Answer}
 use Rattle.meaning.proofs.Paths.Path.{path_head}
 use Rattle.calls.proofs.Restarted.ReadState.{keeps_left}
 use Rattle.calls.proofs.Restarted.ReadIn.{read_in_is}
-use Rattle.paths.proofs.Paths.{zeros_taken, zeros_formed}
+use Rattle.paths.specs.declared.path.Path.{Path}
+use Rattle.paths.specs.Paths.{path_of}
 use Rattle.read_file.specs.Putting.{Putting, NextOfSome, PairPut}
 use Rattle.read_file.proofs.Putting.{state_listed}
 
@@ -100,19 +101,21 @@ module _ {bytes : List ℕ} {s : Settings} {n : ℕ} (t : Told bytes s n) where
   first_kept (suc m) i e =
       keeps_left s (first i) (pair_at bytes (before n) i ∷ []) (ap (keeps s) (sym (pairs_more bytes (before n) i)) ∙ first_kept m (suc i) (omega arith))
 
-  pub put_start : {ws : List ℕ} → ws ≡ picture (read_state s []) → Putting ws s (first 0) 0 (replicate most_dimensions 0)
+  pub put_start :
+      {ws : List ℕ} {path : Path} → ws ≡ picture (read_state s []) → path_of path ≡ replicate s.dimensions 0 → path.used ≡ s.dimensions →
+      Putting ws s (first 0) 0 path
   unfolding pairs_from last_key nodes_from
-  put_start e =
+  put_start e is used =
       record {
         words = e;
         kept = first_kept n 0 (omega arith);
         base = t.base;
         last_is = refl;
-        path_is = zeros_taken s.dimensions most_dimensions told_limits.0 ∙ sym (path_head s.base s.dimensions []);
-        formed = zeros_formed s.dimensions told_limits.0;
+        path_is = is ∙ sym (path_head s.base s.dimensions []);
+        used = used;
       }
 
-  module _ {ws : List ℕ} {last : ℕ} {path : List ℕ} {i : ℕ} (h : Putting ws s (first i) last path) where
+  module _ {ws : List ℕ} {last : ℕ} {path : Path} {i : ℕ} (h : Putting ws s (first i) last path) where
     module _ (less : i < n) {key value : ℕ} (key_is : key ≡ (pair_at bytes (before n) i).key) (value-is : value ≡ (pair_at bytes (before n) i).value) where
       abbrev next : Pair
       next = record { key = key; value = value }
@@ -131,7 +134,7 @@ module _ {bytes : List ℕ} {s : Settings} {n : ℕ} (t : Told bytes s n) where
       put_asks = record { pairs = first i; putting = h; more = more_kept }
 
       -- .. and is put
-      pub put_more : {us r : List ℕ} → PairPut ws us s last path r next → Putting us s (first (i + 1)) key r
+      pub put_more : {us : List ℕ} {r : Path} → PairPut ws us s last path r next → Putting us s (first (i + 1)) key r
       put_more {us} {r} p = subst (λ pairs. Putting us s pairs key r) one_more (p.is (first i) h more_kept)
 
     pub put_all : i ≤ n → n ≤ i → ws ≡ picture (read_state s (pairs_in bytes))

@@ -3,7 +3,6 @@
 #![tactic(auto)]
 
 ghost use Rattle.std.specs.Prelude.{◌≡◌, [], Some};
-ghost use Rattle.settings.specs.Levels.{PowersOf};
 ghost use Rattle.files.specs.Files.{pairs_in, contents_of};
 ghost use Rattle.meaning.specs.Picture.{picture};
 ghost use Rattle.answers.specs.Refusals.{Meets};
@@ -12,26 +11,19 @@ ghost use Rattle.calls.specs.Layer.ReadState.{read_state};
 ghost use Rattle.read_file.specs.Putting.{NextOfSome, PairPut};
 
 use answers::{Answer, Refusal};
+use paths::Path;
 use settings::{Levels, Settings};
 
 // The next pair: its key is above all that stand, `last` is the key before and `path` begins with that one's path, which becomes the new key's.
-fn put_pair(
-    list: &mut [u32],
-    s: Settings,
-    powers: &[u64],
-    last: u32,
-    path: &mut [u32],
-    key: u32,
-    value: u32,
-)
-    requires { NextOfSome list.old s last path.old (record { key = key; value = value }) × PowersOf s powers.now }
-    ensures { PairPut list.old list.new s last path.old path.new (record { key = key; value = value }) }
+fn put_pair(list: &mut [u32], levels: &Levels, last: u32, path: &mut Path, key: u32, value: u32)
+    requires { NextOfSome list.old levels.now.settings last path.old (record { key = key; value = value }) }
+    ensures { PairPut list.old list.new levels.now.settings last path.old path.new (record { key = key; value = value }) }
 {
-    let p = steps::shared(s, powers, last, key);
+    let p = steps::shared(levels, last, key);
     let n = list[words::FIRST_FREE];
-    let parent = path[p as usize];
-    insert::add_last(list, s, n, parent, p, key, value);
-    paths::put_onward(path, s.dimensions, p, n);
+    let parent = path.cells[p as usize];
+    insert::add_last(list, levels.settings, n, parent, p, key, value);
+    paths::put_onward(path, p, n);
 }
 
 // The n pairs of a file, into a list that holds none.
@@ -40,12 +32,12 @@ fn put_pairs(list: &mut [u32], s: Settings, file: &[u8], n: u32)
     ensures { list.new ≡ picture (read_state s (pairs_in file.now)) }
 {
     let levels = Levels::of(s);
-    let mut path = [0u32; 16];
+    let mut path = paths::head_path(s);
     let mut last = 0;
     for i in 0..n {
         let key = files::key_at(file, n, i);
         let value = files::value_at(file, n, i);
-        put_pair(list, s, &levels.powers, last, &mut path, key, value);
+        put_pair(list, &levels, last, &mut path, key, value);
         last = key;
     }
 }

@@ -1,5 +1,4 @@
--- That the reading of a record is its grammar, and what its functions do case by case.
+-- That the reading of a record is its grammar.
 pub mod Accepts
 pub mod Derives
 pub mod Promises
-pub mod Steps

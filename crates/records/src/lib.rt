@@ -43,6 +43,19 @@ pub struct Step {
     pub adds: Adds,
 }
 
+impl Step {
+    fn to(stand: Stand, adds: Adds) -> Step
+        ensures { result ≡ to stand adds }
+    {
+        Step { stand, adds }
+    }
+}
+
+const BROKEN: Step = Step {
+    stand: Stand::Broken,
+    adds: Adds::NoPart,
+};
+
 const COMMA: u8 = 44;
 
 pub const QUOTE: u8 = 34;
@@ -55,144 +68,45 @@ const LEAST_TEXT: u8 = 32;
 
 const MOST_TEXT: u8 = 126;
 
+#[tactic(auto, unfolding(crate::specs::Grammar::is_text))]
 fn is_text(byte: u8) -> bool
     ensures { result ≡ is_text byte }
 {
-    if byte < LEAST_TEXT {
-        return false;
-    }
-    if byte > MOST_TEXT {
-        return false;
-    }
-    if byte == COMMA {
-        return false;
-    }
-    byte != QUOTE
+    matches!(byte, LEAST_TEXT..=MOST_TEXT) && byte != COMMA && byte != QUOTE
 }
 
 fn stands_in_quotes(byte: u8) -> bool
     ensures { result ≡ stands_in_quotes byte }
 {
-    if byte == COMMA {
-        return true;
-    }
-    if byte == CARRIAGE_RETURN {
-        return true;
-    }
-    if byte == LINE_FEED {
-        return true;
-    }
-    is_text(byte)
-}
-
-fn broken() -> Step
-    ensures { result ≡ to Broken NoPart }
-{
-    Step {
-        stand: Stand::Broken,
-        adds: Adds::NoPart,
-    }
+    matches!(byte, COMMA | CARRIAGE_RETURN | LINE_FEED) || is_text(byte)
 }
 
 // A byte right after a field.
+#[tactic(auto, unfolding(crate::specs::Reading::after_field))]
 fn after_field(byte: u8) -> Step
     ensures { result ≡ after_field byte }
 {
-    if byte == COMMA {
-        return Step {
-            stand: Stand::AtField,
-            adds: Adds::AField,
-        };
+    match byte {
+        COMMA => Step::to(Stand::AtField, Adds::AField),
+        CARRIAGE_RETURN => Step::to(Stand::AtReturn, Adds::NoPart),
+        _ => BROKEN,
     }
-    if byte == CARRIAGE_RETURN {
-        return Step {
-            stand: Stand::AtReturn,
-            adds: Adds::NoPart,
-        };
-    }
-    broken()
-}
-
-fn at_field(byte: u8) -> Step
-    ensures { result ≡ step_on AtField byte }
-{
-    if byte == QUOTE {
-        return Step {
-            stand: Stand::InQuotes,
-            adds: Adds::NoPart,
-        };
-    }
-    in_plain(byte)
-}
-
-fn in_plain(byte: u8) -> Step
-    ensures { result ≡ step_on InPlain byte }
-{
-    let text = is_text(byte);
-    if text {
-        return Step {
-            stand: Stand::InPlain,
-            adds: Adds::ItsByte,
-        };
-    }
-    after_field(byte)
-}
-
-fn in_quotes(byte: u8) -> Step
-    ensures { result ≡ step_on InQuotes byte }
-{
-    if byte == QUOTE {
-        return Step {
-            stand: Stand::AtQuote,
-            adds: Adds::NoPart,
-        };
-    }
-    let itself = stands_in_quotes(byte);
-    if itself {
-        return Step {
-            stand: Stand::InQuotes,
-            adds: Adds::ItsByte,
-        };
-    }
-    broken()
-}
-
-fn at_quote(byte: u8) -> Step
-    ensures { result ≡ step_on AtQuote byte }
-{
-    if byte == QUOTE {
-        return Step {
-            stand: Stand::InQuotes,
-            adds: Adds::ItsByte,
-        };
-    }
-    after_field(byte)
-}
-
-fn at_return(byte: u8) -> Step
-    ensures { result ≡ step_on AtReturn byte }
-{
-    if byte == LINE_FEED {
-        return Step {
-            stand: Stand::Closed,
-            adds: Adds::NoPart,
-        };
-    }
-    broken()
 }
 
 // One byte of a record.
+#[tactic(auto, unfolding(crate::specs::Reading::step_on, crate::specs::Grammar::is_text))]
 pub fn read_byte(stand: Stand, byte: u8) -> Step
     ensures { result ≡ step_on stand byte }
 {
     match stand {
-        Stand::AtField => return at_field(byte),
-        Stand::InPlain => return in_plain(byte),
-        Stand::InQuotes => return in_quotes(byte),
-        Stand::AtQuote => return at_quote(byte),
-        Stand::AtReturn => return at_return(byte),
-        Stand::Closed => return broken(),
-        Stand::Broken => return broken(),
+        Stand::AtField if byte == QUOTE => Step::to(Stand::InQuotes, Adds::NoPart),
+        Stand::AtField | Stand::InPlain if is_text(byte) => Step::to(Stand::InPlain, Adds::ItsByte),
+        Stand::InQuotes if byte == QUOTE => Step::to(Stand::AtQuote, Adds::NoPart),
+        Stand::InQuotes if stands_in_quotes(byte) => Step::to(Stand::InQuotes, Adds::ItsByte),
+        Stand::AtQuote if byte == QUOTE => Step::to(Stand::InQuotes, Adds::ItsByte),
+        Stand::AtField | Stand::InPlain | Stand::AtQuote => after_field(byte),
+        Stand::AtReturn if byte == LINE_FEED => Step::to(Stand::Closed, Adds::NoPart),
+        _ => BROKEN,
     }
 }
 
@@ -200,13 +114,8 @@ pub fn read_byte(stand: Stand, byte: u8) -> Step
 pub fn may_end(stand: Stand) -> bool
     ensures { result ≡ may_end stand }
 {
-    match stand {
-        Stand::AtField => return true,
-        Stand::InPlain => return true,
-        Stand::InQuotes => return false,
-        Stand::AtQuote => return true,
-        Stand::AtReturn => return false,
-        Stand::Closed => return true,
-        Stand::Broken => return false,
-    }
+    matches!(
+        stand,
+        Stand::AtField | Stand::InPlain | Stand::AtQuote | Stand::Closed
+    )
 }

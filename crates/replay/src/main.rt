@@ -59,11 +59,11 @@ fn feed_byte(
     ensures { Kept words.new bytes.new line.new result }
 {
     let fed = text::feed::feed_byte(line, state.feed, byte);
-    let feed = fed.feed;
-    let ended = fed.told;
-    let before = state.sizes;
-    let sizes = trace_step::answer_line(words, bytes, last, before, line, ended);
-    State { feed, sizes }
+    let sizes = trace_step::answer_line(words, bytes, last, state.sizes, line, fed.told);
+    State {
+        feed: fed.feed,
+        sizes,
+    }
 }
 
 // A part of the input, byte by byte.
@@ -79,16 +79,14 @@ fn feed_part(
     ensures { Kept words.new bytes.new line.new result }
 {
     let mut s = state;
-    let mut i = 0;
-    while i < part.len() {
-        s = feed_byte(words, bytes, last, line, s, part[i]);
-        i += 1;
+    for byte in part {
+        s = feed_byte(words, bytes, last, line, s, *byte);
     }
     s
 }
 
-// The input, in parts, to its end or to a read that fails. Nothing says that an input ends, so the turns are counted down from a number
-// that no run uses up.
+// The input, in parts, to its end or to a read that fails. Nothing says that an input ends, so the turns are counted, up to a number
+// that no run reaches.
 fn read_all(input: &mut Stdin, words: &mut [u32], bytes: &mut [u8], last: &mut u64, line: &mut [u8])
     requires { (length words.old ≡ most_words) × ((length bytes.old ≡ most_held) × (length line.old ≡ most_bytes)) }
 {
@@ -97,20 +95,14 @@ fn read_all(input: &mut Stdin, words: &mut [u32], bytes: &mut [u8], last: &mut u
         sizes: Sizes { used: 0, filled: 0 },
     };
     let mut part = io::large_buffer();
-    let mut turns = u64::MAX;
-    while 0 < turns {
-        let Ok(n) = input.read(&mut part) else {
+    for _ in 0..u64::MAX {
+        let Ok(n @ 1..) = input.read(&mut part) else {
             break;
         };
-        if n == 0 {
-            break;
-        }
         s = feed_part(words, bytes, last, line, s, &part[..n]);
-        turns -= 1;
     }
     let ended = text::feed::finish(s.feed);
-    let sizes = s.sizes;
-    trace_step::answer_line(words, bytes, last, sizes, line, ended);
+    trace_step::answer_line(words, bytes, last, s.sizes, line, ended);
 }
 
 fn main(rt: HostRuntime) {

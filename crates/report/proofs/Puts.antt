@@ -1,11 +1,11 @@
 -- Bytes put after others: what is put twice, each time at the index after the last, is put at once.
-use mathlib.Core.Path.{◌≡◌, refl, sym, ◌∙◌, ap, ap₂, subst}
-use mathlib.Core.List.{List, [], ◌∷◌, ◌++◌}
-use Prim.Native.Nat.{ℕ, ◌+◌, ◌≤◌, ◌<◌}
-use native.Mathlib.Numerals.{add-one}
+use mathlib.Core.Path.{◌≡◌, refl, sym, ◌∙◌, ap, ap₂}
+use mathlib.Core.List.{List, [], ◌∷◌, ◌++◌, append_assoc}
+use Prim.Native.Nat.{ℕ, ◌+◌, ◌-◌, ◌≤◌}
 use native.Mathlib.Omega.{arith}
-use lib.ListN.{length, get_or, set, take, drop, length-append}
-use lib.Seq.{take-suc, take_all, append_snoc, take_at, sets, sets-eq, length-sets}
+use lib.ListN.{length, set, take, drop, length-append}
+use lib.Seq.{append_snoc, take_at, drop-drop, sets, sets-eq, length-sets}
+use borrow.Rule.Slice.PartMut.{put_mid}
 use Rattle.lists.proofs.Sets.{sets_append}
 use Rattle.report.specs.Report.{Put}
 
@@ -30,19 +30,18 @@ pub put_field :
     Put before at (xs ++ (byte ∷ [])) middle between → Put middle between ys after r → Put before at (xs ++ (byte ∷ ys)) after r
 put_field xs byte {ys} p q = rw (← append_snoc xs byte ys) (put_more p q)
 
--- one of the bytes more
-pub put_next :
-    {before after : List ℕ} {at : ℕ} (bytes : List ℕ) (i : ℕ) → Put before at (take i bytes) after (at + i) → i < length bytes →
-    Put before at (take (i + 1) bytes) (set after (at + i) (get_or bytes i 0)) (at + (i + 1))
-put_next {after = after} {at} bytes i p h =
-    let next : at + (i + 1) ≡ at + i + 1 = omega arith in
-    rw (next, add-one i, take-suc bytes i 0 h) (put_more p (put_byte after (at + i) (get_or bytes i 0)))
-
--- all of them
-pub put_all :
-    {before after : List ℕ} {at r : ℕ} (bytes : List ℕ) (i : ℕ) → Put before at (take i bytes) after r → length bytes ≤ i →
-    Put before at bytes after r
-put_all {before} {after} {at} {r} bytes i p h = subst (λ l. Put before at l after r) (take_all i bytes h) p
+-- a part of an array, lent to its end, to which the bytes were copied
+pub put_part :
+    (before : List ℕ) (at : ℕ) (bytes : List ℕ) {copied : List ℕ} → copied ≡ bytes → at + length bytes ≤ length before →
+    Put before at bytes (put_mid at (at + length bytes - at) before copied) (at + length bytes)
+put_part before at bytes {copied} e h =
+    let k : at + length bytes - at ≡ length bytes = omega arith in
+    record {
+      is =
+          rw (e, k, drop-drop (length bytes) at before)
+          (sym (sets-eq bytes before at h ∙ append_assoc (take at before) bytes (drop (at + length bytes) before)));
+      end = refl;
+    }
 
 -- What is put at the start of an array is its first bytes, up to the index after it.
 pub put_start :

@@ -49,6 +49,19 @@ checksum_from h (w ∷ ws) = checksum_from ((h * 1000003 + w) % 2147483647) ws
 abbrev pub checksum_of : List ℕ → ℕ
 checksum_of ws = checksum_from (length ws) ws
 
+-- what elements convert into, one by one
+unfoldable pub Converted : {A : Type 0} → (A → ℕ → Type 0) → List A → List ℕ → Type 0
+Converted converts [] [] = Unit {0}
+Converted converts [] (n ∷ ns) = ⊥
+Converted converts (x ∷ xs) [] = ⊥
+Converted converts (x ∷ xs) (n ∷ ns) = converts x n × Converted converts xs ns
+
+-- The checksum of words or bytes, as the numbers that they convert into.
+pub record ChecksumOf {A : Type 0} (converts : A → ℕ → Type 0) (part : List A) (r : ℕ) : Type 0 where
+  pub numbers : List ℕ
+  pub converted : Converted converts part numbers
+  pub is : r ≡ checksum_of numbers
+
 -- the end of a line that tells of a buffer's words: their checksum and a line feed
 unfoldable pub checksum_text : List ℕ → List ℕ
 checksum_text ws = decimal (checksum_of ws) ++ (line_feed ∷ [])

@@ -3,7 +3,7 @@
 #![tactic(auto)]
 
 ghost use Rattle.std.specs.Prelude.{◌≡◌, [], ◌∷◌, ◌++◌, ◌+◌, ◌*◌, ◌%◌, ◌≤◌, ◌<◌, length};
-ghost use Rattle.report.specs.Report.{decimal, answer_text, field_bytes, answer_bytes, checked_bytes, Put, checksum_of};
+ghost use Rattle.report.specs.Report.{decimal, answer_text, field_bytes, answer_bytes, checked_bytes, Put, ChecksumOf};
 ghost use Rattle.report.specs.Report.{checksum_text, checked_text};
 
 use answers::Answer;
@@ -29,12 +29,9 @@ pub fn put(out: &mut [u8], at: usize, bytes: &[u8]) -> usize
     requires { at + length bytes.now ≤ length out.old }
     ensures { Put out.old at bytes.now out.new result }
 {
-    let mut i = 0;
-    while i < bytes.len() {
-        out[at + i] = bytes[i];
-        i += 1;
-    }
-    at + i
+    let end = at + bytes.len();
+    out[at..end].copy_from_slice(bytes);
+    end
 }
 
 // Puts a number in decimal, and a byte after it.
@@ -68,28 +65,13 @@ fn summed(h: u64, word: u32) -> u64
     (h * FACTOR + word as u64) % MODULUS
 }
 
-// The checksum of words: it starts at their number, and each is summed in order.
-pub fn checksum(part: &[u32]) -> u64
-    ensures { result ≡ checksum_of part.now }
+// The checksum of words, or of bytes: it starts at their number, and each is summed in order.
+pub fn checksum<T: Copy + Into<u32>>(part: &[T]) -> u64
+    ensures { ChecksumOf T.converts part.now result }
 {
     let mut h = part.len() as u64 % MODULUS;
-    let mut i = 0;
-    while i < part.len() {
-        h = summed(h, part[i]);
-        i += 1;
-    }
-    h
-}
-
-// The same of bytes.
-pub fn checksum_of_bytes(part: &[u8]) -> u64
-    ensures { result ≡ checksum_of part.now }
-{
-    let mut h = part.len() as u64 % MODULUS;
-    let mut i = 0;
-    while i < part.len() {
-        h = summed(h, part[i] as u32);
-        i += 1;
+    for element in part {
+        h = summed(h, (*element).into());
     }
     h
 }

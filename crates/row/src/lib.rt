@@ -35,7 +35,7 @@ const LIVE: u32 = 1;
 
 const DEAD: u32 = 2;
 
-// A place: what is said of a standing key, a word each. The mark may be any number until the row is checked, and so it is one.
+// A place: what is said of a standing key, a word each. Until the row is checked the mark may be any number, so it is no enum.
 #[derive(Clone, Copy)]
 struct Place {
     key: u32,

@@ -38,17 +38,14 @@ fn feed_part(words: &mut [u32], line: &mut [u8], state: State, part: &[u8]) -> S
     ensures { Kept words.new line.new result }
 {
     let mut s = state;
-    let mut i = 0;
-    while i < part.len() {
-        let byte = part[i];
-        i += 1;
-        s = feed_byte(words, line, s, byte);
+    for byte in part {
+        s = feed_byte(words, line, s, *byte);
     }
     s
 }
 
-// The input, in parts, to its end or to a read that fails. Nothing says that an input ends, so the turns are counted down from a number
-// that no run uses up.
+// The input, in parts, to its end or to a read that fails. Nothing says that an input ends, so the turns are counted up to a number
+// that no run reaches.
 fn read_all(input: &mut Stdin, words: &mut [u32], line: &mut [u8])
     requires { (length words.old ≡ most_words) × (length line.old ≡ most_bytes) }
 {
@@ -57,8 +54,7 @@ fn read_all(input: &mut Stdin, words: &mut [u32], line: &mut [u8])
         used: 0,
     };
     let mut part = io::large_buffer();
-    let mut turns = u64::MAX;
-    while 0 < turns {
+    for _ in 0..u64::MAX {
         let Ok(n) = input.read(&mut part) else {
             break;
         };
@@ -66,7 +62,6 @@ fn read_all(input: &mut Stdin, words: &mut [u32], line: &mut [u8])
             break;
         }
         s = feed_part(words, line, s, &part[..n]);
-        turns -= 1;
     }
     let ended = text::feed::finish(s.feed);
     row_step::answer_line(words, s.used, line, ended);

@@ -1,10 +1,8 @@
 -- The line of a row is put: the words were all filled before set up was called on them.
 use mathlib.Core.Path.{◌≡◌, ◌∙◌, ap, ap₂}
 use mathlib.Core.List.{List}
-use Prim.Native.Nat.{ℕ, ◌-◌, ◌≤◌}
-use native.Mathlib.Nat.{sub-zero}
+use Prim.Native.Nat.{ℕ, ◌≤◌}
 use lib.ListN.{length, take, replicate}
-use lib.Seq.{length-take-le}
 use Rattle.answers.specs.Refusals.{Meets}
 use Rattle.meaning.specs.Operations.{set_up_out}
 use Rattle.answers.specs.declared.Answer.{Answer}
@@ -22,7 +20,3 @@ edge_put D K C n is met put fits =
           ∙ ap (λ (ws : List ℕ). checked_text (set_up_out D K C ws).answered (set_up_out D K C ws).left) is,
       bytes.1,
     )
-
--- the words lent, from 0 to n, are n
-pub lent_length : (words : List ℕ) (n : ℕ) → n ≤ length words → length (take (n - 0) words) ≡ n
-lent_length words n h = ap (λ (m : ℕ). length (take m words)) (sub-zero n) ∙ length-take-le n words h

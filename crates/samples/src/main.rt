@@ -67,26 +67,25 @@ fn edge_text(part: &mut [u32], d: u32, k: u32, c: u32, out: &mut [u8]) -> usize
     requires { checked_bytes ≤ length out.old }
     ensures { (take result out.new ≡ edge_text d k c (length part.old)) × (result ≤ length out.new) }
 {
-    lists::fill(part, LEFT);
+    part.fill(LEFT);
     let a = mdlist::mdlist_set_up(d, k, c, part);
     report::put_checked(out, a, part)
 }
 
 // Lends the first of the words, as many as the row asks for.
 fn edge(words: &mut [u32], row: [u32; 4]) {
-    let n = row[3] as usize;
+    let [d, k, c, len] = row;
+    let n = len as usize;
     if n <= words.len() {
         let mut out = [0u8; report::CHECKED_BYTES];
-        let end = edge_text(&mut words[0..n], row[0], row[1], row[2], &mut out);
+        let end = edge_text(&mut words[..n], d, k, c, &mut out);
         write(&out[..end], row);
     }
 }
 
 fn main() {
     let mut words = [0u32; MOST_WORDS];
-    let mut i = 0;
-    while i < EDGES.len() {
-        edge(&mut words, EDGES[i]);
-        i += 1;
+    for row in EDGES {
+        edge(&mut words, row);
     }
 }

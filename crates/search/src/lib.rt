@@ -4,7 +4,6 @@
 #![tactic(auto)]
 
 ghost use Rattle.std.specs.Prelude.{◌≡◌, suc, ◌≤◌, ◌<◌};
-ghost use Rattle.settings.specs.Levels.{PowersOf};
 ghost use Rattle.meaning.specs.Lower.{lower_from};
 ghost use Rattle.meaning.specs.Resting.{rest};
 ghost use Rattle.meaning.specs.Layer.Listed.{Listed};
@@ -12,7 +11,7 @@ ghost use Rattle.steps.specs.Blocks.{BlocksOf};
 ghost use Rattle.search.specs.Found.{Searched, SoughtSome};
 
 use meaning::{Rest, Step};
-use settings::Settings;
+use settings::{Levels, Settings};
 
 // What is known when the walk for k has come to rest.
 #[derive(Clone, Copy)]
@@ -80,13 +79,13 @@ fn moved(r: Rest, standing: bool, q: u32) -> Found
 }
 
 // The search for k. Where the walk rests below k it wants a link of the cell at hand; else its last move went to k or above it.
-pub fn search(list: &[u32], s: Settings, powers: &[u64], k: u32) -> Found
-    requires { Listed list.now s × (PowersOf s powers.now × ((1 ≤ k) × (k ≤ s.largest))) }
-    ensures { Searched list.now s k result }
+pub fn search(list: &[u32], levels: &Levels, k: u32) -> Found
+    requires { Listed list.now levels.now.settings × ((1 ≤ k) × (k ≤ levels.now.settings.largest)) }
+    ensures { Searched list.now levels.now.settings k result }
 {
-    let starts = steps::block_starts(k, s, powers);
-    let r = rest_of(list, s, &starts, powers, k);
-    let key = words::word(list, s, r.at, words::KEY);
+    let starts = steps::block_starts(k, levels);
+    let r = rest_of(list, levels.settings, &starts, &levels.powers, k);
+    let key = words::word(list, levels.settings, r.at, words::KEY);
     if key < k {
         return Found {
             standing: false,
@@ -100,7 +99,7 @@ pub fn search(list: &[u32], s: Settings, powers: &[u64], k: u32) -> Found
     if k < key {
         return moved(r, false, r.coordinate);
     }
-    moved(r, true, s.dimensions)
+    moved(r, true, levels.settings.dimensions)
 }
 
 // The standing cell of next smaller key than the one sought, the head if there is no other: the last cell of the parent's branch from the

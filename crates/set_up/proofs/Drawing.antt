@@ -1,12 +1,12 @@
 -- A list that is written from the front is what is written so far and what stood after it: each law takes one write to the next.
 use mathlib.Core.Path.{◌≡◌, refl, sym, ap, ◌∙◌}
-use mathlib.Core.List.{List, ◌++◌, append_assoc, append-nil, flat_map}
+use mathlib.Core.List.{List, ◌∷◌, ◌++◌, append_assoc, append-nil, flat_map}
 use Prim.Native.Nat.{ℕ, zero, suc, ◌+◌, ◌*◌, ◌-◌, ◌≤◌, ◌<◌}
 use native.Mathlib.Nat.{add-zero, zero-add, add-suc, suc-add, zero-mul, suc-mul, mul-le-mul_right, add-sub_cancel_left}
 use native.Mathlib.Numerals.{add-one}
 use native.Mathlib.Omega.{arith}
-use lib.ListN.{length, take, drop, length-append, length-drop, length-replicate, take-append-drop}
-use lib.Seq.{drop-drop, take_at, drop_at, length-take-le}
+use lib.ListN.{length, take, drop, set, length-append, length-drop, length-replicate, take-append-drop}
+use lib.Seq.{drop-drop, drop-length, take_at, drop_at, length-take-le}
 use borrow.Rule.Slice.PartMut.{mid_of, put_mid, mid_len}
 use Rattle.settings.specs.Numbers.{header_words, cell_words, length_of}
 use Rattle.settings.specs.declared.Settings.{Settings}
@@ -27,6 +27,16 @@ written done ys l a e h le =
     rw (take_at done (drop a l) a h, drop_at done (drop a l) a h, drop-drop (e - a) a l, k) (sym (append_assoc done ys (drop e l)))
 
 -- A cell
+
+-- a part that is 0 up to its end, with two words set
+pub cell_written :
+    (first mark : ℕ) (l : List ℕ) {part : List ℕ} {i : ℕ} → 3 ≤ length l → i ≡ length l → part ≡ zeros i ++ drop i l →
+    set (set part 0 first) 2 mark ≡ cell_of (length l) first mark
+cell_written first mark l h e is =
+    rw (is, e, drop-length l, append-nil (zeros (length l))) (three (length l) (length l - 3) (omega arith))
+  where
+    three : (n m : ℕ) → n ≡ suc (suc (suc m)) → set (set (zeros n) 0 first) 2 mark ≡ first ∷ 0 ∷ mark ∷ zeros m
+    three n m e = rw e refl
 
 length-fresh_cell : (D C x : ℕ) → length (fresh_cell D C x) ≡ cell_words D
 unfolding fresh_cell

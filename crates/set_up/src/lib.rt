@@ -11,6 +11,7 @@ use answers::{Answer, Refusal};
 use settings::Settings;
 
 // A cell's words: its first word, its mark, every other word 0.
+#[tactic(auto, using(crate::proofs::Drawing::cell_written))]
 fn write_cell(part: &mut [u32], first: u32, mark: u32)
     requires { 3 ≤ length part.old }
     ensures { part.new ≡ cell_of (length part.old) first mark }
@@ -70,6 +71,7 @@ fn write_cells(list: &mut [u32], d: u32, c: u32)
 }
 
 // Every word of a fresh list with settings s.
+#[tactic(auto, using(crate::proofs::Drawing::list_written))]
 fn draw(list: &mut [u32], s: Settings)
     requires { length list.old ≡ length_of s.dimensions s.cells }
     ensures { list.new ≡ fresh_list s }

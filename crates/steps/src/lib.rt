@@ -3,14 +3,13 @@
 
 ghost use Rattle.std.specs.Prelude.{◌≡◌, ◌-◌, ◌%◌, ◌^◌, ◌<◌, ◌≤◌};
 ghost use Rattle.settings.specs.Numbers.{most_dimensions};
-ghost use Rattle.settings.specs.Levels.{PowersOf};
 ghost use Rattle.meaning.specs.Keys as keys;
 ghost use Rattle.meaning.specs.Walk.{step_at};
 ghost use Rattle.words.specs.Shaped.{Shaped};
 ghost use Rattle.steps.specs.Blocks.{StartsOf, BlocksOf, Met};
 
 use meaning::Step;
-use settings::Settings;
+use settings::{Levels, Settings};
 
 // Where the block of a key starts whose level has this power of b.
 pub fn block_start(key: u32, power: u64) -> u64
@@ -22,29 +21,29 @@ pub fn block_start(key: u32, power: u64) -> u64
 }
 
 // Where the blocks of k start: word d is for that of level d + 1, whose keys share coordinates 0 to d with k.
-pub fn block_starts(k: u32, s: Settings, powers: &[u64]) -> [u64; 16]
-    requires { (s.dimensions ≤ most_dimensions) × PowersOf s powers.now }
-    ensures { StartsOf s k result }
+pub fn block_starts(k: u32, levels: &Levels) -> [u64; 16]
+    requires { levels.now.settings.dimensions ≤ most_dimensions }
+    ensures { StartsOf levels.now.settings k result }
 {
     let mut starts = [0u64; 16];
-    for d in 0..s.dimensions as usize {
-        starts[d] = block_start(k, powers[d + 1]);
+    for d in 0..levels.settings.dimensions as usize {
+        starts[d] = block_start(k, levels.powers[d + 1]);
     }
     starts
 }
 
 // How many coordinates key x shares with a larger key y: x is not before y's block of that level, and before the next one.
-pub fn shared(s: Settings, powers: &[u64], x: u32, y: u32) -> u32
-    requires { (s.dimensions ≤ most_dimensions) × (PowersOf s powers.now × ((x < y) × (y < s.base ^ s.dimensions))) }
-    ensures { (result ≡ keys.shared s.base s.dimensions x y) × (result < s.dimensions) }
+pub fn shared(levels: &Levels, x: u32, y: u32) -> u32
+    requires { (levels.now.settings.dimensions ≤ most_dimensions) × ((x < y) × (y < levels.now.settings.base ^ levels.now.settings.dimensions)) }
+    ensures { (result ≡ keys.shared levels.now.settings.base levels.now.settings.dimensions x y) × (result < levels.now.settings.dimensions) }
 {
     let key = x as u64;
-    for d in 0..s.dimensions {
-        if key < block_start(y, powers[d as usize + 1]) {
+    for d in 0..levels.settings.dimensions {
+        if key < block_start(y, levels.powers[d as usize + 1]) {
             return d;
         }
     }
-    s.dimensions
+    levels.settings.dimensions
 }
 
 // One step of the walk for k from cell x and coordinate d. The cell shares the coordinates before d with k, so at d it is below k before

@@ -3,7 +3,6 @@
 #![tactic(auto)]
 
 ghost use Rattle.std.specs.Prelude.{◌≡◌, ◌-◌};
-ghost use Rattle.settings.specs.Levels.{PowersOf};
 ghost use Rattle.answers.specs.Refusals.{Meets};
 ghost use Rattle.meaning.specs.Operations.{sweep_out};
 ghost use Rattle.meaning.specs.Layer.SweepStores.{finish_all};
@@ -12,17 +11,15 @@ ghost use Rattle.free_between.specs.Between.{SweptTo, Paid};
 
 use answers::Answer;
 use free_between::Target;
-use settings::Settings;
+use settings::{Levels, Settings};
 
 // All that is owed is finished.
 fn finish_all(list: &mut [u32], s: Settings)
     requires { Listed list.old s }
     ensures { (list.new ≡ finish_all s.dimensions list.old 1 (s.cells - 1)) × Paid list.new s }
 {
-    let mut n: u32 = 1;
-    while n < s.cells {
+    for n in 1..s.cells {
         finish::finish_cell(list, s, n);
-        n += 1;
     }
 }
 
@@ -34,38 +31,31 @@ fn seek_target(list: &[u32], s: Settings) -> Target
     let mut at: u32 = 0;
     let mut number: u32 = 0;
     let mut path = paths::head_path(s);
-    loop {
-        let next = paths::next(list, s, path);
-        if next.cell == 0 {
-            return Target {
-                cell: at,
-                number,
-                path,
-            };
-        }
+    while let Some(next) = paths::next_from(list, s, &path) {
         if words::word(list, s, next.cell, words::MARK) == words::LIVE {
-            return Target {
-                cell: at,
-                number,
-                path,
-            };
+            break;
         }
         at = next.cell;
         number = next.number;
-        path = next.path;
+        paths::put_onward(&mut path, number, at);
+    }
+    Target {
+        cell: at,
+        number,
+        path,
     }
 }
 
-// On a list with settings s: The operations 6.
-pub fn sweep(list: &mut [u32], s: Settings, powers: &[u64]) -> Answer
-    requires { Listed list.old s × PowersOf s powers.now }
+// On a list with these settings: The operations 6.
+pub fn sweep(list: &mut [u32], levels: &Levels) -> Answer
+    requires { Listed list.old levels.now.settings }
     ensures { Meets (sweep_out list.old) result list.new }
 {
-    finish_all(list, s);
-    let t = seek_target(list, s);
+    finish_all(list, levels.settings);
+    let t = seek_target(list, levels.settings);
     if t.cell == 0 {
         return answers::accepted(0, 0, 0);
     }
-    let count = free_between::drop_front(list, s, powers, t);
+    let count = free_between::drop_front(list, levels, t);
     answers::accepted(0, 0, count)
 }

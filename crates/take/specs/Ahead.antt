@@ -1,22 +1,22 @@
 -- What `first_live` answers, by the row of the state that the words hold: its first live node, and what is passed up to it.
-use Rattle.std.specs.Prelude.{◌≡◌, List, [], ◌∷◌, ℕ, ◌<◌}
+use Rattle.std.specs.Prelude.{◌≡◌, None, Some, IfSome, List, [], ◌∷◌, ℕ, ◌<◌}
 use Rattle.settings.specs.declared.Settings.{Settings}
 use Rattle.meaning.specs.Row.{Node}
 use Rattle.meaning.specs.State.{State, position_key}
 use Rattle.meaning.specs.Reading.{read}
 use Rattle.meaning.specs.Operations.{from_live, keys_above, keys_passed}
 use Rattle.meaning.specs.Layer.Paths.{path_for}
-use Rattle.paths.specs.Paths.{path_of, Formed}
+use Rattle.paths.specs.Paths.{path_of}
 use Rattle.take.specs.declared.Ahead.{Ahead}
 
 -- nothing is live
 pub record NoneLive (t : State) (r : Ahead) : Type 0 where
-  pub cell : r.cell ≡ 0
+  pub cell : r.cell ≡ None
   pub passed : r.passed ≡ keys_above (position_key t) t.row
 
 -- x is the first live node, with its path
 pub record LiveAt (t : State) (x : Node) (r : Ahead) : Type 0 where
-  pub cell : r.cell ≡ x.cell
+  pub cell : r.cell ≡ Some x.cell
   pub passed : r.passed ≡ keys_passed (position_key t) x.key t.row
   pub path : path_of r.path ≡ path_for t.settings.base t.settings.dimensions t.row x.key
 
@@ -27,5 +27,5 @@ AheadIs t r (x ∷ later) = LiveAt t x r
 
 pub record FirstLive (ws : List ℕ) (s : Settings) (r : Ahead) : Type 0 where
   pub found : AheadIs (read ws) r (from_live (read ws).row)
-  pub below : r.cell < s.cells
-  pub formed : Formed s.dimensions r.path
+  pub below : IfSome r.cell (λ x. x < s.cells)
+  pub used : r.path.used ≡ s.dimensions

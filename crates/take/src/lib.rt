@@ -10,10 +10,11 @@ use answers::{Answer, Refusal};
 use paths::Path;
 use settings::Settings;
 
-// What stands after the position: the first live cell, 0 if there is none, its path, and how many cells were passed up to it.
+// What stands after the position: the first live cell, if there is one, how many cells were passed up to it, or else to the end, and the
+// path of the last of them.
 #[derive(Clone, Copy)]
 pub struct Ahead {
-    pub cell: u32,
+    pub cell: Option<u32>,
     pub passed: u32,
     pub path: Path,
 }
@@ -25,24 +26,20 @@ pub fn first_live(list: &[u32], s: Settings) -> Ahead
 {
     let mut path = paths::read_path(list, s);
     let mut passed: u32 = 0;
-    loop {
-        let next = paths::next(list, s, path);
-        if next.cell == 0 {
-            return Ahead {
-                cell: 0,
-                passed,
-                path,
-            };
-        }
+    while let Some(next) = paths::next(list, s, &mut path) {
         passed += 1;
-        path = next.path;
         if words::word(list, s, next.cell, words::MARK) == words::LIVE {
             return Ahead {
-                cell: next.cell,
+                cell: Some(next.cell),
                 passed,
                 path,
             };
         }
+    }
+    Ahead {
+        cell: None,
+        passed,
+        path,
     }
 }
 
@@ -52,14 +49,13 @@ pub fn take(list: &mut [u32], s: Settings) -> Answer
     ensures { Meets (take_out list.old) result list.new }
 {
     let ahead = first_live(list, s);
-    if ahead.cell == 0 {
+    let Some(x) = ahead.cell else {
         return answers::refused(Refusal::NothingLive(ahead.passed));
-    }
-    let key = words::word(list, s, ahead.cell, words::KEY);
-    let value = words::word(list, s, ahead.cell, words::VALUE);
-    words::store(list, s, ahead.cell, words::VALUE, 0);
-    words::store(list, s, ahead.cell, words::MARK, words::DEAD);
-    let path = ahead.path;
-    paths::write_path(list, s, path);
+    };
+    let key = words::word(list, s, x, words::KEY);
+    let value = words::word(list, s, x, words::VALUE);
+    words::store(list, s, x, words::VALUE, 0);
+    words::store(list, s, x, words::MARK, words::DEAD);
+    paths::write_path(list, s, ahead.path);
     answers::accepted(key, value, ahead.passed)
 }

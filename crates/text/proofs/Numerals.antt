@@ -85,21 +85,14 @@ unfolding decimal_from
 decimal_grows n [] = le_refl n
 decimal_grows n (byte ∷ field) = let more = decimal_grows (n * 10 + (byte - 48)) field in omega arith
 
--- One byte, as the functions test it.
-
-pub below_digits : (byte : ℕ) → byte < 48 → is_digit byte ≡ false
-below_digits byte low = rw (lt-leb 48 byte low) refl
-
-pub above_digits : (byte : ℕ) → 57 < byte → is_digit byte ≡ false
-above_digits byte high = rw (lt-leb byte 57 high) (and-false (leb 48 byte))
-
-pub within_digits : (byte : ℕ) → 48 ≤ byte → byte ≤ 57 → is_digit byte ≡ true
-within_digits byte low high = rw (le-leb 48 byte low, le-leb byte 57 high) refl
+-- One byte, as the function tests it.
 
 module _ (most byte : ℕ) where
-  pub first_none : is_digit byte ≡ false → NoNumber ≡ digit_on most NoDigit byte
+  pub none_on : (begun : Begun) → is_digit byte ≡ false → NoNumber ≡ digit_on most begun byte
   unfolding digit_on
-  first_none e = rw e refl
+  none_on NoDigit e = rw e refl
+  none_on (Value n) e = rw (e, and-false (ltb 0 n)) refl
+  none_on NoNumber e = refl
 
   pub first_is : is_digit byte ≡ true → up_to most (byte - 48) ≡ digit_on most NoDigit byte
   unfolding digit_on
@@ -108,10 +101,6 @@ module _ (most byte : ℕ) where
   pub zero_ends : (n : ℕ) → n ≡ 0 → NoNumber ≡ digit_on most (Value n) byte
   unfolding digit_on
   zero_ends n e = rw e refl
-
-  pub further_none : (n : ℕ) → is_digit byte ≡ false → NoNumber ≡ digit_on most (Value n) byte
-  unfolding digit_on
-  further_none n e = rw (e, and-false (ltb 0 n)) refl
 
   pub further_is : (n : ℕ) → 0 < n → is_digit byte ≡ true → up_to most (n * 10 + (byte - 48)) ≡ digit_on most (Value n) byte
   unfolding digit_on

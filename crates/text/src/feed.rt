@@ -92,6 +92,7 @@ pub fn feed_byte(buffer: &mut [u8], feed: Feed, byte: u8) -> Fed
 }
 
 // The end of the input: a line begun counts, and there is none where nothing follows the last line feed.
+#[tactic(auto, using(crate::proofs::Steps::finished_over, crate::proofs::Steps::finished_none, crate::proofs::Steps::finished_some))]
 pub fn finish(feed: Feed) -> Told
     requires { feed.fill ≤ most_bytes }
     ensures { FeedEnded feed result }

@@ -16,11 +16,11 @@ pub fn make_operation(list: &mut [u32], operation: Operation) -> Answer
     ensures { Meets (operation_out operation list.old) result list.new }
 {
     match operation {
-        Operation::Insert(key, value) => return mdlist::mdlist_insert(list, key, value),
-        Operation::Find(key) => return mdlist::mdlist_find(list, key),
-        Operation::Finish(key) => return mdlist::mdlist_finish(list, key),
-        Operation::Take => return mdlist::mdlist_take(list),
-        Operation::Sweep => return mdlist::mdlist_sweep(list),
+        Operation::Insert(key, value) => mdlist::mdlist_insert(list, key, value),
+        Operation::Find(key) => mdlist::mdlist_find(list, key),
+        Operation::Finish(key) => mdlist::mdlist_finish(list, key),
+        Operation::Take => mdlist::mdlist_take(list),
+        Operation::Sweep => mdlist::mdlist_sweep(list),
     }
 }
 
@@ -29,11 +29,11 @@ fn make(list: &mut [u32], bytes: &mut [u8], last: &mut u64, call: Call) -> Answe
     ensures { Meets (outcome call (lent_of list.old bytes.old last.old)) result (lent_of list.new bytes.new last.new) }
 {
     match call {
-        Call::SetUp(d, k, c) => return mdlist::mdlist_set_up(d, k, c, list),
-        Call::Operate(operation) => return make_operation(list, operation),
-        Call::Record => return mdlist::mdlist_record(list, bytes, last),
-        Call::Write => return mdlist::mdlist_write(list, bytes),
-        Call::Read => return mdlist::mdlist_read(bytes, list),
+        Call::SetUp(d, k, c) => mdlist::mdlist_set_up(d, k, c, list),
+        Call::Operate(operation) => make_operation(list, operation),
+        Call::Record => mdlist::mdlist_record(list, bytes, last),
+        Call::Write => mdlist::mdlist_write(list, bytes),
+        Call::Read => mdlist::mdlist_read(bytes, list),
     }
 }
 
@@ -42,14 +42,8 @@ pub fn call(list: &mut [u32], bytes: &mut [u8], last: &mut u64, kind: Kind) -> O
     ensures { Called kind (lent_of list.old bytes.old last.old) result (lent_of list.new bytes.new last.new) }
 {
     match kind {
-        Kind::Fresh(_, call) => return Some(make(list, bytes, last, call)),
-        Kind::Make(call) => return Some(make(list, bytes, last, call)),
-        Kind::Put(_, _) => return None,
-        Kind::Length(_) => return None,
-        Kind::Bytes(_) => return None,
-        Kind::Add => return None,
-        Kind::PutByte(_, _) => return None,
-        Kind::Last(_) => return None,
-        Kind::Unreadable => return Some(answers::refused(Refusal::LineNotReadable)),
+        Kind::Fresh(_, call) | Kind::Make(call) => Some(make(list, bytes, last, call)),
+        Kind::Unreadable => Some(answers::refused(Refusal::LineNotReadable)),
+        _ => None,
     }
 }

@@ -1,3 +1,2 @@
--- What is held after a line: laws of the first elements of an array, and of the bytes that digits write.
-pub mod Held
+-- What is held after a line: laws of the bytes that digits write.
 pub mod HexBytes

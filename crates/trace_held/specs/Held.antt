@@ -77,11 +77,11 @@ altered_by kind line lent =
     lent_of (buffer_after kind lent.words) (bytes_after kind line lent.bytes) (last_after kind lent.last)
 
 -- An array has room for the most that is held, and no more than that is.
-pub record Held (most : ℕ) (array : List ℕ) (used : ℕ) : Type 0 where
+pub record Held {A : Type 0} (most : ℕ) (array : List A) (used : ℕ) : Type 0 where
   pub room : length array ≡ most
   pub within : used ≤ most
 
 -- .. and it is this
-pub record Holds (most : ℕ) (array : List ℕ) (used : ℕ) (what : List ℕ) : Type 0 where
+pub record Holds {A : Type 0} (most : ℕ) (array : List A) (used : ℕ) (what : List A) : Type 0 where
   pub held : Held most array used
   pub is : take used array ≡ what

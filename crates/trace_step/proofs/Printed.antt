@@ -47,7 +47,7 @@ module _
     pub line_answered :
         {room middle out : List ℕ} {at end : ℕ} {told : Bool} → told ≡ tells kind → Put room 0 (head_text reply) middle at →
         Put middle at (tail_text told (lent_of (take (n - 0) after) (take (m - 0) after-bytes) now-last) line_feed) out end → end ≤ length room →
-        LineAnswered kind line before after after-bytes now-last out (record { used = n; filled = m; text = end })
+        LineAnswered kind line before after after-bytes now-last out (record { sizes = record { used = n; filled = m }; text = end })
     unfolding line_text
     line_answered tell head tail fits =
         let put = put_start (put_more head tail) fits in
@@ -64,5 +64,5 @@ module _
 -- what a line that is answered leaves
 pub line_leaves_lem :
     {kind : Kind} {line : List ℕ} {before : Lent} {words bytes out : List ℕ} {last : ℕ} {r : Answered} →
-    LineAnswered kind line before words bytes last out r → held_in words bytes last (record { used = r.used; filled = r.filled }) ≡ left_by kind line before
+    LineAnswered kind line before words bytes last out r → held_in words bytes last r.sizes ≡ left_by kind line before
 line_leaves_lem done = λ i. lent_of (done.words_are.is i) (done.bytes_are.is i) (done.last_is i)

@@ -68,8 +68,8 @@ line_bytes = answer_bytes + 3 * field_bytes
 -- A line was done on what was held: the first words and bytes are what it leaves, and so is the last number; the first bytes of `out` are
 -- what is printed.
 pub record LineAnswered (kind : Kind) (line : List ℕ) (before : Lent) (words bytes : List ℕ) (last : ℕ) (out : List ℕ) (r : Answered) : Type 0 where
-  pub words_are : Holds most_words words r.used (left_by kind line before).words
-  pub bytes_are : Holds most_held bytes r.filled (left_by kind line before).bytes
+  pub words_are : Holds most_words words r.sizes.used (left_by kind line before).words
+  pub bytes_are : Holds most_held bytes r.sizes.filled (left_by kind line before).bytes
   pub last_is : last ≡ (left_by kind line before).last
   pub is : take r.text out ≡ line_text kind line before
   pub within : r.text ≤ length out

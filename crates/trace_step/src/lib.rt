@@ -26,8 +26,7 @@ pub struct Sizes {
 // After a line: what is held, and how many bytes are printed.
 #[derive(Clone, Copy)]
 struct Answered {
-    pub used: usize,
-    pub filled: usize,
+    pub sizes: Sizes,
     pub text: usize,
 }
 
@@ -61,8 +60,7 @@ fn line_text(
         b'\n',
     );
     Answered {
-        used: n,
-        filled: m,
+        sizes: Sizes { used: n, filled: m },
         text: end,
     }
 }
@@ -90,20 +88,17 @@ fn reply(
 {
     let mut out = [0u8; LINE_BYTES];
     let done = line_text(words, bytes, last, sizes, line, kind, &mut out);
-    let n = done.used;
-    let m = done.filled;
-    let end = done.text;
     let number = *last;
     write(
-        &out[..end],
+        &out[..done.text],
         ended,
         line,
         kind,
-        &words[..n],
-        &bytes[..m],
+        &words[..done.sizes.used],
+        &bytes[..done.sizes.filled],
         number,
     );
-    Sizes { used: n, filled: m }
+    done.sizes
 }
 
 // Does what the line that ended says, if one did, and prints its answer; how much is held afterwards.
@@ -119,24 +114,16 @@ pub fn answer_line(
     ensures { Room words.new bytes.new result }
 {
     match ended {
-        Told::NoLine => return sizes,
-        Told::Line(n) => return reply(
+        Told::NoLine => sizes,
+        Told::Line(n) => reply(
             words,
             bytes,
             last,
             sizes,
-            &line[0..n],
+            &line[..n],
             ended,
-            trace::parse(&line[0..n]),
+            trace::parse(&line[..n]),
         ),
-        Told::LongLine => return reply(
-            words,
-            bytes,
-            last,
-            sizes,
-            &line[0..0],
-            ended,
-            Kind::Unreadable,
-        ),
+        Told::LongLine => reply(words, bytes, last, sizes, &[], ended, Kind::Unreadable),
     }
 }

@@ -2,7 +2,7 @@
 ghost use Rattle.std.specs.Prelude.{◌≡◌, ◌+◌, ◌*◌, ◌≤◌, length};
 ghost use Rattle.calls.specs.Records.{lent_of};
 ghost use Rattle.report.specs.Report.{field_bytes, answer_bytes, Put};
-ghost use Rattle.trace_step.specs.Printed.{head_text, lent_text, on_bytes, tells, tail_text};
+ghost use Rattle.trace_step.specs.Printed.{head_text, lent_text, tells, tail_text};
 
 use answers::Answer;
 use calls::Call;
@@ -14,8 +14,8 @@ pub fn put_head(out: &mut [u8], reply: Option<Answer>) -> usize
     ensures { Put out.old 0 (head_text reply) out.new result × (result ≤ answer_bytes) }
 {
     match reply {
-        Some(a) => return report::put_answer(out, 0, a, b' '),
-        None => return report::put(out, 0, b"- - - - "),
+        Some(a) => report::put_answer(out, 0, a, b' '),
+        None => report::put(out, 0, b"- - - - "),
     }
 }
 
@@ -25,20 +25,8 @@ fn put_lent(out: &mut [u8], at: usize, list: &[u32], bytes: &[u8], last: u64, by
     ensures { Put out.old at (lent_text (lent_of list.now bytes.now last) byte) out.new result × (result ≤ at + 3 * field_bytes) }
 {
     let second = report::put_number(out, at, report::checksum(list), b' ');
-    let third = report::put_number(out, second, report::checksum_of_bytes(bytes), b' ');
+    let third = report::put_number(out, second, report::checksum(bytes), b' ');
     report::put_number(out, third, last, byte)
-}
-
-fn call_tells(call: Call) -> bool
-    ensures { result ≡ on_bytes call }
-{
-    match call {
-        Call::SetUp(_, _, _) => return false,
-        Call::Operate(_) => return false,
-        Call::Record => return true,
-        Call::Write => return true,
-        Call::Read => return true,
-    }
 }
 
 // Whether a line tells of the bytes and the last number.
@@ -46,15 +34,9 @@ pub fn kind_tells(kind: Kind) -> bool
     ensures { result ≡ tells kind }
 {
     match kind {
-        Kind::Fresh(_, _) => return false,
-        Kind::Make(call) => return call_tells(call),
-        Kind::Put(_, _) => return false,
-        Kind::Length(_) => return false,
-        Kind::Bytes(_) => return true,
-        Kind::Add => return true,
-        Kind::PutByte(_, _) => return true,
-        Kind::Last(_) => return true,
-        Kind::Unreadable => return false,
+        Kind::Make(Call::Record | Call::Write | Call::Read) => true,
+        Kind::Bytes(_) | Kind::Add | Kind::PutByte(_, _) | Kind::Last(_) => true,
+        _ => false,
     }
 }
 

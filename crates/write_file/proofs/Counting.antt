@@ -3,7 +3,7 @@
 use mathlib.Core.Path.{◌≡◌, refl, sym, ap, ◌∙◌}
 use mathlib.Core.Bool.{Bool, true, false, cond}
 use mathlib.Core.List.{List, ◌∷◌}
-use Prim.Native.Nat.{ℕ, suc, ◌+◌, ◌-◌, ◌≤◌, ◌<◌}
+use Prim.Native.Nat.{ℕ, suc, ◌+◌, ◌-◌, ◌<◌}
 use native.Mathlib.Omega.{arith}
 use lib.Dec.{eqb}
 use lib.ListN.{length, length-map}
@@ -16,7 +16,6 @@ use Rattle.meaning.specs.Words.{mark_at, live_mark}
 use Rattle.calls.specs.Pairs.{pair, live_pairs}
 use Rattle.meaning.specs.Layer.Listed.{Listed}
 use Rattle.meaning.proofs.Cells.Folded.{row_from, no_cells, row_from_lem, put_folded, live_folded}
-use Rattle.words.proofs.Listed.{listed_cells}
 
 -- the live ones of some nodes
 abbrev pub live_ones : List Node → List Node
@@ -53,14 +52,12 @@ one_more = live_folded (λ row. length (live_ones row)) (λ y n. suc n) put_live
 -- n cells before x are live, and with those from x on they are all that are
 pub record Counted (ws : List ℕ) (s : Settings) (n x : ℕ) : Type 0 where
   pub fewer : n < x
-  pub most : x ≤ s.cells
   pub all : length (live_ones (read ws).row) ≡ n + lives_from ws x (s.cells - x)
 
 pub counted_start : {ws : List ℕ} {s : Settings} → Listed ws s → Counted ws s 0 1
 counted_start {ws} h =
     record {
       fewer = omega arith;
-      most = omega (arith, listed_cells h);
       all = ap (λ row. length (live_ones row)) (row_from_lem ws) ∙ ap (λ u. lives_from ws 1 (u.cells - 1)) h.settings ∙ omega arith;
     }
 
@@ -74,17 +71,16 @@ module _ {ws : List ℕ} {s : Settings} {n x : ℕ} (c : Counted ws s n x) (insi
   pub counted_live : mark ≡ 1 → Counted ws s (n + 1) (x + 1)
   counted_live one =
       let e = rest_count ∙ ap (λ b. more b (lives_from ws (x + 1) (s.cells - (x + 1)))) (eq-eqb (mark_at ws x) 1 (sym is ∙ one)) in
-      record { fewer = omega (arith, c.fewer); most = omega arith; all = omega (arith, c.all, e) }
+      record { fewer = omega (arith, c.fewer); all = omega (arith, c.all, e) }
 
   pub counted_other : (mark ≡ 1 → ⊥) → Counted ws s n (x + 1)
   counted_other other =
       let e = rest_count ∙ ap (λ b. more b (lives_from ws (x + 1) (s.cells - (x + 1)))) (ne_eqb (mark_at ws x) 1 (λ q. other (is ∙ q))) in
-      record { fewer = omega (arith, c.fewer); most = omega arith; all = omega (arith, c.all, e) }
+      record { fewer = omega (arith, c.fewer); all = omega (arith, c.all, e) }
 
-pub counted_all : {ws : List ℕ} {s : Settings} {n x : ℕ} → Counted ws s n x → s.cells ≤ x → (n ≡ length (live_pairs ws)) × (n < s.cells)
+pub counted_all : {ws : List ℕ} {s : Settings} {n x : ℕ} → Counted ws s n x → x ≡ s.cells → (n ≡ length (live_pairs ws)) × (n < s.cells)
 unfolding those
 counted_all {ws} {s} {n} {x} c ended =
-    let most = c.most in
     let none : s.cells - x ≡ 0 = omega arith in
     let e = c.all ∙ ap (λ k. n + lives_from ws x k) none ∙ ap (λ row. n + length (live_ones row)) (no_cells ws x) in (
       omega (arith, e, length-map (live_ones (read ws).row) pair),

@@ -34,9 +34,9 @@ use Rattle.meaning.proofs.Paths.Path.{path_for-at}
 use Rattle.meaning.proofs.Paths.PathNext.{way_key}
 use Rattle.meaning.proofs.Paths.PathTake.{above_later}
 use Rattle.words.proofs.Listed.{on_listed}
-use Rattle.paths.specs.declared.Path.{Path}
-use Rattle.paths.specs.declared.Reached.{Reached}
-use Rattle.paths.specs.Paths.{path_of, Formed, PathIn, NextIs}
+use Rattle.paths.specs.declared.path.Path.{Path}
+use Rattle.paths.specs.declared.NextCell.{NextCell}
+use Rattle.paths.specs.Paths.{path_of, PathIn, NoneNext, NextWith}
 use Rattle.paths.proofs.Ways.{head_starts, way_in, MovesOn, moves_on, moves_end}
 use Rattle.write_file.proofs.Counting.{live_ones}
 
@@ -151,16 +151,16 @@ pub record Writing (ws : List ℕ) (s : Settings) (f : ℕ) (entry file : List �
   pub room : i + length later < s.cells
 
 pub writing_start :
-    {ws : List ℕ} {s : Settings} {p : Path} → Listed ws s → path_of p ≡ replicate s.dimensions 0 → Formed s.dimensions p →
+    {ws : List ℕ} {s : Settings} {p : Path} → Listed ws s → path_of p ≡ replicate s.dimensions 0 → p.used ≡ s.dimensions →
     (f : ℕ) (file : List ℕ) → Writing ws s f file file p 0
 unfolding those pair_bytes
-writing_start {ws} h is formed f file =
+writing_start {ws} h is used f file =
     let w = head_starts h is in
     record {
       front = [];
       later = (read ws).row;
       on_way = w;
-      path_in = way_in h formed w;
+      path_in = way_in h used w;
       bytes = refl;
       count = refl;
       room = on_listed (λ t ws s. 0 + length t.row < s.cells) (λ t v. omega (arith, v.ranges.cells_least, free_length t v)) h;
@@ -169,34 +169,36 @@ writing_start {ws} h is formed f file =
 pub writing_length : {ws : List ℕ} {s : Settings} {f : ℕ} {entry file : List ℕ} {p : Path} {i : ℕ} → Writing ws s f entry file p i → length file ≡ length entry
 writing_length {f = f} {entry = entry} g = ap length g.bytes ∙ length-sets entry f (pair_bytes (pairs_of g.front))
 
-module _ {ws : List ℕ} {s : Settings} (h : Listed ws s) {f : ℕ} {entry file : List ℕ} {p : Path} {i : ℕ} (g : Writing ws s f entry file p i) {r : Reached}
-    (n : NextIs ws s p r) where
+module _ {ws : List ℕ} {s : Settings} (h : Listed ws s) {f : ℕ} {entry file : List ℕ} {p : Path} {i : ℕ} (g : Writing ws s f entry file p i) where
   -- all are written
-  pub writing_end : r.cell ≡ 0 → file ≡ sets entry f (pair_bytes (live_pairs ws))
+  pub writing_end : NoneNext ws s (path_of p) → file ≡ sets entry f (pair_bytes (live_pairs ws))
   writing_end none =
       let all : (read ws).row ≡ g.front =
-      g.on_way.split ∙ ap (λ l. g.front ++ l) (moves_end h n g.later g.on_way none) ∙ append-nil g.front in
+      g.on_way.split ∙ ap (λ l. g.front ++ l) (moves_end h none g.later g.on_way) ∙ append-nil g.front in
       g.bytes ∙ ap (λ row. sets entry f (pair_bytes (pairs_of row))) (sym all)
 
-  module _ (some : r.cell ≡ 0 → ⊥) where
-    on : MovesOn (read ws) ws g.front g.later r
-    on = moves_on h n g.later g.on_way some
+  module _ {r : NextCell} {q : Path} (n : NextWith ws s p r q) where
+    on : MovesOn (read ws) ws s (path_of p) g.front g.later r
+    on = moves_on h n.at g.later g.on_way
+
+    further : PathOf (read ws) (path_of q) (g.front ++ (on.node ∷ [])) on.rest
+    further = on.to.way n.way
 
     split : (read ws).row ≡ g.front ++ (on.node ∷ on.rest)
     split = g.on_way.split ∙ ap (λ l. g.front ++ l) on.next
 
-    pub writing_less : keys_ahead ws s r.path < keys_ahead ws s p
-    writing_less = omega (arith, ahead_is h r.path on.to.on_way, ahead_is h p g.on_way, ap length on.next)
+    pub writing_less : keys_ahead ws s q < keys_ahead ws s p
+    writing_less = omega (arith, ahead_is h q further, ahead_is h p g.on_way, ap length on.next)
 
     module _ {mark : ℕ} (is : mark ≡ mark_at ws r.cell) where
-      pub writing_past : (mark ≡ 1 → ⊥) → Writing ws s f entry file r.path i
+      pub writing_past : (mark ≡ 1 → ⊥) → Writing ws s f entry file q i
       writing_past other =
           let y = on.node in
           let same = pairs_same g.front y (mark_other y.live (λ e. other (is ∙ on.to.mark ∙ e))) in
           record {
             front = g.front ++ (y ∷ []);
             later = on.rest;
-            on_way = on.to.on_way;
+            on_way = further;
             path_in = n.path_in;
             bytes = g.bytes ∙ ap (λ pairs. sets entry f (pair_bytes pairs)) (sym same);
             count = g.count ∙ ap length (sym same);
@@ -216,7 +218,7 @@ module _ {ws : List ℕ} {s : Settings} (h : Listed ws s) {f : ℕ} {entry file 
 
         pub writing_here :
             {key value : ℕ} {after : List ℕ} → key ≡ key_at ws r.cell → value ≡ value_at ws r.cell →
-            after ≡ sets file (f + 8 * i) (pair_bytes (record { key = key; value = value } ∷ [])) → Writing ws s f entry after r.path (i + 1)
+            after ≡ sets file (f + 8 * i) (pair_bytes (record { key = key; value = value } ∷ [])) → Writing ws s f entry after q (i + 1)
         writing_here {key} {value} {after} is_key is-value written =
             let y = on.node in
             let there = pair_there h g.front y on.rest split in
@@ -227,7 +229,7 @@ module _ {ws : List ℕ} {s : Settings} (h : Listed ws s) {f : ℕ} {entry file 
             record {
               front = g.front ++ (y ∷ []);
               later = on.rest;
-              on_way = on.to.on_way;
+              on_way = further;
               path_in = n.path_in;
               bytes =
                   written

@@ -18,12 +18,10 @@ fn count_live(list: &[u32], s: Settings) -> u32
     ensures { (result ≡ length (live_pairs list.now)) × (result < s.cells) }
 {
     let mut n: u32 = 0;
-    let mut x: u32 = 1;
-    while x < s.cells {
+    for x in 1..s.cells {
         if words::word(list, s, x, words::MARK) == words::LIVE {
             n += 1;
         }
-        x += 1;
     }
     n
 }
@@ -33,20 +31,15 @@ fn write_pairs(list: &[u32], s: Settings, file: &mut [u8], n: u32)
     requires { Listed list.now s × ((n ≡ length (live_pairs list.now)) × (file_length n ≤ length file.old)) }
     ensures { file.new ≡ sets file.old (before n) (pair_bytes (live_pairs list.now)) }
 {
-    let mut path = [0u32; 16];
+    let mut path = paths::head_path(s);
     let mut i: u32 = 0;
-    loop {
-        let next = paths::next_from(list, s, &path);
-        if next.cell == 0 {
-            return;
-        }
+    while let Some(next) = paths::next(list, s, &mut path) {
         if words::word(list, s, next.cell, words::MARK) == words::LIVE {
             let key = words::word(list, s, next.cell, words::KEY);
             let value = words::word(list, s, next.cell, words::VALUE);
             files::write_pair(file, n, i, key, value);
             i += 1;
         }
-        paths::put_onward(&mut path, s.dimensions, next.number, next.cell);
     }
 }
 

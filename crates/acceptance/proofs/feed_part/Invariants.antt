@@ -1,11 +1,6 @@
--- `acceptance::feed_part` is safe and ends: each turn takes one byte more of the part.
-use Prim.Native.Nat.{◌-◌, ◌≤◌}
-use lib.ListN.{length}
+-- `acceptance::feed_part` is safe: what is kept stays as the next byte asks.
 use Rattle.acceptance.specs.Kept.{Kept}
 use Rattle.acceptance.proofs.feed_part.Given as goal
 
-abbrev pub invariant-loop-i : goal.invariant-loop-i
-invariant-loop-i l = (l.i ≤ length l.part) × Kept l.words l.keys l.line l.s
-
-abbrev pub decreases-loop-i : goal.decreases-loop-i
-decreases-loop-i l = length l.part - l.i
+abbrev pub invariant-loop-byte : goal.invariant-loop-byte
+invariant-loop-byte l = Kept l.words l.keys l.line l.s

@@ -4,8 +4,5 @@ use lib.ListN.{length}
 use Rattle.acceptance.specs.Kept.{Kept}
 use Rattle.acceptance.proofs.read_all.Given as goal
 
-abbrev pub invariant-loop-turns : goal.invariant-loop-turns
-invariant-loop-turns l = (65536 ≡ length l.part) × Kept l.words l.keys l.line l.s
-
-abbrev pub decreases-loop-turns : goal.decreases-loop-turns
-decreases-loop-turns l = l.turns
+abbrev pub invariant-loop : goal.invariant-loop
+invariant-loop l = (65536 ≡ length l.part) × Kept l.words l.keys l.line l.s

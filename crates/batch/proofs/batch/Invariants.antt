@@ -9,4 +9,4 @@ use Rattle.batch.proofs.batch.Given as goal
 
 abbrev pub invariant-loop-i : goal.invariant-loop-i
 invariant-loop-i l =
-    Listed l.list l.s × ToDo (map call_of l.whole) (map call_of (drop l.i l.whole)) l.i (batch_lent l.initial.list l.initial.answers) (batch_lent l.list l.answers)
+    Listed l.list l.levels.settings × ToDo (map call_of l.whole) (map call_of (drop l.i l.whole)) l.i (batch_lent l.initial.list l.initial.answers) (batch_lent l.list l.answers)

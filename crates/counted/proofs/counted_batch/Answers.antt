@@ -24,7 +24,7 @@ returns-then-not-fit c =
 pub batch-answer-requires : goal.batch-answer-requires
 batch-answer-requires c =
     let agreeing = c.check.ensures.agreeing c.in-Ok.levels c.in-Ok.is in
-    (agreeing.listed, (c.in-Ok.levels.right, sym c.fit.ensures ∙ not-false c.fit.result c.if-not-fit.false-raw))
+    (agreeing.listed, (sym c.fit.ensures ∙ not-false c.fit.result c.if-not-fit.false-raw))
 
 pub tally-requires : goal.tally-requires
 tally-requires c =

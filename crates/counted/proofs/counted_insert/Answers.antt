@@ -12,7 +12,7 @@ returns-in-Err c =
 pub insert-answer-requires : goal.insert-answer-requires
 insert-answer-requires c =
     let agreeing = c.check.ensures.agreeing c.in-Ok.levels c.in-Ok.is in
-    (agreeing.listed, c.in-Ok.levels.right)
+    agreeing.listed
 
 pub renew-requires : goal.renew-requires
 renew-requires c =

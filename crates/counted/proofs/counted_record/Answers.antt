@@ -16,7 +16,7 @@ pub insert_record-answer-requires : goal.insert_record-answer-requires
 insert_record-answer-requires c =
     let agreeing = c.check.ensures.agreeing c.in-Ok.levels c.in-Ok.is in
     let within = subst Within (sym c.note_by-logged.ensures) (notes_within c.args.record.now) in
-    ((agreeing.listed, within), c.in-Ok.levels.right)
+    (agreeing.listed, within)
 
 pub renew-requires : goal.renew-requires
 renew-requires c =

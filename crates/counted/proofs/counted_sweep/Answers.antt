@@ -12,7 +12,7 @@ returns-in-Err c =
 pub sweep-requires : goal.sweep-requires
 sweep-requires c =
     let agreeing = c.check.ensures.agreeing c.in-Ok.levels c.in-Ok.is in
-    (agreeing.listed, c.in-Ok.levels.right)
+    agreeing.listed
 
 pub returns : goal.returns
 returns c =

@@ -1,11 +1,6 @@
--- `counted_replay::feed_part` is safe and ends: each turn takes one byte more of the part.
-use Prim.Native.Nat.{◌-◌, ◌≤◌}
-use lib.ListN.{length}
+-- `counted_replay::feed_part` is safe: what is kept stays as the next byte asks.
 use Rattle.counted_replay.specs.Kept.{Kept}
 use Rattle.counted_replay.proofs.feed_part.Given as goal
 
-abbrev pub invariant-loop-i : goal.invariant-loop-i
-invariant-loop-i l = (l.i ≤ length l.part) × Kept l.words l.bytes l.classes l.line l.s
-
-abbrev pub decreases-loop-i : goal.decreases-loop-i
-decreases-loop-i l = length l.part - l.i
+abbrev pub invariant-loop-byte : goal.invariant-loop-byte
+invariant-loop-byte l = Kept l.words l.bytes l.classes l.line l.s

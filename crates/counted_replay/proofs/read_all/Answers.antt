@@ -3,8 +3,8 @@ use native.Mathlib.Omega.{arith}
 use borrow.Author.Rules.{rules}
 use Rattle.counted_replay.proofs.read_all.Goals as goal
 
-pub loop-turns-init : goal.loop-turns-init
-loop-turns-init c =
+pub loop-init : goal.loop-init
+loop-init c =
     let p = c.requires in (
       c.large_buffer-part.ensures,
       record {
@@ -21,5 +21,5 @@ loop-turns-init c =
 pub answer_line-requires : goal.answer_line-requires
 answer_line-requires c =
     let f = c.finish-ended.ensures in
-    let kept = c.loop-turns.invariant.1 in
+    let kept = c.loop.invariant.1 in
     (kept.room, record { fits = λ n e. omega (arith, f.line_fits n e, kept.ready.long) })

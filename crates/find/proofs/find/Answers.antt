@@ -15,13 +15,12 @@ pub returns-then-not-has_key : goal.returns-then-not-has_key
 unfolding find_out
 returns-then-not-has_key c =
     let t = c.has_key in
-    bad_key_meets c.requires.0 c.args.key _ (sym t.ensures ∙ not-true t.result c.if-not-has_key.true-raw) c.refused.ensures
+    bad_key_meets c.requires c.args.key _ (sym t.ensures ∙ not-true t.result c.if-not-has_key.true-raw) c.refused.ensures
 
 pub search-f-requires : goal.search-f-requires
 search-f-requires c =
     let t = c.has_key in
-    let pre = c.requires in
-    (pre.0, (pre.1, key_within (sym t.ensures ∙ not-false t.result c.if-not-has_key.false-raw)))
+    (c.requires, key_within (sym t.ensures ∙ not-false t.result c.if-not-has_key.false-raw))
 
 pub returns-then-not-f : goal.returns-then-not-f
 returns-then-not-f c =

@@ -15,7 +15,7 @@ use Rattle.finish.proofs.finish.Goals.{Else-not-f}
 
 pub returns-then-not-has_key : goal.returns-then-not-has_key
 unfolding finish_out
-returns-then-not-has_key c = bad_key_meets c.requires.0 c.args.key _ (sym c.has_key.ensures ∙ c.if-not-has_key.true) c.refused.ensures
+returns-then-not-has_key c = bad_key_meets c.requires c.args.key _ (sym c.has_key.ensures ∙ c.if-not-has_key.true) c.refused.ensures
 
 pub returns-then-not-f : goal.returns-then-not-f
 returns-then-not-f c =
@@ -23,22 +23,22 @@ returns-then-not-f c =
     absent_meets f.ensures.sought (not-true f.result.standing c.if-not-f.true) c.refused-then-not-f.ensures
 
 -- what was found is a cell of the list
-found : (c : Else-not-f) → c.search-f.result.c < c.args.s.cells
+found : (c : Else-not-f) → c.search-f.result.c < c.args.levels.now.settings.cells
 found c = standing_cell c.search-f.ensures.sought (not-false c.search-f.result.standing c.if-not-f.false)
 
 pub word-requires : goal.word-requires
-word-requires c = (listed_shaped c.requires.0, field_within (found c) (omega arith))
+word-requires c = (listed_shaped c.requires, field_within (found (goal.at.word-requires c).Else-not-f) (omega arith))
 
 pub word-requires-2 : goal.word-requires-2
-word-requires-2 c = (listed_shaped c.requires.0, field_within (found (goal.at.word-requires-2 c).Else-not-f) (omega arith))
+word-requires-2 c = (listed_shaped c.requires, field_within (found (goal.at.word-requires-2 c).Else-not-f) (omega arith))
 
 pub overflow_sub-moved : goal.overflow_sub-moved
 overflow_sub-moved c =
-    omega (arith, listed_low c.requires.0 c.search-f.result.c (found (goal.at.overflow_sub-moved c).Else-not-f))
+    omega (arith, listed_low c.requires c.search-f.result.c (found (goal.at.overflow_sub-moved c).Else-not-f))
 
 pub finish_cell-requires : goal.finish_cell-requires
 finish_cell-requires c =
-    (listed_shaped c.requires.0, listed_payable c.requires.0 c.search-f.result.c (found (goal.at.finish_cell-requires c).Else-not-f))
+    (listed_shaped c.requires, listed_payable c.requires c.search-f.result.c (found (goal.at.finish_cell-requires c).Else-not-f))
 
 pub returns : goal.returns
 returns c =

@@ -4,8 +4,8 @@ use Prim.Native.Nat.{◌-◌}
 use Rattle.free_between.proofs.Ways.{Chaining}
 use Rattle.free_between.proofs.chain_from.Given as goal
 
-abbrev pub invariant-loop-s : goal.invariant-loop-s
-invariant-loop-s l = Chaining l.initial.list l.list l.s l.path l.last l.count
+abbrev pub invariant-loop-next : goal.invariant-loop-next
+invariant-loop-next l = Chaining l.initial.list l.list l.s l.path l.last l.count
 
-abbrev pub decreases-loop-s : goal.decreases-loop-s
-decreases-loop-s l = l.s.cells - l.count
+abbrev pub decreases-loop-next : goal.decreases-loop-next
+decreases-loop-next l = l.s.cells - l.count

@@ -5,16 +5,12 @@ use Prim.Native.Nat.{suc, ◌-◌}
 use lib.ListN.{replicate}
 use Rattle.settings.specs.Numbers.{cell_words}
 use Rattle.words.proofs.Shaped.{stores_shaped}
-use Rattle.free_between.proofs.Between.{rest_inside, rest_written}
+use Rattle.free_between.proofs.Between.{rest_written}
 use Rattle.free_between.proofs.store_before_zeros.Goals as goal
-
-pub slice_bounds-fill-end : goal.slice_bounds-fill-end
-slice_bounds-fill-end c =
-    rest_inside c.store.ensures.1 c.requires.1 c.word_index-start.ensures.0 c.cell_words.ensures refl
 
 pub returns : goal.returns
 returns c =
     let a = c.args in
     rw (rest_written c.store.ensures.1 c.requires.1 c.word_index-start.ensures.0 c.cell_words.ensures refl a.list.now a.v
-    c.store.ensures.0 c.fill.ensures)
+    c.store.ensures.0 (c.fill.ensures.after (λ y e. e)))
     (refl, stores_shaped c.requires.0 a.x a.j (a.v ∷ replicate (cell_words a.s.dimensions - suc a.j) 0))

@@ -10,16 +10,15 @@ pub returns-then-not-has_key : goal.returns-then-not-has_key
 unfolding insert_out
 returns-then-not-has_key c =
     let t = c.has_key in
-    bad_key_meets c.requires.0 c.args.key _ (sym t.ensures ∙ not-true t.result c.if-not-has_key.true-raw) c.refused.ensures
+    bad_key_meets c.requires c.args.key _ (sym t.ensures ∙ not-true t.result c.if-not-has_key.true-raw) c.refused.ensures
 
 pub search-f-requires : goal.search-f-requires
 search-f-requires c =
     let t = c.has_key in
-    let pre = c.requires in
-    (pre.0, (pre.1, key_within (sym t.ensures ∙ not-false t.result c.if-not-has_key.false-raw)))
+    (c.requires, key_within (sym t.ensures ∙ not-false t.result c.if-not-has_key.false-raw))
 
 pub insert_standing-requires : goal.insert_standing-requires
-insert_standing-requires c = ((c.search-f.ensures.sought, c.if-f.true), c.requires.1)
+insert_standing-requires c = (c.search-f.ensures.sought, c.if-f.true)
 
 pub insert_new-requires : goal.insert_new-requires
-insert_new-requires c = ((c.search-f.ensures.sought, c.if-f.false), c.requires.1)
+insert_new-requires c = (c.search-f.ensures.sought, c.if-f.false)

@@ -9,20 +9,20 @@ use Rattle.insert.proofs.insert_standing.Goals as goal
 
 pub word-requires : goal.word-requires
 word-requires c =
-    let pre = c.requires.0 in
+    let pre = c.requires in
     (listed_shaped pre.0.list, field_within (standing_cell pre.0 pre.1) (omega arith))
 
 pub returns-then-word-eq-LIVE : goal.returns-then-word-eq-LIVE
 returns-then-word-eq-LIVE c =
-    live_meets c.requires.0.0 c.requires.0.1 c.args.value c.word.ensures c.if-word-eq-LIVE.true c.refused.ensures
+    live_meets c.requires.0 c.requires.1 c.args.value c.word.ensures c.if-word-eq-LIVE.true c.refused.ensures
 
 pub revive-requires : goal.revive-requires
 revive-requires c =
-    ((c.requires.0.0, (c.requires.0.1, λ e. c.if-word-eq-LIVE.false (c.word.ensures ∙ e))), c.requires.1)
+    (c.requires.0, (c.requires.1, λ e. c.if-word-eq-LIVE.false (c.word.ensures ∙ e)))
 
 pub returns : goal.returns
 returns c =
-    leads_meets (dead_leads c.requires.0.0 c.requires.0.1 c.args.value
+    leads_meets (dead_leads c.requires.0 c.requires.1 c.args.value
     (λ e. c.if-word-eq-LIVE.false (c.word.ensures ∙ e)))
     c.revive.ensures
     c.accepted.ensures

@@ -6,7 +6,7 @@ pub returns-then-top-key : goal.returns-then-top-key
 returns-then-top-key c = path_kept c.if-top-key.true
 
 pub path_of-path-requires : goal.path_of-path-requires
-path_of-path-requires c = let pre = c.requires in (due_standing pre.0.1, pre.1)
+path_of-path-requires c = due_standing c.requires.1
 
 pub returns : goal.returns
 returns c = path_moved c.path_of-path.ensures c.write_path.ensures.0

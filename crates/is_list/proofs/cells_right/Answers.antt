@@ -15,7 +15,7 @@ use Rattle.is_list.proofs.cells_right.Goals as goal
 
 pub head_right-requires : goal.head_right-requires
 head_right-requires c =
-    let header : Headed c.args.list.now c.args.s = headed refl c.requires.0 in
+    let header : Headed c.args.list.now c.args.levels.now.settings = headed refl c.requires in
     (header.shaped, header.cells)
 
 pub returns-then-not-head_right : goal.returns-then-not-head_right
@@ -23,7 +23,7 @@ returns-then-not-head_right c = refuse c.args.list.now (λ a. fails c.head_right
 
 pub at_head-start-requires : goal.at_head-start-requires
 at_head-start-requires c =
-    let header : Headed c.args.list.now c.args.s = headed refl c.requires.0 in
+    let header : Headed c.args.list.now c.args.levels.now.settings = headed refl c.requires in
     (header.shaped, header.cells)
 
 pub returns-then-not-start : goal.returns-then-not-start
@@ -32,12 +32,11 @@ returns-then-not-start c =
 
 pub read-seen-requires : goal.read-seen-requires
 read-seen-requires c =
-    let header : Headed c.args.list.now c.args.s = headed refl c.requires.0 in
+    let header : Headed c.args.list.now c.args.levels.now.settings = headed refl c.requires in
     let head = holds c.head_right.ensures c.if-not-head_right.false-raw in
     let start = c.at_head-start in
     record {
       shaped = header.shaped;
-      levels = c.requires.1;
       within = start.ensures.1;
       right = not-false start.result.right c.if-not-start.false;
       head = head_last c.args.list.now start.ensures.0;
@@ -46,7 +45,7 @@ read-seen-requires c =
 
 pub returns-then-not-seen : goal.returns-then-not-seen
 returns-then-not-seen c =
-    let header : Headed c.args.list.now c.args.s = headed refl c.requires.0 in
+    let header : Headed c.args.list.now c.args.levels.now.settings = headed refl c.requires in
     let head = holds c.head_right.ensures c.if-not-head_right.false-raw in
     let start = c.at_head-start in
     let seen : verdict c.read-seen.result ≡ verdict (seen_all c.args.list.now) =
@@ -56,7 +55,7 @@ returns-then-not-seen c =
 
 pub returns-then-not-seen-2 : goal.returns-then-not-seen-2
 returns-then-not-seen-2 c =
-    let header : Headed c.args.list.now c.args.s = headed refl c.requires.0 in
+    let header : Headed c.args.list.now c.args.levels.now.settings = headed refl c.requires in
     let head = holds c.head_right.ensures c.if-not-head_right.false-raw in
     let start = c.at_head-start in
     let seen : verdict c.read-seen.result ≡ verdict (seen_all c.args.list.now) =
@@ -67,17 +66,17 @@ returns-then-not-seen-2 c =
 
 pub bounds-list-4 : goal.bounds-list-4
 bounds-list-4 c =
-    let header : Headed c.args.list.now c.args.s = headed refl c.requires.0 in
+    let header : Headed c.args.list.now c.args.levels.now.settings = headed refl c.requires in
     omega (arith, header.shaped.long)
 
 pub chain_right-requires : goal.chain_right-requires
 chain_right-requires c =
-    let header : Headed c.args.list.now c.args.s = headed refl c.requires.0 in
+    let header : Headed c.args.list.now c.args.levels.now.settings = headed refl c.requires in
     header.shaped
 
 pub returns : goal.returns
 returns c =
-    let header : Headed c.args.list.now c.args.s = headed refl c.requires.0 in
+    let header : Headed c.args.list.now c.args.levels.now.settings = headed refl c.requires in
     let head = holds c.head_right.ensures c.if-not-head_right.false-raw in
     let start = c.at_head-start in
     let seen : verdict c.read-seen.result ≡ verdict (seen_all c.args.list.now) =

@@ -6,10 +6,10 @@ use Rattle.report.specs.Answered.{leaving}
 use Rattle.logger.proofs.Input.{byte_told_within}
 use Rattle.logger.proofs.feed_byte.Goals as goal
 
-pub enter_record-written-requires : goal.enter_record-written-requires
-enter_record-written-requires c = (c.requires.0, byte_told_within c.requires.1 c.feed_byte-fed.ensures)
+pub enter_record-requires : goal.enter_record-requires
+enter_record-requires c = (c.requires.0, byte_told_within c.requires.1 c.feed_byte-fed.ensures)
 
 pub returns : goal.returns
 returns c =
     let step = c.feed_byte-fed.ensures in
-    byte_fed record_handing (leaving note_out) c.enter_record-written.ensures step.begun step.told
+    byte_fed record_handing (leaving note_out) c.enter_record.ensures step.begun step.told

@@ -7,10 +7,7 @@ use Rattle.logger.proofs.Input.{end_told_within}
 use Rattle.logger.proofs.feed_end.Goals as goal
 
 pub enter_record-requires : goal.enter_record-requires
-enter_record-requires c = (c.requires.0, end_told_within c.requires.1 c.finish-ended.ensures)
-
-pub returns-then-enter_record : goal.returns-then-enter_record
-returns-then-enter_record c = end_fed record_handing (leaving note_out) c.enter_record.ensures c.finish-ended.ensures.told
+enter_record-requires c = (c.requires.0, end_told_within c.requires.1 c.finish.ensures)
 
 pub returns : goal.returns
-returns c = end_fed record_handing (leaving note_out) c.enter_record.ensures c.finish-ended.ensures.told
+returns c = end_fed record_handing (leaving note_out) c.enter_record.ensures c.finish.ensures.told

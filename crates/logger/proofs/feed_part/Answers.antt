@@ -1,8 +1,9 @@
--- `logger::feed_part` meets its contract and ends: each turn takes one byte more of the part.
-use mathlib.Core.Path.{refl, sym, ◌∙◌, ap}
-use mathlib.Core.Bool.{not, true≢false}
+-- `logger::feed_part` meets its contract: each turn takes one byte more of the part.
+use mathlib.Core.Bool.{true≢false}
+use mathlib.Core.Path.{sym}
 use Prim.Native.Nat.{◌+◌}
 use borrow.Author.Rules.{rules}
+use Rattle.std.proofs.lemmas.Result.{err_from_is_err_and}
 use Rattle.text.proofs.Parts.{none_fed, one_more_fed}
 use Rattle.notes.specs.Feeding.{record_handing}
 use Rattle.calls.specs.Records.{note_out}
@@ -10,36 +11,22 @@ use Rattle.report.specs.Answered.{leaving}
 use Rattle.logger.proofs.Input.{still_listed}
 use Rattle.logger.proofs.feed_part.Goals as goal
 
-pub loop-i-init : goal.loop-i-init
-loop-i-init c = (search rules, (refl, (c.requires, none_fed record_handing (leaving note_out))))
+pub loop-byte-init : goal.loop-byte-init
+loop-byte-init c = (c.requires, none_fed record_handing (leaving note_out))
 
-pub feed_byte-s-requires : goal.feed_byte-s-requires
-feed_byte-s-requires c = c.loop-i.invariant.1.1.0
-
-pub returns-then-not-s : goal.returns-then-not-s
-returns-then-not-s c =
+pub returns-in_err-feed_byte : goal.returns-in_err-feed_byte
+returns-in_err-feed_byte c =
     let a = c.args in
-    let v = c.loop-i in
+    let l = c.loop-byte in
     record {
-      count = v.i + 1;
-      fed = one_more_fed record_handing (leaving note_out) a.part.now v.i (search rules) v.invariant.1.1.1 c.feed_byte-s.ensures;
-      whole = λ e. absurd (true≢false (sym c.if-not-s.true ∙ ap not e));
+      count = l.byte-index + 1;
+      fed = one_more_fed record_handing (leaving note_out) a.part.now l.byte-index (search rules) l.invariant.1 c.feed_byte.ensures;
+      whole = λ e. let failed = err_from_is_err_and c.from_residual.result c.from_residual.ensures.1 in absurd (true≢false (sym (rw failed.1 at e)));
     }
 
-pub loop-i-preserved : goal.loop-i-preserved
-loop-i-preserved c =
+pub loop-byte-preserved : goal.loop-byte-preserved
+loop-byte-preserved c =
     let a = c.args in
-    let v = c.loop-i in
-    let byte = c.feed_byte-s.ensures in (
-      search rules,
-      (
-        search rules,
-        (
-          still_listed v.invariant.1.1.0 byte,
-          one_more_fed record_handing (leaving note_out) a.part.now v.i (search rules) v.invariant.1.1.1 byte,
-        ),
-      ),
-    )
-
-pub returns : goal.returns
-returns c = let v = c.loop-i in record { count = v.i; fed = v.invariant.1.1.1; whole = λ e. search rules }
+    let l = c.loop-byte in
+    let byte = c.feed_byte.ensures in
+    (still_listed l.invariant.0 byte, one_more_fed record_handing (leaving note_out) a.part.now l.byte-index (search rules) l.invariant.1 byte)

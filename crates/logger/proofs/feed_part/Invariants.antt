@@ -1,7 +1,5 @@
--- `logger::feed_part` meets its contract and ends: each turn takes one byte more of the part.
-use mathlib.Core.Path.{◌≡◌}
-use Prim.Native.Nat.{◌-◌, ◌≤◌}
-use lib.ListN.{length, take}
+-- `logger::feed_part` meets its contract: what the feed holds is what is begun after the bytes so far.
+use lib.ListN.{take}
 use Rattle.text.specs.Parts.{Known, BytesFed}
 use Rattle.notes.specs.Feeding.{record_handing, Holds}
 use Rattle.meaning.specs.Layer.Listed.{Listed}
@@ -10,11 +8,6 @@ use Rattle.report.specs.Answered.{leaving}
 use Rattle.logger.specs.Input.{kept}
 use Rattle.logger.proofs.feed_part.Given as goal
 
-abbrev pub invariant-loop-i : goal.invariant-loop-i
-invariant-loop-i l =
-    (l.i ≤ length l.part) × ((length l.words ≡ length l.initial.words) ×
-    ((Listed l.words l.settings × Known (Holds l.s.feed)) ×
-    BytesFed record_handing (leaving note_out) (take l.i l.part) (Holds l.initial.s.feed) (kept l.initial.words l.initial.last) (Holds l.s.feed) (kept l.words l.last)))
-
-abbrev pub decreases-loop-i : goal.decreases-loop-i
-decreases-loop-i l = length l.part - l.i
+abbrev pub invariant-loop-byte : goal.invariant-loop-byte
+invariant-loop-byte l = (Listed l.words l.settings × Known (Holds l.feed)) ×
+    BytesFed record_handing (leaving note_out) (take l.byte-index l.part) (Holds l.initial.feed) (kept l.initial.words l.initial.last) (Holds l.feed) (kept l.words l.last)

@@ -17,7 +17,7 @@ pub batch-requires : goal.batch-requires
 batch-requires c =
     let check = c.is_list in
     let listed = check.ensures.listed c.in-Some.levels c.in-Some.is in
-    (listed, (c.in-Some.levels.right, sym c.fit.ensures ∙ c.if-fit.true))
+    (listed, (sym c.fit.ensures ∙ c.if-fit.true))
 
 pub returns-then-fit : goal.returns-then-fit
 returns-then-fit c =

@@ -13,4 +13,4 @@ pub insert-requires : goal.insert-requires
 insert-requires c =
     let check = c.is_list in
     let listed = check.ensures.listed c.in-Some.levels c.in-Some.is in
-    (listed, c.in-Some.levels.right)
+    listed

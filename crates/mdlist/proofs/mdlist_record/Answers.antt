@@ -17,7 +17,7 @@ insert_record-requires c =
     let check = c.is_list in
     let listed = check.ensures.listed c.in-Some.levels c.in-Some.is in
     let within = subst Within (sym c.note_by.ensures) (notes_within c.args.record.now) in
-    ((listed, within), c.in-Some.levels.right)
+    (listed, within)
 
 pub returns : goal.returns
 returns c = record_meets c.args.record.now c.note_by.ensures c.insert_record.ensures

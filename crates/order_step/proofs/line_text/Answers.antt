@@ -1,13 +1,10 @@
--- `order_step::line_text` meets its contract: a line that is told of lies within the bytes, and the answer put is that of its outcome.
+-- `order_step::line_text` meets its contract: the answer put is that of the line's outcome.
 use native.Mathlib.Omega.{arith}
 use Rattle.order_step.proofs.LineText.{no_line_answered, line_answered, long_line_answered}
 use Rattle.order_step.proofs.line_text.Goals as goal
 
 pub returns-in-NoLine : goal.returns-in-NoLine
 returns-in-NoLine c = let a = c.args in no_line_answered a.list.now a.out.now a.line.now c.in-NoLine.is
-
-pub slice_bounds-step-end : goal.slice_bounds-step-end
-slice_bounds-step-end c = c.requires.1.0.fits _ c.in-Line.is
 
 pub returns-in-Line : goal.returns-in-Line
 returns-in-Line c =

@@ -1,35 +1,21 @@
 -- `paths::next_from` meets its contract: the links are looked at from the highest down, as in the definition, and the first that leads
 -- somewhere leads to the next cell.
-use Prim.Native.Nat.{◌-◌}
+use mathlib.Core.Path.{ap, ◌∙◌}
 use native.Mathlib.Omega.{arith}
-use Rattle.paths.proofs.Paths.{seeking_start, cell_below, seeking_down, next_found, next_nowhere}
+use Rattle.meaning.specs.Layer.Paths.{next_from}
+use Rattle.meaning.proofs.Paths.PathNext.{next_none}
+use Rattle.paths.specs.Paths.{path_of}
+use Rattle.paths.proofs.Paths.{next_lower, next_found}
 use Rattle.paths.proofs.next_from.Goals as goal
-
-pub loop-above-init : goal.loop-above-init
-loop-above-init c = seeking_start c.args.list.now
-
-pub bounds-cells-d : goal.bounds-cells-d
-bounds-cells-d c =
-    let f = c.requires.1.formed in
-    omega (arith, f.long, f.most, c.loop-above.invariant.upto, c.loop-above-test.true)
-
-pub link_read-y-requires : goal.link_read-y-requires
-link_read-y-requires c =
-    let p = c.requires in
-    let v = c.loop-above in
-    let below = cell_below p.1 v.invariant (v.above - 1) (omega arith) in
-    (p.0.shaped, (below, (omega (arith, v.invariant.upto), p.0.owed _ below)))
 
 pub returns-then-y-ne0 : goal.returns-then-y-ne0
 returns-then-y-ne0 c =
-    let p = c.requires in
-    next_found p.1 c.loop-above.invariant (omega arith) c.link_read-y.ensures p.0 c.if-y-ne0.true
+    next_found c.args.list.now c.requires.1 c.loop-d-test.true c.loop-d.auto.d c.loop-d.invariant c.link_read-y.ensures c.requires.0 c.if-y-ne0.true
 
-pub loop-above-preserved : goal.loop-above-preserved
-loop-above-preserved c =
-    seeking_down c.requires.1 c.loop-above.invariant (omega arith) c.link_read-y.ensures c.if-y-ne0.false
+pub loop-d-preserved : goal.loop-d-preserved
+loop-d-preserved c = next_lower c.args.list.now c.requires.1 c.loop-d-test.true c.loop-d.auto.d c.loop-d.invariant c.link_read-y.ensures c.if-y-ne0.false
 
 pub returns : goal.returns
 returns c =
-    let p = c.requires in
-    next_nowhere p.1 c.loop-above.invariant p.0 (omega arith)
+    let path = path_of c.args.path.now in
+    c.loop-d.invariant ∙ ap (next_from c.args.list.now path) (omega (arith, c.loop-d-test.false)) ∙ next_none c.args.list.now path

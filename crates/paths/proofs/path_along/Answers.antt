@@ -1,13 +1,8 @@
 -- `paths::path_along` meets its contract: the walk under way builds the same path as from its start, and its trail is a step shorter with
 -- each turn.
-use native.Mathlib.Omega.{arith}
 use Rattle.steps.proofs.Walking.{walking_met, left_go, left_up}
-use Rattle.paths.proofs.Paths.{formed_own}
 use Rattle.paths.proofs.Steps.{building_start, building_go, building_up, building_end}
 use Rattle.paths.proofs.path_along.Goals as goal
-
-pub head_path-path-requires : goal.head_path-path-requires
-head_path-path-requires c = c.requires.0.shaped.dimensions_most
 
 pub loop-y-init : goal.loop-y-init
 loop-y-init c =
@@ -20,19 +15,13 @@ step-next-requires c =
     let w = c.loop-y.invariant.walking in
     (p.0.shaped, (p.1.0, walking_met w (p.0.owed c.loop-y.at w.cell)))
 
-pub onward-path-requires : goal.onward-path-requires
-onward-path-requires c =
-    let w = c.loop-y.invariant in
-    (formed_own w.formed, omega (arith, w.formed.used, w.walking.inside))
-
 pub loop-y-smaller-in-Go : goal.loop-y-smaller-in-Go
 loop-y-smaller-in-Go c =
     left_go c.loop-y.invariant.walking c.step-next.ensures c.in-Go.is
 
 pub loop-y-preserved-in-Go : goal.loop-y-preserved-in-Go
 loop-y-preserved-in-Go c =
-    building_go c.requires.0 c.loop-y.invariant c.step-next.ensures c.in-Go.is
-    c.onward-path.ensures.0 c.onward-path.ensures.1
+    building_go c.requires.0 c.loop-y.invariant c.step-next.ensures c.in-Go.is c.put_onward.ensures
 
 pub loop-y-smaller : goal.loop-y-smaller
 loop-y-smaller c =
@@ -45,4 +34,4 @@ loop-y-preserved c =
 pub returns-in-End : goal.returns-in-End
 returns-in-End c =
     let h = c.requires.0 in
-    (building_end h c.loop-y.invariant c.step-next.ensures c.in-End.is, c.loop-y.invariant.formed)
+    (building_end h c.loop-y.invariant c.step-next.ensures c.in-End.is, c.loop-y.invariant.used)

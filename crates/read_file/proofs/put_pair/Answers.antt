@@ -7,16 +7,16 @@ use Rattle.read_file.proofs.put_pair.Goals as goal
 
 pub shared-p-requires : goal.shared-p-requires
 shared-p-requires c =
-    let next = c.requires.0 in
-    (next.putting.formed.most, (c.requires.1, (next_larger next.putting _ next.more, next_fits next.putting _ next.more)))
+    let next = c.requires in
+    ((listed_shaped (put_listed next.putting)).dimensions_most, (next_larger next.putting _ next.more, next_fits next.putting _ next.more))
 
 pub bounds-list-4 : goal.bounds-list-4
-bounds-list-4 c = omega (arith, (listed_shaped (put_listed c.requires.0.putting)).long)
+bounds-list-4 c = omega (arith, (listed_shaped (put_listed c.requires.putting)).long)
 
 pub add_last-requires : goal.add_last-requires
 add_last-requires c =
     let p = c.shared-p.ensures in
-    let next = c.requires.0 in
+    let next = c.requires in
     (next_last next.putting _ next.more p.0 p.1, (refl, omega (arith, next_cell next.putting _ next.more)))
 
 pub returns : goal.returns

@@ -12,7 +12,10 @@ of-levels-requires c =
     ((told_limits t).0, (listed_base list, listed_power list))
 
 pub loop-i-init : goal.loop-i-init
-loop-i-init c = let pre = c.requires in put_start (told pre.1) pre.0
+loop-i-init c =
+    let pre = c.requires in
+    let head = c.head_path-path.ensures in
+    put_start (told pre.1) pre.0 head.0 head.1
 
 pub key_at-key-requires : goal.key_at-key-requires
 key_at-key-requires c = let t = told c.requires.1 in omega (arith, t.long)
@@ -22,11 +25,13 @@ value_at-value-requires c = let t = told c.requires.1 in omega (arith, t.long)
 
 pub put_pair-requires : goal.put_pair-requires
 put_pair-requires c =
-    (put_asks (told c.requires.1) c.loop-i.invariant c.loop-i-test.true c.key_at-key.ensures c.value_at-value.ensures, (rw (← c.of-levels.ensures) c.of-levels.result.right))
+    rw c.of-levels.ensures
+    (put_asks (told c.requires.1) c.loop-i.invariant c.loop-i-test.true c.key_at-key.ensures c.value_at-value.ensures)
 
 pub loop-i-preserved : goal.loop-i-preserved
 loop-i-preserved c =
-    put_more (told c.requires.1) c.loop-i.invariant c.loop-i-test.true c.key_at-key.ensures c.value_at-value.ensures c.put_pair.ensures
+    put_more (told c.requires.1) c.loop-i.invariant c.loop-i-test.true c.key_at-key.ensures c.value_at-value.ensures
+    (rw c.of-levels.ensures at c.put_pair.ensures)
 
 pub returns : goal.returns
 returns c = put_all (told c.requires.1) c.loop-i.invariant c.loop-i.auto.i-end c.loop-i-test.false

@@ -5,4 +5,4 @@ use Rattle.read_file.specs.Putting.{Putting}
 use Rattle.read_file.proofs.put_pairs.Given as goal
 
 abbrev pub invariant-loop-i : goal.invariant-loop-i
-invariant-loop-i l = Putting l.list l.s (pairs_from l.i (drop (before l.n) l.file)) l.last l.path
+invariant-loop-i l = Putting l.list l.fn.s (pairs_from l.i (drop (before l.n) l.file)) l.last l.path

@@ -1,10 +1,10 @@
--- `replay::read_all` is safe and ends: each turn is counted, and the array for a part stays as long as it is.
+-- `replay::read_all` is safe and ends: the array for a part stays as long as it is.
 use native.Mathlib.Omega.{arith}
 use borrow.Author.Rules.{rules}
 use Rattle.replay.proofs.read_all.Goals as goal
 
-pub loop-turns-init : goal.loop-turns-init
-loop-turns-init c =
+pub loop-init : goal.loop-init
+loop-init c =
     let p = c.requires in (
       c.large_buffer-part.ensures,
       record {
@@ -20,5 +20,5 @@ loop-turns-init c =
 pub answer_line-requires : goal.answer_line-requires
 answer_line-requires c =
     let f = c.finish-ended.ensures in
-    let kept = c.loop-turns.invariant.1 in
+    let kept = c.loop.invariant.1 in
     (kept.room, record { fits = λ n e. omega (arith, f.line_fits n e, kept.ready.long) })

@@ -1,13 +1,14 @@
--- `report::checksum` meets its contract: each word is summed once, in order.
+-- `report::checksum` meets its contract: each element is summed once, in order.
 use native.Mathlib.Omega.{arith}
 use Rattle.report.proofs.Sums.{summed_start, summed_next, summed_all}
 use Rattle.report.proofs.checksum.Goals as goal
 
-pub loop-i-init : goal.loop-i-init
-loop-i-init c = summed_start c.args.part.now
+pub loop-element-init : goal.loop-element-init
+loop-element-init g c = summed_start g.T.Into.converts (omega arith)
 
-pub loop-i-preserved : goal.loop-i-preserved
-loop-i-preserved c = summed_next _ c.loop-i.invariant c.summed-h.ensures (omega arith)
+pub loop-element-preserved : goal.loop-element-preserved
+loop-element-preserved g c =
+    summed_next g.T.Into.converts c.args.part.now c.loop-element.invariant c.loop-element-test.true c.element-item.is c.into.ensures c.summed-h.ensures
 
 pub returns : goal.returns
-returns c = summed_all _ c.loop-i.invariant (omega arith)
+returns g c = summed_all g.T.Into.converts c.args.part.now c.loop-element.invariant c.loop-element-test.false

@@ -1,11 +1,8 @@
--- `report::checksum` meets its contract: each word is summed once, in order.
-use Prim.Native.Nat.{◌-◌}
-use lib.ListN.{length}
+-- `report::checksum` meets its contract: each element is summed once, in order.
+use Prim.Native.Nat.{◌%◌}
+use lib.ListN.{length, take}
 use Rattle.report.proofs.Sums.{Summed}
 use Rattle.report.proofs.checksum.Given as goal
 
-abbrev pub invariant-loop-i : goal.invariant-loop-i
-invariant-loop-i l = Summed l.part l.h l.i
-
-abbrev pub decreases-loop-i : goal.decreases-loop-i
-decreases-loop-i l = length l.part - l.i
+abbrev pub invariant-loop-element : goal.invariant-loop-element
+invariant-loop-element g l = Summed g.T.Into.converts (take l.element-index l.part) (length l.part % 2147483647) l.h

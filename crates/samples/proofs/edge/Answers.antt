@@ -4,7 +4,6 @@ use lib.ListN.{get_or}
 use lib.Seq.{length-take-le}
 use borrow.Author.Rules.{rules}
 use Rattle.samples.specs.Printed.{edge_text, row_text}
-use Rattle.samples.proofs.Printed.{lent_length}
 use Rattle.samples.proofs.edge.Goals as goal
 
 pub slice_bounds-write-end : goal.slice_bounds-write-end
@@ -18,4 +17,4 @@ write-requires c =
     let a = c.args in
     let row = a.row in
     c.edge_text-end.ensures.0
-    ∙ ap (edge_text (get_or row 0 0) (get_or row 1 0) (get_or row 2 0)) (lent_length a.words.now (get_or row 3 0) (search rules))
+    ∙ ap (edge_text (get_or row 0 0) (get_or row 1 0) (get_or row 2 0)) (length-take-le (get_or row 3 0) a.words.now (search rules))

@@ -9,4 +9,4 @@ returns c =
     let put = c.put_checked.ensures in
     let a = c.args in
     edge_put a.d a.k a.c (length a.part.now)
-    c.fill.ensures c.mdlist_set_up-a.ensures put.0 (omega (arith, put.1))
+    (c.fill.ensures.after (λ y e. e)) c.mdlist_set_up-a.ensures put.0 (omega (arith, put.1))

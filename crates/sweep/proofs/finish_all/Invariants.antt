@@ -2,7 +2,6 @@
 -- in the list of the call; each debt finished leaves a list.
 use mathlib.Core.Path.{◌≡◌}
 use Prim.Native.Nat.{◌-◌}
-use lib.ListN.{length}
 use Rattle.meaning.specs.Layer.SweepStores.{finish_all}
 use Rattle.meaning.specs.Layer.Listed.{Listed}
 use Rattle.sweep.proofs.finish_all.Given as goal
@@ -10,8 +9,4 @@ use Rattle.sweep.proofs.finish_all.Given as goal
 abbrev pub invariant-loop-n : goal.invariant-loop-n
 invariant-loop-n l =
     Listed l.list l.s
-    × ((length l.list ≡ length l.initial.list)
-    × (finish_all l.s.dimensions l.initial.list 1 (l.s.cells - 1) ≡ finish_all l.s.dimensions l.list l.n (l.s.cells - l.n)))
-
-abbrev pub decreases-loop-n : goal.decreases-loop-n
-decreases-loop-n l = l.s.cells - l.n
+    × (finish_all l.s.dimensions l.initial.list 1 (l.s.cells - 1) ≡ finish_all l.s.dimensions l.list l.n (l.s.cells - l.n))

@@ -9,30 +9,23 @@ use Rattle.sweep.proofs.seek_target.Goals as goal
 pub head_path-path-requires : goal.head_path-path-requires
 head_path-path-requires c = (listed_shaped c.requires).dimensions_most
 
-pub loop-s-init : goal.loop-s-init
-loop-s-init c = seeking_start c.requires c.head_path-path.ensures.0 c.head_path-path.ensures.1
+pub loop-next-init : goal.loop-next-init
+loop-next-init c = seeking_start c.requires c.head_path-path.ensures.0 c.head_path-path.ensures.1
 
-pub next-next-requires : goal.next-next-requires
-next-next-requires c = (listed_walkable c.requires, c.loop-s.invariant.path_in)
-
-pub returns-then-next-eq0 : goal.returns-then-next-eq0
-returns-then-next-eq0 c =
-    seeking_end c.requires c.loop-s.invariant c.next-next.ensures c.if-next-eq0.true
+pub next_from-requires : goal.next_from-requires
+next_from-requires c = (listed_walkable c.requires, c.loop-next.invariant.path_in)
 
 pub word-requires : goal.word-requires
-word-requires c =
-    (listed_shaped c.requires, field_within c.next-next.ensures.below (omega arith))
+word-requires c = (listed_shaped c.requires, field_within c.in-Some.ensures.below (omega arith))
+
+pub loop-next-smaller : goal.loop-next-smaller
+loop-next-smaller c = seeking_less c.requires c.loop-next.invariant c.in-Some.ensures c.put_onward.ensures
+
+pub loop-next-preserved : goal.loop-next-preserved
+loop-next-preserved c = seeking_onward c.requires c.loop-next.invariant c.in-Some.ensures c.put_onward.ensures c.word.ensures c.if-word-eq-LIVE.false
 
 pub returns-then-word-eq-LIVE : goal.returns-then-word-eq-LIVE
-returns-then-word-eq-LIVE c =
-    seeking_live c.requires c.loop-s.invariant c.next-next.ensures c.if-next-eq0.false
-    c.word.ensures c.if-word-eq-LIVE.true
+returns-then-word-eq-LIVE c = seeking_live c.requires c.loop-next.invariant c.in-Some.ensures c.word.ensures c.if-word-eq-LIVE.true
 
-pub loop-s-smaller : goal.loop-s-smaller
-loop-s-smaller c =
-    seeking_less c.requires c.loop-s.invariant c.next-next.ensures c.if-next-eq0.false
-
-pub loop-s-preserved : goal.loop-s-preserved
-loop-s-preserved c =
-    seeking_onward c.requires c.loop-s.invariant c.next-next.ensures c.if-next-eq0.false
-    c.word.ensures c.if-word-eq-LIVE.false
+pub returns-in_default : goal.returns-in_default
+returns-in_default c = seeking_end c.requires c.loop-next.invariant c.in_default.ensures

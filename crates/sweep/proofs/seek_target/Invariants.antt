@@ -5,8 +5,8 @@ use Rattle.meaning.specs.Operations.{keys_above}
 use Rattle.sweep.proofs.Seeking.{Seeking}
 use Rattle.sweep.proofs.seek_target.Given as goal
 
-abbrev pub invariant-loop-s : goal.invariant-loop-s
-invariant-loop-s l = Seeking l.list l.s l.at l.number l.path
+abbrev pub invariant-loop-next : goal.invariant-loop-next
+invariant-loop-next l = Seeking l.list l.s l.at l.number l.path
 
-abbrev pub decreases-loop-s : goal.decreases-loop-s
-decreases-loop-s l = keys_above (key_at l.list l.at) (read l.list).row
+abbrev pub decreases-loop-next : goal.decreases-loop-next
+decreases-loop-next l = keys_above (key_at l.list l.at) (read l.list).row

@@ -5,15 +5,10 @@ use Rattle.sweep.proofs.sweep.Goals as goal
 pub returns-then-t-eq0 : goal.returns-then-t-eq0
 returns-then-t-eq0 c =
     let paid = c.finish_all.ensures in
-    stays_meets c.requires.0 paid.0 paid.1 c.seek_target-t.ensures c.if-t-eq0.true
+    stays_meets c.requires paid.0 paid.1 c.seek_target-t.ensures c.if-t-eq0.true
     c.accepted.ensures
-
-pub drop_front-count-requires : goal.drop_front-count-requires
-drop_front-count-requires c =
-    let paid = c.finish_all.ensures.1 in
-    (record { paid = paid; target = c.seek_target-t.ensures; other = c.if-t-eq0.false }, c.requires.1)
 
 pub returns : goal.returns
 returns c =
     let left = c.drop_front-count.ensures in
-    swept_meets c.requires.0 c.finish_all.ensures.0 left.0 left.1 c.accepted-2.ensures
+    swept_meets c.requires c.finish_all.ensures.0 left.0 left.1 c.accepted-2.ensures

@@ -10,33 +10,20 @@ use Rattle.take.proofs.first_live.Goals as goal
 pub read_path-path-requires : goal.read_path-path-requires
 read_path-path-requires c = listed_shaped c.requires
 
-pub loop-s-init : goal.loop-s-init
-loop-s-init c = passing_start c.requires c.read_path-path.ensures.1 c.read_path-path.ensures.0
+pub loop-next-init : goal.loop-next-init
+loop-next-init c = passing_start c.requires c.read_path-path.ensures.1 c.read_path-path.ensures.0
 
-pub next-next-requires : goal.next-next-requires
-next-next-requires c = (listed_walkable c.requires, c.loop-s.invariant.path_in)
-
-pub returns-then-next-eq0 : goal.returns-then-next-eq0
-returns-then-next-eq0 c =
-    passing_end c.requires c.loop-s.invariant c.next-next.ensures c.if-next-eq0.true
-
-pub overflow_add-passed : goal.overflow_add-passed
-overflow_add-passed c =
-    omega (arith, c.loop-s.invariant.room, (listed_shaped c.requires).cells_most)
+pub next-requires : goal.next-requires
+next-requires c = (listed_walkable c.requires, c.loop-next.invariant.path_in)
 
 pub word-requires : goal.word-requires
-word-requires c =
-    (listed_shaped c.requires, field_within c.next-next.ensures.below (omega arith))
+word-requires c = (listed_shaped c.requires, field_within c.in-Some.ensures.at.below (omega arith))
 
 pub returns-then-word-eq-LIVE : goal.returns-then-word-eq-LIVE
-returns-then-word-eq-LIVE c =
-    passing_here c.requires c.loop-s.invariant c.next-next.ensures c.if-next-eq0.false
-    c.word.ensures c.if-word-eq-LIVE.true
+returns-then-word-eq-LIVE c = passing_here c.requires c.loop-next.invariant c.in-Some.ensures c.word.ensures c.if-word-eq-LIVE.true
 
-pub loop-s-smaller : goal.loop-s-smaller
-loop-s-smaller c = omega (arith, c.loop-s.invariant.room)
+pub loop-next-preserved : goal.loop-next-preserved
+loop-next-preserved c = passing_past c.requires c.loop-next.invariant c.in-Some.ensures c.word.ensures c.if-word-eq-LIVE.false
 
-pub loop-s-preserved : goal.loop-s-preserved
-loop-s-preserved c =
-    passing_past c.requires c.loop-s.invariant c.next-next.ensures c.if-next-eq0.false
-    c.word.ensures c.if-word-eq-LIVE.false
+pub returns : goal.returns
+returns c = rw c.in_default.ensures.1 (passing_end c.requires c.loop-next.invariant c.in_default.ensures.0)

@@ -5,8 +5,8 @@ use Rattle.meaning.specs.Reading.{read}
 use Rattle.take.proofs.Taking.{Passing}
 use Rattle.take.proofs.first_live.Given as goal
 
-abbrev pub invariant-loop-s : goal.invariant-loop-s
-invariant-loop-s l = Passing (read l.list) l.s l.path l.passed
+abbrev pub invariant-loop-next : goal.invariant-loop-next
+invariant-loop-next l = Passing (read l.list) l.s l.path l.passed
 
-abbrev pub decreases-loop-s : goal.decreases-loop-s
-decreases-loop-s l = l.s.cells - l.passed
+abbrev pub decreases-loop-next : goal.decreases-loop-next
+decreases-loop-next l = l.s.cells - l.passed

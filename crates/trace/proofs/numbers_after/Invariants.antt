@@ -4,7 +4,7 @@ use lib.ListN.{length}
 use Rattle.trace.proofs.numbers_after.Given as goal
 
 abbrev pub invariant-loop-end : goal.invariant-loop-end
-invariant-loop-end l = (l.count ≤ 4) × (l.end ≤ length l.line)
+invariant-loop-end l = l.end ≤ length l.line
 
 abbrev pub decreases-loop-end : goal.decreases-loop-end
 decreases-loop-end l = length l.line - l.end

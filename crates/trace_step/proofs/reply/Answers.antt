@@ -13,13 +13,13 @@ pub slice_bounds-write-end-3 : goal.slice_bounds-write-end-3
 slice_bounds-write-end-3 c =
     let done = c.line_text-done in
     let held = done.ensures.words_are.held in
-    sym (length-take-le done.result.used _ (omega (arith, held.room, held.within)))
+    sym (length-take-le done.result.sizes.used _ (omega (arith, held.room, held.within)))
 
 pub slice_bounds-write-end-5 : goal.slice_bounds-write-end-5
 slice_bounds-write-end-5 c =
     let done = c.line_text-done in
     let held = done.ensures.bytes_are.held in
-    sym (length-take-le done.result.filled _ (omega (arith, held.room, held.within)))
+    sym (length-take-le done.result.sizes.filled _ (omega (arith, held.room, held.within)))
 
 pub write-requires : goal.write-requires
 write-requires c =

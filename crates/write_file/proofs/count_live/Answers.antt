@@ -1,7 +1,7 @@
 -- `write_file::count_live` meets its contract: at each turn the live cells before x are counted, and those from x on are still to be.
 use native.Mathlib.Omega.{arith}
 use Rattle.words.proofs.Shaped.{field_within}
-use Rattle.words.proofs.Listed.{listed_shaped}
+use Rattle.words.proofs.Listed.{listed_shaped, listed_cells}
 use Rattle.write_file.proofs.Counting.{counted_start, counted_live, counted_other, counted_all}
 use Rattle.write_file.proofs.count_live.Goals as goal
 use Rattle.write_file.proofs.count_live.Goals.{then-word-eq-LIVE, else-word-eq-LIVE}
@@ -10,18 +10,7 @@ pub loop-x-init : goal.loop-x-init
 loop-x-init c = counted_start c.requires
 
 pub word-requires : goal.word-requires
-word-requires c = (listed_shaped c.requires, field_within (omega arith) (omega arith))
-
-pub overflow_add-n : goal.overflow_add-n
-overflow_add-n c =
-    omega (arith, c.loop-x.invariant.fewer, c.loop-x.invariant.most, (listed_shaped c.requires).cells_most)
-
-pub overflow_add-x : goal.overflow_add-x
-overflow_add-x c =
-    omega (arith, c.loop-x.invariant.most, (listed_shaped c.requires).cells_most)
-
-pub loop-x-smaller : goal.loop-x-smaller
-loop-x-smaller c = omega (arith, c.loop-x-test.true)
+word-requires c = (listed_shaped c.requires, field_within c.loop-x-test.true (omega arith))
 
 pub loop-x-preserved : goal.loop-x-preserved
 loop-x-preserved c =
@@ -31,4 +20,4 @@ loop-x-preserved c =
     ]
 
 pub returns : goal.returns
-returns c = counted_all c.loop-x.invariant c.loop-x-test.false
+returns c = counted_all c.loop-x.invariant (omega (arith, listed_cells c.requires))

@@ -24,7 +24,7 @@ pub enter-seen-requires : goal.enter-seen-requires
 enter-seen-requires c =
     let pre = c.requires in
     let k = c.loop-seen.invariant in
-    (pre.shaped, (pre.levels, ((c.go_on-goes.ensures.goes c.in-Goes.w c.in-Goes.is).number, k.within)))
+    (pre.shaped, ((c.go_on-goes.ensures.goes c.in-Goes.w c.in-Goes.is).number, k.within))
 
 pub returns-then-not-seen : goal.returns-then-not-seen
 returns-then-not-seen c =

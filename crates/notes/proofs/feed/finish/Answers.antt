@@ -5,5 +5,5 @@ use Rattle.notes.proofs.feed.finish.Goals as goal
 pub returns-then-feed : goal.returns-then-feed
 returns-then-feed c = begun_ends c.if-feed.true c.note_at.ensures
 
-pub returns : goal.returns
-returns c = none_ends c.if-feed.false
+pub returns-else-feed : goal.returns-else-feed
+returns-else-feed c = none_ends c.if-feed.false
