@@ -4,10 +4,10 @@ use mathlib.Core.List.{List, ◌++◌, append_assoc}
 use Prim.Native.Nat.{ℕ, suc, ◌+◌, ◌-◌, ◌≤◌, ◌<◌}
 use native.Mathlib.Decide.{dec_lt}
 use native.Mathlib.Omega.{arith}
-use lib.ListN.{length, get_or, take, drop, replicate, length-replicate}
-use lib.Seq.{drop-drop, take-take, get_or-take, length-take-le, sets, sets-eq}
+use lib.ListN.{length, get_or, take, drop, replicate, length-replicate, length-append}
+use lib.Seq.{drop-drop, take_at, take-take, get_or-take, length-take-le, sets, sets-eq}
 use borrow.Rule.Slice.PartMut.{mid_of, put_mid, mid_len}
-use Rattle.std.proofs.lemmas.Slice.{take-put_mid, drop-put_mid}
+use Rattle.std.proofs.lemmas.Slice.{drop-append-drop}
 use Rattle.settings.specs.Numbers.{header_words}
 use Rattle.settings.specs.declared.Settings.{Settings}
 use Rattle.meaning.specs.Walk.{link_read}
@@ -26,20 +26,31 @@ use Rattle.paths.specs.Paths.{path_of, Onward, PathIn, Walkable, NextAt, NextWit
 pub path_length : (p : Path) → length (path_of p) ≡ p.used
 path_length p = length-take-le p.used p.cells p.within
 
--- cell y written from word d up to the last of the path
-pub onward_put :
-    {p r : Path} {d y : ℕ} {ys : List ℕ} → d ≤ p.used → ys ≡ replicate (length (mid_of d (p.used - d) p.cells)) y →
-    r.cells ≡ put_mid d (p.used - d) p.cells ys → r.used ≡ p.used → Onward p d y r
-onward_put {p} {r} {d} {y} {ys} h filled is used =
-    let within = p.within in
-    let filled : ys ≡ replicate (p.used - d) y = filled ∙ ap (λ n. replicate n y) (mid_len d p.used p.cells (omega arith)) in
-    let long : length ys ≡ p.used - d = ap length filled ∙ length-replicate {A = ℕ} (p.used - d) y in
+-- cell y written from word d up to word D of some cell numbers, ..
+pub onward_put : (D d y : ℕ) (cells : List ℕ) {ys : List ℕ} → d ≤ D → D ≤ length cells → ys ≡ replicate (length (mid_of d (D - d) cells)) y →
+    put_mid d (D - d) cells ys ≡ onward D cells d y ++ drop D cells
+onward_put D d y cells {ys} h long filled =
+    let count : length (mid_of d (D - d) cells) ≡ D - d = mid_len d D cells (omega arith) in
+    let past : drop (D - d) (drop d cells) ≡ drop D cells =
+    drop-drop (D - d) d cells ∙ ap (λ n. drop n cells) (let all : d + (D - d) ≡ D = omega arith in all) in
+    ap₂ (λ l m. take d cells ++ (l ++ m)) (filled ∙ ap (λ n. replicate n y) count) past
+    ∙ sym (append_assoc (take d cells) (replicate (D - d) y) (drop D cells))
+
+-- .. as many as before: the first D are ..
+onward_long : (D d y : ℕ) (cells : List ℕ) → d ≤ D → D ≤ length cells → length (onward D cells d y) ≡ D
+onward_long D d y cells h long =
+    length-append (take d cells) (replicate (D - d) y) ∙ omega (arith, length-take-le d cells (omega arith), length-replicate {A = ℕ} (D - d) y)
+
+-- .. the path with y from word d on
+pub onward_path : {p r : Path} {d y : ℕ} → d ≤ p.used → r.cells ≡ onward p.used p.cells d y ++ drop p.used p.cells → r.used ≡ p.used → Onward p d y r
+onward_path {p} {r} {d} {y} h is used =
+    let front : length (onward p.used p.cells d y) ≡ p.used = onward_long p.used d y p.cells h p.within in
     record {
       way =
           ap₂ take used is
-          ∙ take-put_mid d (p.used - d) p.cells ys p.used (omega arith) (omega arith)
-          ∙ ap₂ (λ l m. l ++ m) (sym (take-take d p.used p.cells h)) filled;
-      rest = ap (drop p.used) is ∙ drop-put_mid d (p.used - d) p.cells ys p.used (omega arith) (omega arith) long;
+          ∙ take_at (onward p.used p.cells d y) (drop p.used p.cells) p.used front
+          ∙ ap (λ l. l ++ replicate (p.used - d) y) (sym (take-take d p.used p.cells h));
+      rest = ap (drop p.used) is ∙ drop-append-drop p.used p.cells (onward p.used p.cells d y) p.used (omega arith) front;
       used = used;
     }
 
@@ -59,6 +70,9 @@ module _ {s : Settings} {p r : Path} {d y : ℕ} (i : PathIn s p) (o : Onward p 
       at e l (no m) = rw (onward_back s.dimensions (path_of p) d y e long (omega arith) l) below
 
 -- The path's words
+
+pub path_inside : {ws : List ℕ} {s : Settings} → Shaped ws s → (i : ℕ) → i < s.dimensions → header_words + i < length ws
+path_inside h i l = omega (arith, h.long)
 
 pub path_written :
     {ws : List ℕ} {s : Settings} (p : Path) {k : ℕ} {ys : List ℕ} → Shaped ws s → p.used ≡ s.dimensions → k ≡ s.dimensions → ys ≡ path_of p →

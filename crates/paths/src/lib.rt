@@ -3,7 +3,7 @@
 // of the MDList paper).
 #![tactic(auto)]
 
-ghost use Rattle.std.specs.Prelude.{◌≡◌, ◌≤◌, take, drop, replicate};
+ghost use Rattle.std.specs.Prelude.{◌≡◌, ◌++◌, ◌≤◌, length, take, drop, replicate};
 ghost use Rattle.settings.specs.Numbers.{header_words, most_dimensions};
 ghost use Rattle.meaning.specs.Walk.{trail};
 ghost use Rattle.meaning.specs.Layer.Paths.{path_over};
@@ -37,12 +37,22 @@ pub fn head_path(s: Settings) -> Path
     }
 }
 
-// Cell y from word d of the path on.
-pub fn put_onward(path: &mut Path, d: u32, y: u32)
-    requires { d ≤ path.old.used }
-    ensures { Onward path.old d y path.new }
+// Cell y from word d on, of a path that is the first `used` of some cell numbers; those past it stay.
+pub fn put_onward(cells: &mut [u32], used: u32, d: u32, y: u32)
+    requires { (d ≤ used) × (used ≤ length cells.old) }
+    ensures { cells.new ≡ definitions.onward used cells.old d y ++ drop used cells.old }
 {
-    path.cells[d as usize..path.used as usize].fill(y);
+    cells[d as usize..used as usize].fill(y);
+}
+
+impl Path {
+    // The path goes on to cell y from word d on.
+    pub fn put_onward(&mut self, d: u32, y: u32)
+        requires { d ≤ self.old.used }
+        ensures { Onward self.old d y self.new }
+    {
+        put_onward(&mut self.cells, self.used, d, y);
+    }
 }
 
 // The path with cell y from word d on.
@@ -50,7 +60,7 @@ pub fn onward(mut path: Path, d: u32, y: u32) -> Path
     requires { d ≤ path.used }
     ensures { Onward path d y result }
 {
-    put_onward(&mut path, d, y);
+    path.put_onward(d, y);
     path
 }
 
@@ -89,7 +99,7 @@ fn path_along(list: &[u32], s: Settings, starts: &[u64], powers: &[u64], k: u32)
         let next = steps::step(list, s, starts, powers, k, at, d);
         match next {
             Step::Go(y) => {
-                put_onward(&mut path, d, y);
+                path.put_onward(d, y);
                 at = y;
             }
             Step::Up => {
@@ -136,6 +146,6 @@ pub fn next(list: &[u32], s: Settings, path: &mut Path) -> Option<NextCell>
     ensures { NextIs list.now s path.old result path.new }
 {
     let next = next_from(list, s, path)?;
-    put_onward(path, next.number, next.cell);
+    path.put_onward(next.number, next.cell);
     Some(next)
 }

@@ -23,7 +23,7 @@ fn put_pair(list: &mut [u32], levels: &Levels, last: u32, path: &mut Path, key: 
     let n = list[words::FIRST_FREE];
     let parent = path.cells[p as usize];
     insert::add_last(list, levels.settings, n, parent, p, key, value);
-    paths::put_onward(path, p, n);
+    path.put_onward(p, n);
 }
 
 // The n pairs of a file, into a list that holds none.

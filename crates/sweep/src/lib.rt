@@ -37,7 +37,7 @@ fn seek_target(list: &[u32], s: Settings) -> Target
         }
         at = next.cell;
         number = next.number;
-        paths::put_onward(&mut path, number, at);
+        path.put_onward(number, at);
     }
     Target {
         cell: at,

@@ -1,7 +1,8 @@
--- `paths::put_onward` meets its contract: the words from d on are filled with y, those past the path stay.
-use mathlib.Core.Path.{refl}
+-- `paths::put_onward` meets its contract: the words from d on are filled with y, those past the cells used stay.
 use Rattle.paths.proofs.Paths.{onward_put}
 use Rattle.paths.proofs.put_onward.Goals as goal
 
 pub returns : goal.returns
-returns c = onward_put c.requires (c.fill.ensures.after (λ y e. e)) refl refl
+returns c =
+    let a = c.args in
+    onward_put a.used a.d a.y a.cells.now c.requires.0 c.requires.1 (c.fill.ensures.after (λ y e. e))
