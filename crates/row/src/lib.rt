@@ -43,13 +43,36 @@ struct Place {
     mark: u32,
 }
 
-// What a refused call answers: the table's number and, where the refusal answers them, a key and a count. The answers are written here, since a
-// row shares no code with the list.
+// The table's number of a refusal. It is written here, as the answers are, since a row shares no other code with the list.
+fn number(refusal: Refusal) -> u32
+    ensures { result ≡ (answer_of refusal).refusal }
+{
+    match refusal {
+        Refusal::OutOfRange => 1,
+        Refusal::WrongLength => 2,
+        Refusal::NotAList => 3,
+        Refusal::BadKey => 4,
+        Refusal::KeyLive(_, _) => 5,
+        Refusal::NoFreeCell(_, _) => 6,
+        Refusal::NothingLive(_) => 7,
+        Refusal::KeyNotLive(_, _) => 8,
+        Refusal::KeyNotStanding(_) => 8,
+        Refusal::LineNotReadable => 10,
+        Refusal::BadFile => 11,
+        Refusal::NoRoom => 12,
+        Refusal::BadRecord => 13,
+        Refusal::NumberOutside => 14,
+        Refusal::BadClasses => 15,
+        Refusal::BadBatch => 19,
+    }
+}
+
+// What a refused call answers: the table's number and, where the refusal answers them, a key and a count.
 fn refused(refusal: Refusal, key: u32, count: u32) -> Answer
     ensures { result ≡ answer (answer_of refusal).refusal key 0 count }
 {
     Answer {
-        refusal: refusal.number(),
+        refusal: number(refusal),
         key,
         value: 0,
         count,
@@ -106,10 +129,10 @@ fn right_key(row: &[u32], place: Place, low: u32) -> bool
 {
     low < place.key
         && place.key <= row[LARGEST]
-        && match place.mark {
-            LIVE => row[POSITION] < place.key,
-            DEAD => place.value == 0,
-            _ => false,
+        && if place.mark == LIVE {
+            row[POSITION] < place.key
+        } else {
+            place.mark == DEAD && place.value == 0
         }
 }
 
@@ -181,11 +204,8 @@ fn place_of(row: &[u32], key: u32) -> Result<usize, usize>
     let keys = row[KEYS] as usize;
     for i in 0..keys {
         let standing = place_at(row, i).key;
-        if standing == key {
-            return Ok(i);
-        }
-        if key < standing {
-            return Err(i);
+        if key <= standing {
+            return if standing == key { Ok(i) } else { Err(i) };
         }
     }
     Err(keys)
