@@ -5,7 +5,7 @@ use mathlib.Core.List.{List, [], ◌∷◌, ◌++◌}
 use Prim.Native.Nat.{ℕ, zero, suc, ◌+◌, ◌*◌, ◌-◌, ◌≤◌, ◌<◌}
 use native.Mathlib.Omega.{arith}
 use lib.Dec.{ltb}
-use lib.ListN.{length, drop, length-drop}
+use lib.ListN.{length, get_or, drop, length-drop}
 use lib.Seq.{drop-drop}
 use borrow.Author.Tests.{lt-ltb, le-ltb, le-leb, lt-leb}
 use Rattle.files.specs.Files.{Pair, big_endian, number_at, entries_start, width_in, count_in, pair_bytes, pairs_from, pairs_in, rising}
@@ -66,6 +66,24 @@ pairs_more bytes f n =
     ap (λ i. pairs_from (suc n) (drop i bytes)) start
     ∙ pairs_end bytes f n 0 {j = n} (omega arith)
     ∙ ap (λ i. pairs_from n (drop i bytes) ++ (pair_at bytes f n ∷ [])) (sym start)
+
+pairs_member : (bytes : List ℕ) (f n i j : ℕ) (z : Pair) → j < n → get_or (pairs_from n (drop (f + 8 * i) bytes)) j z ≡ pair_at bytes f (i + j)
+pairs_member bytes f zero i j z h = absurd (omega arith)
+pairs_member bytes f (suc n) i zero z h =
+    let here : i ≡ i + 0 = omega arith in
+    ap (λ (l : List Pair). get_or l 0 z) (pairs_begin bytes f i n) ∙ ap (pair_at bytes f) here
+pairs_member bytes f (suc n) i (suc j) z h =
+    let there : i + 1 + j ≡ i + suc j = omega arith in
+    ap (λ (l : List Pair). get_or l (suc j) z) (pairs_begin bytes f i n) ∙ pairs_member bytes f n (i + 1) j z (omega arith) ∙ ap (pair_at bytes f) there
+
+-- member i of the pairs in a file is pair i
+pub pair_at_lem : (bytes : List ℕ) (i : ℕ) (z : Pair) → i < count_in bytes → get_or (pairs_in bytes) i z ≡ pair_at bytes (entries_start + width_in bytes) i
+unfolding pairs_in
+pair_at_lem bytes i z h =
+    let f = entries_start + width_in bytes in
+    let here : 0 + i ≡ i = omega arith in
+    let start : f ≡ f + 8 * 0 = omega arith in
+    ap (λ j. get_or (pairs_from (count_in bytes) (drop j bytes)) i z) start ∙ pairs_member bytes f (count_in bytes) 0 i z h ∙ ap (pair_at bytes f) here
 
 -- as many bytes as n pairs have are the bytes of the n pairs read there
 pub pairs_are : (n : ℕ) (bytes : List ℕ) → Bytes bytes → length bytes ≡ 8 * n → pair_bytes (pairs_from n bytes) ≡ bytes

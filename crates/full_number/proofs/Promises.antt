@@ -37,16 +37,18 @@ pub first_number_lem : FirstNumber
 unfolding full_number
 first_number_lem last own h = rw (lt-leb last most_full h) refl
 
--- by the wrapped difference
-module _ (last own : ℕ) (fits : own < numbers_per_round) where
-  abbrev ahead : ℕ
-  ahead = (own + (numbers_per_round - last % numbers_per_round)) % numbers_per_round
-
+-- by a wrapped difference
+module _ (last own ahead : ℕ) (wraps : (ahead + last % numbers_per_round) % numbers_per_round ≡ own) where
   pub ahead_full : ahead < 32768 → Full (last + numbers_per_round) own (last + numbers_per_round + ahead)
-  ahead_full h = record { congruent = omega arith; least = omega arith; most = omega arith }
+  ahead_full h = record { congruent = omega (arith, wraps); least = omega arith; most = omega arith }
 
-  pub behind_full : 32768 ≤ ahead → Full (last + numbers_per_round) own (last + numbers_per_round - (numbers_per_round - ahead))
-  behind_full h = record { congruent = omega arith; least = omega arith; most = omega arith }
+  pub behind_full : 32768 ≤ ahead → ahead < numbers_per_round → Full (last + numbers_per_round) own (last + numbers_per_round - (numbers_per_round - ahead))
+  behind_full h l = record { congruent = omega (arith, wraps); least = omega arith; most = omega arith }
+
+-- the one that a subtraction gives
+pub wrapped : (last own : ℕ) → own < numbers_per_round →
+    ((own + (numbers_per_round - last % numbers_per_round)) % numbers_per_round + last % numbers_per_round) % numbers_per_round ≡ own
+wrapped last own fits = omega arith
 
 -- The full number is what it is to be, and fits.
 

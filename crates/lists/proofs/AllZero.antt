@@ -42,7 +42,10 @@ zeros_tested [] = refl
 zeros_tested (w ∷ ws) = ap (λ t. eqb w 0 && t) (zeros_tested ws)
 
 module _ (part : List ℕ) where
-  -- told of one word
+  -- told of no word, and of one
+  pub zero_start : (i r : ℕ) → (all_zero part ≡ true → r ≡ 0) → ZeroFrom part i 0 r
+  zero_start i r none = record { told = λ e j p q. absurd (omega arith); none = none }
+
   pub zero_one : (i : ℕ) → ZeroFrom part i 1 (get_or part i 0)
   zero_one i = record { told = λ e j p q. let same : j ≡ i = omega arith in rw same e; none = zero_at part i }
 

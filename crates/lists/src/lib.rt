@@ -27,6 +27,17 @@ fn eight(part: &[u32], i: usize) -> u32
     four(part, i) | four(part, i + 4)
 }
 
+// The bits of a part of a few words, put together.
+fn few(part: &[u32]) -> u32
+    ensures { ZeroFrom part.now 0 (length part.now) result }
+{
+    let mut bits = 0;
+    for word in part {
+        bits |= word;
+    }
+    bits
+}
+
 // Whether every word of a part is 0. Their bits are put together, with no way out before the end. The last words are read first, and then
 // from the start in eights, so that no word is left over to be read by itself: some may be read twice.
 pub fn all_zero(part: &[u32]) -> bool
@@ -34,7 +45,7 @@ pub fn all_zero(part: &[u32]) -> bool
 {
     let n = part.len();
     if n < 4 {
-        return part.iter().all(|word| *word == 0);
+        return few(part) == 0;
     }
     if n < 8 {
         return (four(part, 0) | four(part, n - 4)) == 0;

@@ -31,10 +31,10 @@ new_links-length D q c = at (eqb c 0)
 -- the part from `start` to `end` that holds the links of cell n
 module _ {ws : List ℕ} {s : Settings} (h : Shaped ws s) {n : ℕ} (cell : n < s.cells) {start end : ℕ}
     (from : start ≡ word_index s.dimensions n (link_field 0)) (to : end ≡ start + s.dimensions) where
-  links_inside : end ≤ length ws
+  pub links_inside : end ≤ length ws
   links_inside = omega (arith, part_inside h cell (link_field 0) s.dimensions (omega arith))
 
-  links_long : length (mid_of start (end - start) ws) ≡ s.dimensions
+  pub links_long : length (mid_of start (end - start) ws) ≡ s.dimensions
   links_long = omega (arith, mid_len start end ws links_inside)
 
   pub links_written : (q c : ℕ) {ys : List ℕ} → ys ≡ new_links (length (mid_of start (end - start) ws)) q c →

@@ -49,6 +49,14 @@ stays_above {K} b i D one h high =
     let p = pow-le-pow_right (power_order i low high) h in
     omega arith
 
+-- One factor more fits 64 bits where the product so far is at most K, or 1.
+pub product_fits : {p b K : ℕ} → p ≤ K + 1 → K < 2 ^ 32 → b < 2 ^ 32 → p * b < 2 ^ 64
+product_fits {p} {b} {K} hp hk hb =
+    let hp' : p ≤ 4294967296 = omega arith in
+    let hb' : b ≤ 4294967295 = omega arith in
+    let m : p * b ≤ 4294967296 * 4294967295 = mul-le-mul hp' hb' in
+    omega arith
+
 -- The base
 
 pub is_base_lem : {K b : ℕ} (D : ℕ) → K < b ^ D → (b - 1) ^ D ≤ K → IsBase D K b

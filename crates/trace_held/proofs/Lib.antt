@@ -1,2 +1,3 @@
--- What is held after a line: laws of the bytes that digits write.
+-- What is held after a line: of an array with room for the most, and laws of the bytes that digits write.
+pub mod Held
 pub mod HexBytes

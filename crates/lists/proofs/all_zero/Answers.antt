@@ -1,17 +1,13 @@
 -- `lists::all_zero` meets its contract: the bits are those of the first i words and of the last eight, and in the end of all.
 use native.Mathlib.Omega.{arith}
 use borrow.Author.Rules.{rules}
-use Rattle.lists.proofs.AllZero.{zero_join, zero_or, or_left, zero_decides, zeros_tested}
+use Rattle.lists.proofs.AllZero.{zero_join, zero_or, or_left, zero_decides}
 use Rattle.lists.proofs.all_zero.Goals as goal
 use Rattle.lists.proofs.all_zero.Goals.{else-loop-i-test, then-loop-i-test+else-i-end-i-gt8}
-use Rattle.std.proofs.lemmas.Iterator.{YieldsList-from_slice}
-use Rattle.std.proofs.lemmas.Iterator.Search.{all_from_yields_List}
-use Rattle.std.proofs.Common.{tests, nat_eq, ◌+◌, ◌∙◌}
+use Rattle.std.proofs.Common.{◌+◌}
 
 pub returns-then-n-lt4 : goal.returns-then-n-lt4
-returns-then-n-lt4 c =
-    let ws = c.args.part.now in
-    all_from_yields_List (λ w. nat_eq w 0) _ _ _ c.all.ensures.ran (YieldsList-from_slice ws cc) (λ x b q k. search (rules, tests)) ∙ zeros_tested ws
+returns-then-n-lt4 c = zero_decides _ c.few.ensures
 
 pub returns-then-n-lt8 : goal.returns-then-n-lt8
 returns-then-n-lt8 c = zero_decides _ (zero_or _ c.four.ensures c.four-then-n-lt8.ensures (omega arith) (omega arith))
