@@ -3,11 +3,12 @@ use mathlib.Core.Path.{◌≡◌, refl, sym, ap, ◌∙◌}
 use mathlib.Core.Bool.{Bool, true, false, cond, ◌&&◌}
 use mathlib.Core.List.{List, [], ◌∷◌, ◌++◌, map}
 use Prim.Native.Nat.{ℕ, zero, suc, ◌+◌, ◌*◌, ◌-◌, ◌≤◌, ◌<◌}
+use native.Mathlib.Numerals.{add-one}
 use native.Mathlib.Omega.{arith}
 use lib.Dec.{eqb, ltb}
 use lib.ListN.{length, get_or, drop, replicate, length-drop, drop_of_length-le}
 use lib.Seq.{drop-cons}
-use borrow.Author.Tests.{lt-ltb, eqb-true}
+use borrow.Author.Tests.{lt-ltb, eqb-true, eq-eqb, ne_eqb}
 use Rattle.std.specs.Prelude.{flat_map}
 use Rattle.lists.specs.Lists.{every, numbers_from, same}
 use Rattle.std.specs.List.{list_all}
@@ -127,6 +128,17 @@ zero_words (w ∷ ws) e =
 zeros_zero : (n : ℕ) → list_all (λ w. eqb w 0) (replicate n 0) ≡ true
 zeros_zero zero = refl
 zeros_zero (suc n) = zeros_zero n
+
+-- the words of a part from place i on are all 0 if the one there is, and those after it
+module _ (part : List ℕ) (i : ℕ) where
+  pub zero_here : i < length part → (get_or part i 0 ≡ 0 → ⊥) → list_all (λ w. eqb w 0) (drop i part) ≡ false
+  zero_here h ne = rw (drop-cons part i 0 h, ne_eqb (get_or part i 0) 0 ne) refl
+
+  pub zero_on : i < length part → get_or part i 0 ≡ 0 → list_all (λ w. eqb w 0) (drop i part) ≡ list_all (λ w. eqb w 0) (drop (i + 1) part)
+  zero_on h e = rw (add-one i, drop-cons part i 0 h, eq-eqb (get_or part i 0) 0 e) refl
+
+  pub zero_end : length part ≤ i → list_all (λ w. eqb w 0) (drop i part) ≡ true
+  zero_end h = rw (drop_of_length-le part h) refl
 
 -- Both ways
 

@@ -12,7 +12,7 @@ ghost use Rattle.answers.specs.Refusals.{Meets, answer, answer_of};
 ghost use Rattle.answers.specs.declared.Operation.TheVariants.{Insert, Find, Finish, Take, Sweep};
 ghost use Rattle.book.specs.Book.{standing_key, standing_above};
 ghost use Rattle.row.specs.Row.{book_in, ascending, at_position, is_row, row_set_up_out, row_out};
-ghost use Rattle.row.specs.Places.{Shaped, word_of, place_at, Found, Missing, dead_in_front, position_after, right_key, right_keys, with_keys};
+ghost use Rattle.row.specs.Places.{Shaped, word_of, place_at, place_of, Found, Missing, dead_in_front, position_after, right_key, right_keys, with_keys};
 
 use answers::{Answer, Refusal};
 use settings::Settings;
@@ -122,18 +122,21 @@ fn put_at(row: &mut [u32], i: usize, key: u32, value: u32, mark: u32)
     row[at + 2] = mark;
 }
 
-// Whether a place's key is above `low` and at most K, and its mark is right: live above the position, or dead with the value 0.
-fn right_key(row: &[u32], place: Place, low: u32) -> bool
-    requires { 5 ≤ length row.now }
-    ensures { result ≡ right_key row.now low place }
+// Whether the key of place i is above `low` and at most K, and its mark is right: live above the position, or dead with the value 0. Each word is
+// read where it is needed, and the tests return (see `is_row`).
+fn right_key(row: &[u32], i: usize, low: u32) -> bool
+    requires { word_of i + 3 ≤ length row.now }
+    ensures { result ≡ right_key row.now low (place_at row.now i) }
 {
-    low < place.key
-        && place.key <= row[LARGEST]
-        && if place.mark == LIVE {
-            row[POSITION] < place.key
-        } else {
-            place.mark == DEAD && place.value == 0
-        }
+    let at = word_of(i);
+    let key = row[at];
+    if key <= low || row[LARGEST] < key {
+        return false;
+    }
+    if row[at + 2] == LIVE {
+        return row[POSITION] < key;
+    }
+    row[at + 2] == DEAD && row[at + 1] == 0
 }
 
 // Whether each key is right, above the one before.
@@ -143,11 +146,10 @@ fn right_keys(row: &[u32]) -> bool
 {
     let mut low = 0;
     for i in 0..row[KEYS] as usize {
-        let place = place_at(row, i);
-        if !right_key(row, place, low) {
+        if !right_key(row, i, low) {
             return false;
         }
-        low = place.key;
+        low = place_at(row, i).key;
     }
     true
 }
@@ -171,21 +173,43 @@ fn right_position(row: &[u32]) -> bool
     row[POSITION] == 0 || place_of(row, row[POSITION]).is_ok()
 }
 
+// Whether every word of a part is 0.
+fn all_zero(part: &[u32]) -> bool
+    ensures { result ≡ list_all (λ w. eqb w 0) part.now }
+{
+    for word in part {
+        if *word != 0 {
+            return false;
+        }
+    }
+    true
+}
+
 // Whether every word of an unused place is 0.
 fn unused_zero(row: &[u32]) -> bool
     requires { Shaped row.now }
     ensures { result ≡ list_all (λ w. eqb w 0) (drop (word_of (get_or row.now 3 0)) row.now) }
 {
     let unused = word_of(row[KEYS] as usize);
-    row.iter().skip(unused).all(|word| *word == 0)
+    all_zero(&row[unused..])
 }
 
-// Whether the words are a row.
+// Whether the words are a row. The tests here and below return, and their loops go over the words, since with `&&` and the library's methods the check
+// of a large row took up to 2.7 times the time, by where the linker put it.
 fn is_row(row: &[u32]) -> bool
     ensures is { result ≡ is_row row.now }
     ensures shaped { result ≡ true → Shaped row.now }
 {
-    has_shape(row) && right_keys(row) && right_position(row) && unused_zero(row)
+    if !has_shape(row) {
+        return false;
+    }
+    if !right_keys(row) {
+        return false;
+    }
+    if !right_position(row) {
+        return false;
+    }
+    unused_zero(row)
 }
 
 // Whether a number is a key of the row: from 1 to K.
@@ -196,19 +220,32 @@ fn is_key(row: &[u32], key: u32) -> bool
     0 < key && key <= row[LARGEST]
 }
 
-// The place where a key stands, from the front; or else the one where it would, behind the keys below it.
+// The place of the first key at or above a key, from the front; behind the last one, if all are below it.
+fn first_from(row: &[u32], key: u32) -> usize
+    requires { Shaped row.now }
+    ensures is { result ≡ place_of key (book_in row.now).row }
+    ensures fits { result ≤ get_or row.now 3 0 }
+{
+    let keys = row[KEYS] as usize;
+    for i in 0..keys {
+        if key <= place_at(row, i).key {
+            return i;
+        }
+    }
+    keys
+}
+
+// The place where a key stands; or else the one where it would, behind the keys below it.
 fn place_of(row: &[u32], key: u32) -> Result<usize, usize>
     requires { Shaped row.now }
     ensures { MatchResult result (λ i. Found row.now key i) (λ i. Missing row.now key i) }
 {
-    let keys = row[KEYS] as usize;
-    for i in 0..keys {
-        let standing = place_at(row, i).key;
-        if key <= standing {
-            return if standing == key { Ok(i) } else { Err(i) };
-        }
+    let i = first_from(row, key);
+    if i < row[KEYS] as usize && place_at(row, i).key == key {
+        Ok(i)
+    } else {
+        Err(i)
     }
-    Err(keys)
 }
 
 // The place of the first live key, from the front.
